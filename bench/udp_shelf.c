@@ -1,9 +1,11 @@
-// The plain shelf that bench/datagrams measures `aoe serve` beside: one Ethernet frame per UDP
-// datagram, which it takes by recvfrom, reads or writes the file in place, and answers by sendto. It
-// serves the target 1.0, and checks nothing but what it needs so as not to overrun. It ends when it
-// heard nothing for IDLE times 10 milliseconds.
+// The plain shelf that bench/datagrams and bench/wire measure `aoe serve` beside: one Ethernet frame per UDP
+// datagram, which it takes by recvfrom, reads or writes the file in place, and answers by sendto; behind
+// VXLAN's header of the network VNI, where that is given, which it takes as it came; or one per read and
+// write of a tap file. It serves the target 1.0, and checks nothing but what it needs so as not to overrun.
+// It ends when it heard nothing for IDLE times 10 milliseconds.
 #include <arpa/inet.h>
 #include <fcntl.h>
+#include <poll.h>
 #include <stdint.h>
 #include <stdio.h>
 #include <stdlib.h>
@@ -76,25 +78,42 @@ static size_t answer(int disk, uint8_t *frame, size_t length) {
     return reply;
 }
 
-static struct sockaddr_in loopback(const char *number) {
+static struct sockaddr_in address(const char *ip, const char *number) {
     struct sockaddr_in address = {.sin_family = AF_INET, .sin_port = htons(atoi(number))};
-    address.sin_addr.s_addr = htonl(INADDR_LOOPBACK);
+    inet_pton(AF_INET, ip, &address.sin_addr);
     return address;
 }
 
-int main(int argc, char **argv) {
-    if (argc != 5) return fprintf(stderr, "usage: udp_shelf DISK LOCAL_PORT PEER_PORT IDLE\n"), 1;
-    static uint8_t frame[MOST + SECTOR];
-    int disk = open(argv[1], O_RDWR), link = socket(AF_INET, SOCK_DGRAM, 0), idle = atoi(argv[4]);
-    struct sockaddr_in local = loopback(argv[2]), peer = loopback(argv[3]);
-    struct timeval silence = {0, 10000};
-    setsockopt(link, SOL_SOCKET, SO_RCVTIMEO, &silence, sizeof silence);
-    if (disk < 0 || bind(link, (struct sockaddr *)&local, sizeof local) != 0) return perror("udp_shelf"), 5;
+// Answers each frame behind its head of so many bytes, which is written once and stays.
+static void serve(int disk, int link, const struct sockaddr_in *peer, uint8_t *head, size_t size, int idle) {
+    uint8_t *frame = head + size;
+    struct pollfd file = {.fd = link, .events = POLLIN};
     for (int quiet = 0; quiet < idle;) {
-        ssize_t length = recvfrom(link, frame, MOST, 0, NULL, NULL);
+        ssize_t length = peer ? recvfrom(link, head, size + MOST, 0, NULL, NULL) : read(link, head, size + MOST);
+        if (length < 0 && !peer && poll(&file, 1, 10) > 0) continue;
         quiet = length < 0 ? quiet + 1 : 0;
-        size_t reply = length < 0 ? 0 : answer(disk, frame, length);
-        if (reply != 0) sendto(link, frame, reply, 0, (struct sockaddr *)&peer, sizeof peer);
+        size_t reply = length < (ssize_t)size ? 0 : answer(disk, frame, length - size);
+        if (reply != 0 && peer) sendto(link, head, size + reply, 0, (const struct sockaddr *)peer, sizeof *peer);
+        if (reply != 0 && !peer && write(link, head, size + reply) < 0) perror("udp_shelf");
     }
+}
+
+int main(int argc, char **argv) {
+    if (argc != 4 && argc != 5 && argc != 8)
+        return fprintf(stderr, "usage: udp_shelf DISK (TAP | LOCAL_PORT PEER_PORT) IDLE [VNI LOCAL_IP PEER_IP]\n"), 1;
+    static uint8_t room[10 + MOST + SECTOR];
+    int disk = open(argv[1], O_RDWR);
+    if (disk < 0) return perror("udp_shelf"), 5;
+    if (argc == 4) {
+        int tap = open(argv[2], O_RDWR | O_NONBLOCK);
+        if (tap < 0) return perror("udp_shelf"), 5;
+        return serve(disk, tap, NULL, room, 10, atoi(argv[3])), 0;
+    }
+    struct sockaddr_in local = address(argc == 8 ? argv[6] : "127.0.0.1", argv[2]), peer = address(argc == 8 ? argv[7] : "127.0.0.1", argv[3]);
+    struct timeval silence = {0, 10000};
+    int link = socket(AF_INET, SOCK_DGRAM, 0);
+    setsockopt(link, SOL_SOCKET, SO_RCVTIMEO, &silence, sizeof silence);
+    if (bind(link, (struct sockaddr *)&local, sizeof local) != 0) return perror("udp_shelf"), 5;
+    serve(disk, link, &peer, room, argc == 8 ? 8 : 0, atoi(argv[4]));
     return 0;
 }

@@ -8,14 +8,19 @@ _aoe() {
         return
     fi
     case $before in
+        --tap | --one-tap | --two-tap)
+            mapfile -t COMPREPLY < <(compgen -f -- "$word")
+            return
+            ;;
         --*) return ;;
     esac
     # The words of the synopsis that are no names of values: options and actions.
-    words=$("${COMP_WORDS[0]}" "$command" --help 2>/dev/null | head -n 1 | tr -d '[]' | tr ' |' '\n\n' | grep -x -e '--[a-z]*' -e '[a-z]*' -e '[a-z]*=MAC')
+    words=$("${COMP_WORDS[0]}" "$command" --help 2>/dev/null | head -n 1 | tr -d '[]()' | tr ' |' '\n\n' | grep -x -e '--[a-z-]*' -e '[a-z]*' -e '[a-z]*=MAC')
     words=$(printf '%s\n' "$words" | sed -e '/^aoe$/d' -e "/^$command\$/d" -e 's/=MAC/=/')
+    [ "$command" = switch ] && words="$words access: trunk:"
     if [ -z "$word" ] || [ "${word:0:1}" != - ]; then
         case $command in
-            answer | serve) mapfile -t COMPREPLY < <(compgen -f -- "$word") ;;
+            answer | serve | mirror) mapfile -t COMPREPLY < <(compgen -f -- "$word") ;;
         esac
     fi
     mapfile -t -O "${#COMPREPLY[@]}" COMPREPLY < <(compgen -W "$words --help" -- "$word")

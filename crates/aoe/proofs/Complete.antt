@@ -23,6 +23,7 @@ use Rattle.aoe_words.specs.declared.command.Answer.{Answer as Answers}
 use Rattle.aoe_words.specs.declared.command.Serve.{Serve as Serves}
 use Rattle.aoe_words.specs.declared.command.Command.TheVariants.{Answer, Serve}
 use Rattle.aoe_world.specs.Replay.{IsFaultless}
+use Rattle.aoe.specs.Commands.{limit}
 use Rattle.aoe.specs.Ending.{after_syncs, ended_by}
 use Rattle.aoe.specs.Run.{OnSlot, Ran}
 use Rattle.aoe.specs.declared.status.Status.{Status}
@@ -104,6 +105,8 @@ all-synced-same (status.Refused r) None e = refl
 all-synced-same (status.Stream offset) None e = refl
 all-synced-same (status.Limit excess) None e = refl
 all-synced-same (status.Script line cause) None e = refl
+all-synced-same (status.MirrorSides first second) None e = refl
+all-synced-same status.MirrorMark None e = refl
 
 pub no-fault : (before after : ℕ) → IsFaultless before after → Rose before after → ⊥
 no-fault before after fine rose = let more = rose fine.room in omega (arith, fine.same, more)
@@ -135,8 +138,8 @@ module _ {D S K L : Type 0} (state : D → DiskState) (t : Tells S K L) (s : Sta
 
   pub serves : (asked : Serves) → Ran state (Serve asked) t s a b disks disks' → s ≢ status.LinkFault 0 → s ≡ status.Ok
   serves asked r link =
-      let synced = all-synced state _ _ _ t (plan.Serve asked.frames asked.idle) r.exported a b disks disks' r.run fine in
-      serves-by r.exported.end asked.frames asked.idle r.run.first r.run.run.middle r.run.run.ran
+      let synced = all-synced state _ _ _ t (plan.Serve (limit asked.frames) (limit asked.idle)) r.exported a b disks disks' r.run fine in
+      serves-by r.exported.end (limit asked.frames) (limit asked.idle) r.run.first r.run.run.middle r.run.run.ran
       (r.ends ∙ all-synced-same (ended_by r.exported.end) r.exported.unsynced synced) link
 
 -- a link that didn't fail isn't told as one that did

@@ -3,3 +3,5 @@ mod Complete
 mod Exits
 mod OnSlots
 mod Refusals
+mod Switched
+mod Mirrors

@@ -20,11 +20,14 @@ use Rattle.aoe_serve.specs.declared.over_stream.AnswerEnd.TheVariants as answer
 use Rattle.aoe_serve.specs.declared.over_link.ServeEnd.TheVariants as serve
 use Rattle.aoe_world.specs.declared.end.ReplayEnd.{ReplayEnd}
 use Rattle.aoe_world.specs.declared.end.ReplayEnd.TheVariants as replay
+use Rattle.aoe_vlan.specs.declared.over_stream.SwitchEnd.{SwitchEnd}
+use Rattle.aoe_vlan.specs.declared.over_stream.SwitchEnd.TheVariants as switch
 use Rattle.aoe_words.specs.Words.{file_count}
 use Rattle.aoe_words.specs.declared.command.Command.{Command}
 use Rattle.aoe_words.specs.declared.command.Command.TheVariants as command
 use Rattle.aoe_world.specs.Replay.{IsFaultless}
-use Rattle.aoe.specs.Ending.{after_syncs, ended_by, file_at, keep_at, refused_as, refused_slot, replayed_as, slot_of_keep}
+use Rattle.aoe.specs.Commands.{exports, is_mirror}
+use Rattle.aoe.specs.Ending.{after_syncs, ended_by, file_at, keep_at, refused_as, refused_slot, replayed_as, slot_of_keep, switched_as}
 use Rattle.aoe.specs.Run.{HasLists, IsBad, IsSmall, NothingLoose, OnSlot, Ran, RanFiles, Refused, refused_before}
 use Rattle.aoe.specs.Live.{is_live_status}
 use Rattle.aoe.specs.Tools.{is_copy_status, is_tool_status}
@@ -329,6 +332,8 @@ memory-wanting (status.Refused r) e = absurd cc
 memory-wanting (status.Stream offset) e = absurd cc
 memory-wanting (status.Limit excess) e = absurd cc
 memory-wanting (status.Script line cause) e = absurd cc
+memory-wanting (status.MirrorSides first second) e = absurd cc
+memory-wanting status.MirrorMark e = absurd cc
 
 -- A run of a command.
 
@@ -341,29 +346,42 @@ no-disk replay.NoMemory disk e = cc
 no-disk (replay.Script line why) disk e = cc
 no-disk (replay.Limit excess) disk e = cc
 
+-- nor is a run of a switch
+no-disk-switched : (end : SwitchEnd) (disk : ℕ) → switched_as end ≢ status.DiskFault disk
+no-disk-switched switch.Ended disk e = cc
+no-disk-switched switch.SourceFault disk e = cc
+no-disk-switched switch.SinkFault disk e = cc
+no-disk-switched (switch.Stream offset) disk e = cc
+no-disk-switched switch.Limit disk e = cc
+
 -- over files, or without any
 data Runs {D S K L : Type 0} (state : D → DiskState) (t : Tells S K L) (s : Status) (a b : Outside S K L) (disks disks' : List (Option D)) : Type 0 where
   over_files : (rack : Rack) (p : Plan) → RanFiles state rack p t s a b disks disks' → Runs state t s a b disks disks'
   over_none : length disks ≡ 0 → ((disk : ℕ) → s ≢ status.DiskFault disk) → Runs state t s a b disks disks'
 
 runs-of : {D S K L : Type 0} (state : D → DiskState) (command : Command) (t : Tells S K L) (s : Status) (a b : Outside S K L) (disks disks' : List (Option D))
-    → length disks ≡ file_count command
+    → is_mirror (Some command) ≡ false → length disks ≡ file_count command
     → Ran state command t s a b disks disks' → Runs state t s a b disks disks'
-runs-of state (command.Answer answer) t s a b disks disks' count run = over_files _ _ run
-runs-of state (command.Serve serve) t s a b disks disks' count run = over_files _ _ run
-runs-of state command.Replay t s a b disks disks' count run = over_none count (λ disk e. no-disk run.0.end disk (sym run.0.ends ∙ e))
-runs-of state (command.Soak asked) t s a b disks disks' count run = over_none count (λ disk e. no-disk run.0.end disk (sym run.0.ends ∙ e))
-runs-of state (command.Ask tool) t s a b disks disks' count run = over_none count (λ disk e. let f = sym (ap is_tool_status e) ∙ run.0 in absurd cc)
-runs-of state (command.Get asked) t s a b disks disks' count run = over_none count (λ disk e. let f = sym (ap is_copy_status e) ∙ run.0 in absurd cc)
-runs-of state (command.Put asked) t s a b disks disks' count run = over_none count (λ disk e. let f = sym (ap is_copy_status e) ∙ run.0 in absurd cc)
-runs-of state (command.Live asked) t s a b disks disks' count run = over_none count (λ disk e. let f = sym (ap is_live_status e) ∙ run.0 in absurd cc)
+runs-of state (command.Answer answer) t s a b disks disks' other count run = over_files _ _ run
+runs-of state (command.Serve serve) t s a b disks disks' other count run = over_files _ _ run
+runs-of state (command.Mirror asked) t s a b disks disks' other count run = absurd cc
+runs-of state command.Replay t s a b disks disks' other count run = over_none count (λ disk e. no-disk run.0.end disk (sym run.0.ends ∙ e))
+runs-of state (command.Soak asked) t s a b disks disks' other count run = over_none count (λ disk e. no-disk run.0.end disk (sym run.0.ends ∙ e))
+runs-of state (command.Ask tool) t s a b disks disks' other count run = over_none count (λ disk e. let f = sym (ap is_tool_status e) ∙ run.0 in absurd cc)
+runs-of state (command.Get asked) t s a b disks disks' other count run = over_none count (λ disk e. let f = sym (ap is_copy_status e) ∙ run.0 in absurd cc)
+runs-of state (command.Put asked) t s a b disks disks' other count run = over_none count (λ disk e. let f = sym (ap is_copy_status e) ∙ run.0 in absurd cc)
+runs-of state (command.Live asked) t s a b disks disks' other count run = over_none count (λ disk e. let f = sym (ap is_live_status e) ∙ run.0 in absurd cc)
+runs-of state (command.Switch asked) t s a b disks disks' other count run = over_none count (λ disk e. no-disk-switched run.0.end disk (sym run.0.ends ∙ e))
 
 module _ {D S K L : Type 0} (state : D → DiskState) (command : Command) (t : Tells S K L) (s : Status) (a b : Outside S K L) (disks disks' : List (Option D))
     (run : refused_slot s ≡ None → s ≢ status.NoMemory → Ran state command t s a b disks disks')
-    (refused : (slot : ℕ) → refused_slot s ≡ Some slot → Refused state s slot disks disks')
-    (count : length disks ≡ file_count command) where
+    (refused_if : is_mirror (Some command) ≡ false → (slot : ℕ) → refused_slot s ≡ Some slot → Refused state s slot disks disks')
+    (count : length disks ≡ file_count command) (other : is_mirror (Some command) ≡ false) where
+  refused : (slot : ℕ) → refused_slot s ≡ Some slot → Refused state s slot disks disks'
+  refused = refused_if other
+
   runs : refused_slot s ≡ None → s ≢ status.NoMemory → Runs state t s a b disks disks'
-  runs unrefused some_memory = runs-of state command t s a b disks disks' count (run unrefused some_memory)
+  runs unrefused some_memory = runs-of state command t s a b disks disks' other count (run unrefused some_memory)
 
   -- the keep of a slot in a run
   keep-is : (slot : ℕ) → OnSlot (λ _ _ keep keep'. KeepIs state s slot keep keep') slot disks disks'
@@ -455,6 +473,23 @@ module _ {D S K L : Type 0} (state : D → DiskState) (command : Command) (t : T
           (synced-at r.exported.end r.exported.unsynced (sym e ∙ r.ends))
 
 -- Which command it was.
+
+-- a command that exports pairs of files is no mirror
+pub pairs-only : (command : Command) → exports (Some command) ≡ true → is_mirror (Some command) ≡ false
+pairs-only (command.Answer asked) e = refl
+pairs-only (command.Serve asked) e = refl
+pairs-only (command.Mirror asked) e = absurd cc
+pairs-only command.Replay e = absurd cc
+pairs-only (command.Soak asked) e = absurd cc
+pairs-only (command.Ask tool) e = absurd cc
+pairs-only (command.Get asked) e = absurd cc
+pairs-only (command.Put asked) e = absurd cc
+pairs-only (command.Live asked) e = absurd cc
+pairs-only (command.Switch asked) e = absurd cc
+
+-- what is so of the command that the arguments spell is so of the one that was read
+pub of-command : (P : Option Command → Type 0) (o o' : Option Command) (command : Command) → o ≡ Some command → o ≡ o' → P o' → P (Some command)
+of-command P o o' command is same p = subst P (sym same ∙ is) p
 
 pub ran-of : {D S K L : Type 0} (state : D → DiskState) (t : Tells S K L) (s : Status) (a b : Outside S K L) (disks disks' : List (Option D))
     (o o' : Option Command) (command : Command) → o ≡ Some command → o ≡ o'

@@ -1,28 +1,43 @@
 -- What each command exports, and how its frames come.
-use Rattle.std.specs.Prelude.{ℕ, ◌||◌, Bool, true, false, [], ◌∷◌, Option, Some}
+use Rattle.std.specs.Prelude.{ℕ, ◌||◌, Bool, true, false, [], ◌∷◌, Option, None, Some}
 use Rattle.aoe_target.specs.declared.station.Station.{Station}
 use Rattle.aoe_serve.specs.Files.{named}
 use Rattle.aoe_serve.specs.declared.over_files.Rack.{Rack}
 use Rattle.aoe_serve.specs.declared.plan.Plan.{Plan}
 use Rattle.aoe_serve.specs.declared.plan.Plan.TheVariants as plan
 use Rattle.aoe_words.specs.declared.command.Command.{Command}
-use Rattle.aoe_words.specs.declared.command.Command.TheVariants.{Answer, Ask, Get, Live, Put, Replay, Serve}
+use Rattle.aoe_words.specs.declared.command.Command.TheVariants.{Answer, Ask, Get, Live, Mirror, Put, Replay, Serve}
 use Rattle.aoe_words.specs.declared.command.Answer.{Answer as Answers}
+use Rattle.aoe_words.specs.declared.command.Mirror.{Mirror as Mirrors}
 use Rattle.aoe_words.specs.declared.command.Serve.{Serve as Serves}
 
 -- What the slot of `answer` has, and what is done with it: its frames come and go as streams.
 abbrev pub answer_plan : Answers → Rack × Plan
 answer_plan answer = (record { first = answer.id; ports = record { items = answer.port ∷ [] }; mtu = answer.mtu; cache = answer.cache }, plan.Answer)
 
+-- the number of frames or turns that ends a run; where none does, more than ever come: at a million each second, those of 584,000 years
+abbrev pub limit : Option ℕ → ℕ
+limit None = 18446744073709551615
+limit (Some n) = n
+
 -- What the slots of `serve` have in common, which are numbered from 0 on, and what is done with them: their frames come and go by a link.
 abbrev pub serve_plan : Serves → Rack × Plan
-serve_plan serve = (record { first = record { major = serve.shelf; minor = 0 }; ports = serve.ports; mtu = serve.mtu; cache = serve.cache }, plan.Serve serve.frames serve.idle)
+serve_plan serve = (record { first = record { major = serve.shelf; minor = 0 }; ports = serve.ports; mtu = serve.mtu; cache = serve.cache }, plan.Serve (limit serve.frames) (limit serve.idle))
+
+-- What the slot of `mirror` has: its frames come and go as streams, and its store holds nothing back.
+abbrev pub mirror_rack : Mirrors → Rack
+mirror_rack mirror = record { first = mirror.id; ports = record { items = mirror.port ∷ [] }; mtu = mirror.mtu; cache = 0 }
 
 -- it exports files as slots, a pair of disks each: a file and its keep
 abbrev pub exports : Option Command → Bool
 exports (Some (Answer asked)) = true
 exports (Some (Serve asked)) = true
 exports command = false
+
+-- it exports two sides as one slot
+abbrev pub is_mirror : Option Command → Bool
+is_mirror (Some (Mirror asked)) = true
+is_mirror command = false
 
 -- it asks by the first link
 abbrev pub is_tool : Option Command → Bool

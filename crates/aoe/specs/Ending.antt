@@ -1,13 +1,19 @@
 -- The exit status and the text of each way that a run ends.
-use Rattle.std.specs.Prelude.{ℕ, ◌+◌, ◌*◌, ◌/◌, ◌%◌, List, [], ◌++◌, ◌==◌, Option, Some, None, if◌then◌else◌, codes}
+use Rattle.std.specs.Prelude.{ℕ, ◌+◌, ◌*◌, ◌/◌, ◌%◌, List, [], ◌++◌, ◌==◌, Option, Some, None, Result, Ok, Err, if◌then◌else◌, codes}
 use Rattle.std.specs.Fmt.{decimal}
 use Rattle.aoe_keep.specs.declared.refusal.MountRefusal.{MountRefusal}
 use Rattle.aoe_keep.specs.declared.refusal.MountRefusal.TheVariants as refusal
+use Rattle.aoe_mirror.specs.declared.refusal.MirrorRefusal.TheVariants as mirror
+use Rattle.aoe_serve.specs.declared.over_mirror.MirrorEnd.{MirrorEnd}
+use Rattle.aoe_serve.specs.declared.over_mirror.MirrorStop.{MirrorStop}
+use Rattle.aoe_serve.specs.declared.over_mirror.MirrorStop.TheVariants as stop
 use Rattle.aoe_serve.specs.declared.over_stream.AnswerEnd.TheVariants as answer
 use Rattle.aoe_serve.specs.declared.over_link.ServeEnd.TheVariants as serve
 use Rattle.aoe_serve.specs.declared.plan.Exported.{Exported}
 use Rattle.aoe_serve.specs.declared.plan.RunEnd.{RunEnd}
 use Rattle.aoe_serve.specs.declared.plan.RunEnd.TheVariants.{Answered, Served}
+use Rattle.aoe_vlan.specs.declared.over_stream.SwitchEnd.{SwitchEnd}
+use Rattle.aoe_vlan.specs.declared.over_stream.SwitchEnd.TheVariants as switch
 use Rattle.aoe_world.specs.declared.end.ReplayEnd.{ReplayEnd}
 use Rattle.aoe_world.specs.declared.end.ReplayEnd.TheVariants as replay
 use Rattle.aoe_world.specs.declared.end.ReplayLimit.{ReplayLimit}
@@ -36,6 +42,8 @@ code_of (status.Unanswered turns) = 9
 code_of (status.Refused r) = 10
 code_of (status.Stream offset) = 11
 code_of (status.Limit excess) = 12
+code_of (status.MirrorSides first second) = 15
+code_of status.MirrorMark = 15
 
 -- what is wrong with a line of a script, in a word
 abbrev pub word_of : Why → List ℕ
@@ -70,6 +78,9 @@ text_of (status.Unanswered turns) = tool_text (tool.Unanswered turns)
 text_of (status.Refused r) = tool_text (tool.Refused r)
 text_of (status.Stream offset) = codes "aoe: bad stream at byte " ++ decimal offset
 text_of (status.Limit excess) = limit_text excess
+text_of (status.MirrorSides first second) =
+    codes "aoe: mirror sides have " ++ (decimal first ++ (codes " and " ++ (decimal second ++ codes " sectors")))
+text_of status.MirrorMark = codes "aoe: mirror mark has no sector"
 
 -- the numbers of a slot's disks, in the order of the files' names
 abbrev pub file_at : ℕ → ℕ
@@ -94,6 +105,14 @@ ended_by (Answered answer.Limit) = status.Limit what.Frames
 ended_by (Served serve.Ended) = status.Ok
 ended_by (Served serve.LinkFault) = status.LinkFault 0
 
+-- the status of a run of a switch that ended so
+abbrev pub switched_as : SwitchEnd → Status
+switched_as switch.Ended = status.Ok
+switched_as switch.SourceFault = status.SourceFault
+switched_as switch.SinkFault = status.SinkFault
+switched_as (switch.Stream offset) = status.Stream offset
+switched_as switch.Limit = status.Limit what.Frames
+
 -- the status of a replay that ended so
 abbrev pub excess_of : ReplayLimit → What
 excess_of limit.ScriptBytes = what.ScriptBytes
@@ -117,6 +136,30 @@ after_syncs s unsynced = s
 -- the status of a run that ended so
 abbrev pub status_of : Exported → Status
 status_of e = after_syncs (ended_by e.end) e.unsynced
+
+-- The status of a run over a mirror, whose disks are its sides 0 and 1, 2 that says which side leads, and 3 the keep. Where nothing was
+-- run:
+abbrev pub kept_out : MountRefusal → Status
+kept_out refusal.Failed = status.DiskFault 3
+kept_out (refusal.TooSmall sectors) = status.KeepSmall 3 sectors
+kept_out (refusal.BadKeep k) = status.KeepBad 3 k
+
+abbrev pub stopped_by : MirrorStop → Status
+stopped_by stop.NoMemory = status.NoMemory
+stopped_by (stop.Keep r) = kept_out r
+stopped_by (stop.Mirror (mirror.Unequal first second)) = status.MirrorSides first second
+stopped_by (stop.Mirror mirror.NoMark) = status.MirrorMark
+stopped_by (stop.Mirror mirror.Failed) = status.DiskFault 2
+stopped_by (stop.Mirror mirror.NoMemory) = status.NoMemory
+
+-- where it was run, a disk that failed in the last sync is told where nothing else is
+abbrev pub after_sync : Status → Option ℕ → Status
+after_sync status.Ok (Some disk) = status.DiskFault disk
+after_sync s unsynced = s
+
+abbrev pub mirrored_as : Result MirrorEnd MirrorStop → Status
+mirrored_as (Ok e) = after_sync (ended_by e.end) e.unsynced
+mirrored_as (Err why) = stopped_by why
 
 -- the slot of a disk that is a keep
 abbrev pub slot_of_keep : ℕ → Option ℕ

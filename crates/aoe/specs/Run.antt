@@ -24,6 +24,8 @@ use Rattle.aoe_tools.specs.Runs.{Told}
 use Rattle.aoe.specs.Commands.{answer_plan, serve_plan, target_of}
 use Rattle.aoe.specs.Ending.{file_at, keep_at, refused_as, refused_slot, replayed_as, status_of}
 use Rattle.aoe.specs.Live.{is_live_status}
+use Rattle.aoe.specs.Mirror.{is_mirror_status}
+use Rattle.aoe.specs.Switching.{Switches}
 use Rattle.aoe.specs.Tools.{CopiesIn, CopiesOut, RunsTool, is_copy_status, is_tool_status}
 use Rattle.aoe.specs.declared.status.Status.{Status}
 use Rattle.aoe.specs.declared.status.Status.TheVariants as status
@@ -49,17 +51,20 @@ pub record RanSoak {K : Type 0} (held : K → Option (List ℕ)) (asked : Soak) 
   pub leaves : LeavesSink end sink sink'
   pub ends : s ≡ replayed_as end
 
--- a run of a command: over files, of the script that the source gives, of the script of `soak`, or of a tool
+-- a run of a command: over files, of the script that the source gives, of the script of `soak`, of a tool, or of a switch
 abbrev pub Ran : {D S K L : Type 0} → (D → DiskState) → Command → Tells S K L → Status → Outside S K L → Outside S K L → List (Option D) → List (Option D)
     → Type 0
 Ran state (command.Answer answer) t s a b disks disks' = RanFiles state (answer_plan answer).0 (answer_plan answer).1 t s a b disks disks'
 Ran state (command.Serve serve) t s a b disks disks' = RanFiles state (serve_plan serve).0 (serve_plan serve).1 t s a b disks disks'
+Ran state (command.Mirror asked) t s a b disks disks' = (is_mirror_status s ≡ true) × (b.links ≡ a.links)
 Ran state command.Replay t s a b disks disks' = RanScript t.left t.held s a.source b.source a.sink b.sink × (b.links ≡ a.links) × (disks' ≡ disks)
 Ran state (command.Soak asked) t s a b disks disks' = RanSoak t.held asked s a.sink b.sink × (b.source ≡ a.source) × (b.links ≡ a.links) × (disks' ≡ disks)
 Ran state (command.Ask tool) t s a b disks disks' = (is_tool_status s ≡ true) × (b.source ≡ a.source) × (disks' ≡ disks)
 Ran state (command.Get asked) t s a b disks disks' = (is_copy_status s ≡ true) × (b.source ≡ a.source) × (disks' ≡ disks)
 Ran state (command.Put asked) t s a b disks disks' = (is_copy_status s ≡ true) × (b.sink ≡ a.sink) × (disks' ≡ disks)
 Ran state (command.Live asked) t s a b disks disks' = (is_live_status s ≡ true) × (b.source ≡ a.source) × (disks' ≡ disks)
+Ran state (command.Switch asked) t s a b disks disks' =
+    Switches asked.ports.items s (t.left a.source) (t.left b.source) (t.held a.sink) (t.held b.sink) × (b.links ≡ a.links) × (disks' ≡ disks)
 
 -- a tool ran over the first link and a clock, and a sink took what it says
 abbrev pub Asked : {K L : Type 0} → (K → Option (List ℕ)) → (L → L → Told) → Tool → Status → K → K → List L → List L → Type 0

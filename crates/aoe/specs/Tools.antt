@@ -1,10 +1,10 @@
 -- What the tools ask and say, and how they end.
-use Rattle.std.specs.Prelude.{ℕ, ◌≡◌, ◌≤◌, Bool, true, false, List, Option, Result, Ok, Err, option_map}
+use Rattle.std.specs.Prelude.{ℕ, ◌≡◌, ◌≤◌, Bool, true, false, List, [], Option, Result, Ok, Err, option_map}
 use Rattle.arrayvec.specs.ArrayVec.{ArrayVec}
 use Rattle.aoe_base.specs.declared.failure.NoMemory.{NoMemory}
 use Rattle.aoe_io.specs.Bytes.{Took, TookSome}
 use Rattle.aoe_lists.specs.declared.dir.Dir.{Dir}
-use Rattle.aoe_tools.specs.Runs.{RunsConfig, RunsDiscovery, RunsGet, RunsMasks, RunsPut, RunsReserves, RunsStat, Told}
+use Rattle.aoe_tools.specs.Runs.{RunsConfig, RunsDiscovery, RunsFlush, RunsGet, RunsMasks, RunsPut, RunsReserves, RunsStat, Told}
 use Rattle.aoe_tools.specs.Text.{config_text, found_text, masks_text, reserves_text, stat_text}
 use Rattle.aoe_tools.specs.declared.end.CopyRefusal.{CopyRefusal}
 use Rattle.aoe_tools.specs.declared.end.CopyRefusal.TheVariants as copy
@@ -14,6 +14,7 @@ use Rattle.aoe_tools.specs.declared.found.Seen.{Seen}
 use Rattle.aoe_tools.specs.declared.question.Ask.{Ask}
 use Rattle.aoe_words.specs.declared.command.Asking.{Asking}
 use Rattle.aoe_words.specs.declared.command.Cfg.{Cfg}
+use Rattle.aoe_words.specs.declared.command.Flush.{Flush}
 use Rattle.aoe_words.specs.declared.command.Get.{Get}
 use Rattle.aoe_words.specs.declared.command.Mask.{Mask}
 use Rattle.aoe_words.specs.declared.command.Put.{Put}
@@ -67,6 +68,10 @@ abbrev pub SaysReserves : Reserve → Result (List ℕ) ToolRefusal → Told →
 SaysReserves asked said t = (given : Result (ArrayVec ℕ) ToolRefusal)
     × RunsReserves given asked.rcmd asked.list.items asked.id (ask_of asked.asking) t × IsSaid (λ args. reserves_text args.items) given said
 
+-- `flush` ran, and says nothing
+abbrev pub SaysFlush : Flush → Result (List ℕ) ToolRefusal → Told → Type 0
+SaysFlush asked said t = (flushed : Result Unit ToolRefusal) × RunsFlush flushed asked.id (ask_of asked.asking) t × IsSaid (λ done. []) flushed said
+
 -- a tool ran, and says this
 abbrev pub Says : Tool → Result (List ℕ) ToolRefusal → Told → Type 0
 Says (tool.Discover asking) said t = SaysFound asking said t
@@ -74,6 +79,7 @@ Says (tool.Stat asking) said t = SaysStat asking said t
 Says (tool.Cfg asked) said t = SaysConfig asked said t
 Says (tool.Mask asked) said t = SaysMasks asked said t
 Says (tool.Reserve asked) said t = SaysReserves asked said t
+Says (tool.Flush asked) said t = SaysFlush asked said t
 
 -- what a tool has to be given
 abbrev pub CanAsk : Tool → Type 0
@@ -82,6 +88,7 @@ CanAsk (tool.Stat asking) = Unit {0}
 CanAsk (tool.Cfg asked) = asked.ccmd ≤ 4
 CanAsk (tool.Mask asked) = Unit {0}
 CanAsk (tool.Reserve asked) = asked.rcmd ≤ 2
+CanAsk (tool.Flush asked) = Unit {0}
 
 -- the status of a tool that ended without its answer
 abbrev pub tool_status : ToolRefusal → Status

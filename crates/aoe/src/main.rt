@@ -1,29 +1,37 @@
 //! The program: its commands, from their arguments to their status.
 //!
-//! In order: [`files_of`] and [`ports_of`] of `aoe_words` say what to open; files are opened and locked,
-//! and then sockets; [`aoe`] runs the command over them, the standard streams and a clock; the text of its
-//! [`Status`] goes to standard error.
+//! In order: [`files_of`], [`ports_of`] and [`stop_of`] of `aoe_words` say what to open and what to look
+//! for; files are opened and locked, and then sockets and tap files; [`aoe`] runs the command over them,
+//! the standard streams and a clock; the text of its [`Status`] goes to standard error.
 //!
-//! `aoe` (`top`, with `plan`, `tools` and `live`) opens nothing and says no status; its contract is what
+//! `aoe` (`top`, with `plan`, `mirror`, `tools`, `live` and `switch`) opens nothing and says no status; its contract is what
 //! the program promises. What a file, a socket, a stream and a clock do is in adapters (`files`,
-//! `aoe_udp`, `streams`, `clock`), which tell the proofs nothing of content. The program catches no signal
+//! `wire`, `until`, `streams`, `clock`), which tell the proofs nothing of content. The program catches no signal
 //! and starts no thread.
 #![tactic(auto)]
 
-ghost use Rattle.std.specs.Prelude.{◌≡◌, All, IfOk, IsSome, length, map, string_bytes};
+ghost use Rattle.std.specs.Prelude.{◌≡◌, ◌==◌, All, IfOk, IsSome, length, map, string_bytes};
+ghost use Rattle.std.specs.List.{slice_split};
 ghost use Rattle.aoe_words.specs.Words.{file_names, port_words};
 
 mod clock;
 mod files;
 mod live;
+mod mirror;
 mod plan;
 mod status;
 mod streams;
+mod switch;
 mod tools;
 mod top;
+mod until;
+mod wire;
 
-use aoe_udp::{OpenRefusal, UdpLink};
-use aoe_words::{PortWords, files_of, ports_of};
+use aoe_base::{Blob, NoMemory};
+use aoe_tap::{OpenRefusal as TapRefusal, TapMedium};
+use aoe_udp::{OpenRefusal, UdpMedium};
+use aoe_wire::WireLink;
+use aoe_words::{Command, PortWords, files_of, ports_of, read_words, stop_of};
 use clock::SystemClock;
 use files::{FileDisk, FileRefusal, KeepDoubt};
 use status::Status;
@@ -33,6 +41,8 @@ use std::process::ExitCode;
 use std::{env, io};
 use streams::{Input, Output};
 use top::aoe;
+use until::Until;
+use wire::Wire;
 
 /// How much of standard input is read at a time, in bytes.
 const READ_AHEAD: usize = 65536;
@@ -115,12 +125,26 @@ fn open_all(rt: &HostRuntime, names: &[String]) -> Result<Vec<Option<FileDisk>>,
     Ok(disks)
 }
 
-/// Looks at each second file, which is to be a keep; the exit status where one holds other data, which
-/// is said.
-fn look_at_keeps(rt: &HostRuntime, names: &[String], disks: &[Option<FileDisk>]) -> Result<(), u8> {
+/// Whether the file with this number is to be a keep: the last of a mirror's four, and of any other
+/// command each second one.
+fn is_keep(is_mirror: bool, number: usize) -> bool {
+    if is_mirror {
+        number == 3
+    } else {
+        number % 2 == 1
+    }
+}
+
+/// Looks at each file that is to be a keep; the exit status where one holds other data, which is said.
+fn look_at_keeps(
+    rt: &HostRuntime,
+    is_mirror: bool,
+    names: &[String],
+    disks: &[Option<FileDisk>],
+) -> Result<(), u8> {
     'files: for (number, (name, disk)) in names.iter().zip(disks.iter()).enumerate() {
         if let Some(disk) = disk
-            && number % 2 == 1
+            && is_keep(is_mirror, number)
             && let Some(doubt) = disk.keep_doubt()
         {
             let disk = u32::try_from(number).unwrap_or(u32::MAX);
@@ -130,23 +154,87 @@ fn look_at_keeps(rt: &HostRuntime, names: &[String], disks: &[Option<FileDisk>])
     Ok(())
 }
 
-/// Opens the links with these ends; the exit status where one can't be opened, which is said.
-fn open_links(rt: &HostRuntime, ends: &[PortWords]) -> Result<Vec<UdpLink>, u8>
+/// Opens a link over UDP; the exit status where it can't be opened, which is said.
+fn open_udp(
+    rt: &HostRuntime,
+    local: &Blob,
+    peers: &Blob,
+    vxlan: Option<u32>,
+) -> Result<WireLink<Wire>, u8>
+    ensures { IfOk result (λ link. link.peers ≡ length (slice_split (λ c. c == 44) peers.now)) }
+{
+    match UdpMedium::open(rt, rt.alloc(), local.bytes(), peers.bytes(), vxlan) {
+        Ok(udp) => {
+            let count = udp.peers();
+            Ok(WireLink::new(Wire::Udp(udp), count))
+        }
+        Err(OpenRefusal::NoMemory) => Err(tell(rt, Status::NoMemory)),
+        Err(OpenRefusal::Vxlan) => Err(tell(rt, Status::Usage)),
+        Err(OpenRefusal::Local) => Err(tell_unopened(rt, local.bytes(), 6)),
+        Err(OpenRefusal::Peers) => Err(tell_unopened(rt, peers.bytes(), 6)),
+    }
+}
+
+/// Opens a link over a tap file, whose one peer is the wire; the exit status where it can't be opened,
+/// which is said.
+fn open_tap(rt: &HostRuntime, file: &Blob) -> Result<WireLink<Wire>, u8>
+    ensures { IfOk result (λ link. link.peers ≡ 1) }
+{
+    let Ok(name) = str::from_utf8(file.bytes()) else {
+        return Err(tell_unopened(rt, file.bytes(), 6));
+    };
+    match TapMedium::open(rt, rt.alloc(), name) {
+        Ok(tap) => Ok(WireLink::new(Wire::Tap(tap), 1)),
+        Err(TapRefusal::NoMemory) => Err(tell(rt, Status::NoMemory)),
+        Err(TapRefusal::Unopened) => Err(tell_unopened(rt, file.bytes(), 6)),
+        Err(TapRefusal::InUse) => Err(tell_name(rt, b"in use: ", file.bytes(), 6)),
+    }
+}
+
+/// Opens the link that these arguments name; the exit status where it can't be opened, which is said.
+fn open_link(rt: &HostRuntime, words: &PortWords) -> Result<WireLink<Wire>, u8> {
+    match words {
+        PortWords::Udp {
+            local,
+            peers,
+            vxlan,
+        } => open_udp(rt, local, peers, *vxlan),
+        PortWords::Tap { file } => open_tap(rt, file),
+    }
+}
+
+/// Opens the links that these arguments name, the first of which ends once a file of this name is there;
+/// the exit status where one can't be opened, which is said.
+fn open_links(
+    rt: &HostRuntime,
+    ends: &[PortWords],
+    mut stop: Option<String>,
+) -> Result<Vec<Until<WireLink<Wire>>>, u8>
     ensures { IfOk result (λ links. length links.items ≡ length ends.now) }
 {
     let mut links = Vec::new(rt.alloc());
-    'ends: for PortWords { local, peers } in ends {
-        let link = match UdpLink::open(rt, rt.alloc(), local.bytes(), peers.bytes()) {
-            Ok(link) => link,
-            Err(OpenRefusal::NoMemory) => return Err(tell(rt, Status::NoMemory)),
-            Err(OpenRefusal::Local) => return Err(tell_unopened(rt, local.bytes(), 6)),
-            Err(OpenRefusal::Peers) => return Err(tell_unopened(rt, peers.bytes(), 6)),
-        };
+    'ends: for words in ends {
+        let link = Until::new(rt, open_link(rt, words)?, stop.take());
         if links.push(link).is_err() {
             return Err(tell(rt, Status::NoMemory));
         }
     }
     Ok(links)
+}
+
+/// Says how many frames of AoE were dropped because something of them is left to the receiver, where
+/// there were any.
+fn tell_offloaded(rt: &HostRuntime, links: &[Until<WireLink<Wire>>]) {
+    for link in links {
+        let count = link.link().medium().offloaded();
+        if count > 0
+            && let Ok(text) = format!(in rt.alloc();
+                "aoe: dropped {count} frames with work left to the receiver\n"
+            )
+        {
+            say(rt, text.as_bytes());
+        }
+    }
 }
 
 /// Says a status on standard error where there is something to say, and gives its exit status.
@@ -165,7 +253,7 @@ fn run_over(
     rt: &HostRuntime,
     words: &[String],
     disks: &mut [Option<FileDisk>],
-    links: &mut [UdpLink],
+    links: &mut [Until<WireLink<Wire>>],
 ) -> Status
     requires count { length disks.old ≡ length (file_names (map string_bytes words.now)) }
     requires there { All IsSome disks.old }
@@ -188,9 +276,15 @@ fn run_over(
     )
 }
 
-/// Opens the files with these names and the links with these ends, runs the command that the arguments
-/// spell over them, and gives the exit status.
-fn run_named(rt: &HostRuntime, words: &[String], names: &[String], ends: &[PortWords]) -> u8
+/// Opens the files with these names and the links that these arguments name, runs the command that the
+/// arguments spell over them, and gives the exit status.
+fn run_named(
+    rt: &HostRuntime,
+    words: &[String],
+    names: &[String],
+    ends: &[PortWords],
+    stop: Option<String>,
+) -> u8
     requires count { length names.now ≡ length (file_names (map string_bytes words.now)) }
     requires links { length ends.now ≡ length (port_words (map string_bytes words.now)) }
 {
@@ -198,14 +292,19 @@ fn run_named(rt: &HostRuntime, words: &[String], names: &[String], ends: &[PortW
         Ok(disks) => disks,
         Err(code) => return code,
     };
-    if let Err(code) = look_at_keeps(rt, names, disks.as_slice()) {
+    let is_mirror = match read_words(rt.alloc(), words) {
+        Ok(command) => matches!(command, Some(Command::Mirror(_))),
+        Err(NoMemory) => return tell(rt, Status::NoMemory),
+    };
+    if let Err(code) = look_at_keeps(rt, is_mirror, names, disks.as_slice()) {
         return code;
     }
-    let mut links = match open_links(rt, ends) {
+    let mut links = match open_links(rt, ends, stop) {
         Ok(links) => links,
         Err(code) => return code,
     };
     let status = run_over(rt, words, disks.as_mut_slice(), links.as_mut_slice());
+    tell_offloaded(rt, links.as_slice());
     tell(rt, status)
 }
 
@@ -218,10 +317,13 @@ fn run_words(rt: &HostRuntime, words: &[String]) -> u8 {
     let Ok(ends) = ports_of(rt.alloc(), words) else {
         return tell(rt, Status::NoMemory);
     };
+    let Ok(stop) = stop_of(rt.alloc(), words) else {
+        return tell(rt, Status::NoMemory);
+    };
     let Ok(_streams) = hold_streams(rt) else {
         return tell_unopened(rt, ROOT.as_bytes(), 5);
     };
-    run_named(rt, words, names.as_slice(), ends.as_slice())
+    run_named(rt, words, names.as_slice(), ends.as_slice(), stop)
 }
 
 /// Runs the command that the program's arguments spell, and gives the exit status. Arguments that aren't

@@ -1,16 +1,23 @@
 //! What each command exports, and the status of a run that ended.
 ghost use Rattle.std.specs.Prelude.{◌≡◌, ◌≤◌, ◌*◌, [], ◌∷◌, IfSome};
-ghost use Rattle.aoe_words.specs.Words.{CanAnswer, CanServe};
+ghost use Rattle.aoe_words.specs.Words.{CanAnswer, CanMirror, CanServe};
 ghost use Rattle.aoe_serve.specs.Exporting.{CanExport};
-ghost use Rattle.aoe.specs.Commands.{answer_plan, serve_plan};
-ghost use Rattle.aoe.specs.Ending.{after_syncs, ended_by, excess_of, refused_as, replayed_as, status_of};
+ghost use Rattle.aoe.specs.Commands.{answer_plan, limit, mirror_rack, serve_plan};
+ghost use Rattle.aoe.specs.Ending.{after_syncs, ended_by, excess_of, kept_out, mirrored_as, refused_as, replayed_as, status_of, stopped_by};
 
 use crate::status::{Status, What};
 use aoe_base::{Mac, Ports, TargetId};
 use aoe_keep::MountRefusal;
-use aoe_serve::{AnswerEnd, Exported, Plan, Rack, RunEnd, ServeEnd};
-use aoe_words::{Answer, Serve};
+use aoe_mirror::MirrorRefusal;
+use aoe_serve::{AnswerEnd, Exported, MirrorEnd, MirrorStop, Plan, Rack, RunEnd, ServeEnd};
+use aoe_words::{Answer, Mirror, Serve};
 use aoe_world::{ReplayEnd, ReplayLimit};
+
+/// The number of the disk that says which side of a mirror leads, behind the two sides.
+const MARK: u32 = 2;
+
+/// The number of a mirror's keep.
+const KEEP: u32 = 3;
 
 /// A list of one port.
 fn one_port(port: Mac) -> Ports
@@ -36,6 +43,13 @@ pub(crate) fn answer_plan(answer: Answer) -> (Rack, Plan)
     (rack, Plan::Answer)
 }
 
+/// The number of frames or turns that ends a run; where none does, more than ever come.
+fn limit(number: Option<u32>) -> u64
+    ensures { result ≡ limit number }
+{
+    number.map_or(u64::MAX, u64::from)
+}
+
 /// The slots of `serve`, and what is done with them.
 pub(crate) fn serve_plan(serve: Serve) -> (Rack, Plan)
     requires { CanServe serve }
@@ -52,10 +66,24 @@ pub(crate) fn serve_plan(serve: Serve) -> (Rack, Plan)
         cache: serve.cache,
     };
     let plan = Plan::Serve {
-        frames: serve.frames,
-        idle: serve.idle,
+        frames: limit(serve.frames),
+        idle: limit(serve.idle),
     };
     (rack, plan)
+}
+
+/// The slot of `mirror`.
+pub(crate) fn mirror_rack(mirror: Mirror) -> Rack
+    requires { CanMirror mirror }
+    ensures rack { result ≡ mirror_rack mirror }
+    ensures possible { CanExport result Plan.Answer 2 0 }
+{
+    Rack {
+        first: mirror.id,
+        ports: one_port(mirror.port),
+        mtu: mirror.mtu,
+        cache: 0,
+    }
 }
 
 /// The status of a run whose slot's keep was refused.
@@ -68,6 +96,50 @@ pub(crate) fn refused_as(slot: u32, refusal: MountRefusal) -> Status
         MountRefusal::Failed => Status::DiskFault { disk },
         MountRefusal::TooSmall { sectors } => Status::KeepSmall { disk, sectors },
         MountRefusal::BadKeep { slot } => Status::KeepBad { disk, slot },
+    }
+}
+
+/// The status of a run over a mirror whose keep was refused.
+fn kept_out(refusal: MountRefusal) -> Status
+    ensures { result ≡ kept_out refusal }
+{
+    match refusal {
+        MountRefusal::Failed => Status::DiskFault { disk: KEEP },
+        MountRefusal::TooSmall { sectors } => Status::KeepSmall {
+            disk: KEEP,
+            sectors,
+        },
+        MountRefusal::BadKeep { slot } => Status::KeepBad { disk: KEEP, slot },
+    }
+}
+
+/// The status where a mirror wasn't run.
+fn stopped_by(why: MirrorStop) -> Status
+    ensures { result ≡ stopped_by why }
+{
+    match why {
+        MirrorStop::NoMemory | MirrorStop::Mirror(MirrorRefusal::NoMemory) => Status::NoMemory,
+        MirrorStop::Keep(refusal) => kept_out(refusal),
+        MirrorStop::Mirror(MirrorRefusal::Unequal { first, second }) => {
+            Status::MirrorSides { first, second }
+        }
+        MirrorStop::Mirror(MirrorRefusal::NoMark) => Status::MirrorMark,
+        MirrorStop::Mirror(MirrorRefusal::Failed) => Status::DiskFault { disk: MARK },
+    }
+}
+
+/// The status of a run over a mirror.
+pub(crate) fn mirrored_as(answer: Result<MirrorEnd, MirrorStop>) -> Status
+    ensures { result ≡ mirrored_as answer }
+{
+    match answer {
+        Ok(MirrorEnd { end, unsynced }) => match (ended_by(end), unsynced) {
+            (Status::Ok, Some(disk)) => Status::DiskFault {
+                disk: u32::from(disk),
+            },
+            (status, _) => status,
+        },
+        Err(why) => stopped_by(why),
     }
 }
 

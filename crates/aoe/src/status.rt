@@ -36,10 +36,15 @@ pub enum Status {
     Unanswered { turns: u32 },
     /// The device refused what a tool asked for.
     Refused(Refusal),
-    /// The frame of the input at this byte offset is truncated, or its length isn't 14 to 9018.
+    /// The frame of the input at this byte offset is truncated, or its length isn't 14 to 9018; of a
+    /// switch, 14 to 9022, or its port isn't there.
     Stream { offset: u64 },
     /// A limit of the program was reached.
     Limit(What),
+    /// The two sides of a mirror have different numbers of sectors.
+    MirrorSides { first: u64, second: u64 },
+    /// The disk that says which side of a mirror leads has no sector.
+    MirrorMark,
 }
 
 /// Which limit was exceeded.
@@ -76,6 +81,7 @@ impl Status {
             Status::Refused(_) => 10,
             Status::Stream { .. } => 11,
             Status::Limit(_) => 12,
+            Status::MirrorSides { .. } | Status::MirrorMark => 15,
         }
     }
 
@@ -98,6 +104,8 @@ impl Status {
             Status::Refused(refusal) => ToolRefusal::Refused(refusal).text(alloc),
             Status::Stream { offset } => stream_text(alloc, offset),
             Status::Limit(what) => limit_text(alloc, what),
+            Status::MirrorSides { first, second } => sides_text(alloc, first, second),
+            Status::MirrorMark => Blob::of(alloc, b"aoe: mirror mark has no sector"),
         }
     }
 }
@@ -176,5 +184,13 @@ fn bad_text(alloc: Global, disk: u32, slot: u8) -> Result<Blob, NoMemory>
     ensures { IfOk result (λ text. text ≡ text_of (Status.KeepBad disk slot)) }
 {
     let text = format!(in alloc; "aoe: keep {disk}: slot {slot} holds no lists")?;
+    Ok(Blob::from_vec(text.into_bytes()))
+}
+
+/// The text for a mirror of sides with different numbers of sectors.
+fn sides_text(alloc: Global, first: u64, second: u64) -> Result<Blob, NoMemory>
+    ensures { IfOk result (λ text. text ≡ text_of (Status.MirrorSides first second)) }
+{
+    let text = format!(in alloc; "aoe: mirror sides have {first} and {second} sectors")?;
     Ok(Blob::from_vec(text.into_bytes()))
 }

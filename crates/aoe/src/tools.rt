@@ -4,17 +4,17 @@ ghost use Rattle.aoe_tools.specs.One.{edits_by};
 ghost use Rattle.aoe_tools.specs.Runs.{told};
 ghost use Rattle.aoe_words.specs.Tools.{CanGet};
 ghost use Rattle.aoe_base.specs.Faults.{Blamed};
-ghost use Rattle.aoe.specs.Tools.{CanAsk, CopiesIn, CopiesOut, RunsTool, Says, SaysConfig, SaysFound, SaysMasks, SaysReserves, SaysStat, ask_of, copy_status, dirs_of, is_copy_status, is_tool_status, said, tool_status};
+ghost use Rattle.aoe.specs.Tools.{CanAsk, CopiesIn, CopiesOut, RunsTool, Says, SaysConfig, SaysFlush, SaysFound, SaysMasks, SaysReserves, SaysStat, ask_of, copy_status, dirs_of, is_copy_status, is_tool_status, said, tool_status};
 
 use crate::status::{Status, What};
 use aoe_base::{Blob, Failed, NoMemory};
 use aoe_io::{Clock, Link, Sink, Source, give_all};
 use aoe_lists::Dir;
 use aoe_tools::{
-    Ask, CopyRefusal, ToolRefusal, cfg, discover, get, mask, print_config, print_found,
+    Ask, CopyRefusal, ToolRefusal, cfg, discover, flush, get, mask, print_config, print_found,
     print_masks, print_reserves, print_stat, put, reserve, stat,
 };
-use aoe_words::{Asking, Cfg, Get, Mask, Put, Reserve, Tool};
+use aoe_words::{Asking, Cfg, Flush, Get, Mask, Put, Reserve, Tool};
 use std::alloc::Global;
 
 /// Who asks, and how long it listens.
@@ -144,6 +144,22 @@ fn say_reserves<L: Link, C: Clock>(
     said(print_reserves(alloc, &given))
 }
 
+/// What `flush` says, which is nothing.
+fn say_flush<L: Link, C: Clock>(
+    alloc: Global,
+    asked: &Flush,
+    link: &mut L,
+    clock: &mut C,
+) -> Result<Blob, ToolRefusal>
+    ensures run { SaysFlush asked.now result
+        (told C.least C.answers L.turns L.given L.taken clock.old clock.new link.old link.new) }
+    ensures link { Blamed (result ≡ Err ToolRefusal.LinkFault) (L.faults link.old)
+        (L.faults link.new) }
+{
+    flush(alloc, &ask_of(asked.asking), asked.id, link, clock)?;
+    Ok(Blob::from_vec(Vec::new(alloc)))
+}
+
 /// What a tool says.
 fn say<L: Link, C: Clock>(
     alloc: Global,
@@ -163,6 +179,7 @@ fn say<L: Link, C: Clock>(
         Tool::Cfg(asked) => say_config(alloc, asked, link, clock),
         Tool::Mask(asked) => say_masks(alloc, asked, link, clock),
         Tool::Reserve(asked) => say_reserves(alloc, asked, link, clock),
+        Tool::Flush(asked) => say_flush(alloc, asked, link, clock),
     }
 }
 

@@ -13,18 +13,22 @@ ghost use Rattle.aoe_words.specs.declared.command.Answer.{Answer as Answers};
 ghost use Rattle.aoe_words.specs.declared.command.Serve.{Serve as Serves};
 ghost use Rattle.aoe_words.specs.declared.command.Get.{Get as Gets};
 ghost use Rattle.aoe_words.specs.declared.command.Live.{Live as Lives};
+ghost use Rattle.aoe_words.specs.declared.command.Mirror.{Mirror as Mirrors};
 ghost use Rattle.aoe_words.specs.declared.command.Put.{Put as Puts};
 ghost use Rattle.aoe_words.specs.declared.command.Soak.{Soak as Soaks};
 ghost use Rattle.aoe_words.specs.declared.command.Tool.{Tool};
 ghost use Rattle.aoe_base.specs.Faults.{Blamed, Rose};
-ghost use Rattle.aoe.specs.Commands.{exports, is_live, reads_input, uses_clock};
+ghost use Rattle.aoe.specs.Commands.{exports, is_live, is_mirror, reads_input, uses_clock};
 ghost use Rattle.aoe.specs.Live.{AreBlamed, AtBoth, RunsLive, ends};
 ghost use Rattle.aoe.specs.Ending.{file_at, keep_at, refused_slot};
+ghost use Rattle.aoe.specs.Mirror.{RunsMirror};
 ghost use Rattle.aoe.specs.Run.{Asked, HasLists, HasReplayed, IsBad, IsGot, IsPut, IsSmall, NothingLoose, OnSlot, Ran, RanFiles, RanScript, RanSoak, Refused};
 
 use crate::live::run_live;
+use crate::mirror::run_mirror;
 use crate::plan::{answer_plan, refused_as, replayed_as, serve_plan, status_of};
 use crate::status::Status;
+use crate::switch::run_switch;
 use crate::tools::{run_get, run_put, run_tool};
 use aoe_base::NoMemory;
 use aoe_disk::Disk;
@@ -124,13 +128,17 @@ fn run_command<S: Source, K: Sink, D: Disk + Drop, L: Link, C: Clock>(
         record { left = S.left; held = K.held; turns = L.turns; given = L.given; taken = L.taken } result
         record { source = source.old; sink = sink.old; links = links.old } record { source = source.new; sink = sink.new; links = links.new }
         disks.old disks.new }
-    ensures refused { (slot : ℕ) → refused_slot result ≡ Some slot
+    ensures refused { is_mirror (Some command) ≡ false → (slot : ℕ) → refused_slot result ≡ Some slot
         → Refused D.state result slot disks.old disks.new }
-    ensures unread { IsSome (refused_slot result)
+    ensures unread { is_mirror (Some command) ≡ false → IsSome (refused_slot result)
         → (source.new ≡ source.old) × (sink.new ≡ sink.old) × (links.new ≡ links.old) }
+    ensures mirrors { (asked : Mirrors) → command ≡ Command.Mirror asked → RunsMirror D.state asked
+        record { left = S.left; held = K.held; turns = L.turns; given = L.given; taken = L.taken } result
+        record { source = source.old; sink = sink.old; links = links.old } record { source = source.new; sink = sink.new; links = links.new }
+        disks.old disks.new }
     ensures memory { result ≡ Status.NoMemory → (reads_input (Some command) ≡ false
-        → source.new ≡ source.old) × (sink.new ≡ sink.old) × (disks.new ≡ disks.old)
-        × (uses_clock (Some command) ≡ false → links.new ≡ links.old) }
+        → source.new ≡ source.old) × (sink.new ≡ sink.old)
+        × (is_mirror (Some command) ≡ false → disks.new ≡ disks.old) × (uses_clock (Some command) ≡ false → links.new ≡ links.old) }
     ensures asks { (tool : Tool) → command ≡ Command.Ask tool → Asked K.held (λ a b. told C.least C.answers L.turns L.given L.taken clock.old clock.new a b) tool result sink.old sink.new links.old links.new }
     ensures gets { (asked : Gets) → command ≡ Command.Get asked → IsGot K.held (λ a b. told C.least C.answers L.turns L.given L.taken clock.old clock.new a b) asked result sink.old sink.new links.old links.new }
     ensures puts { (asked : Puts) → command ≡ Command.Put asked → IsPut S.left (λ a b. told C.least C.answers L.turns L.given L.taken clock.old clock.new a b) asked result source.old source.new links.old links.new }
@@ -163,12 +171,14 @@ fn run_command<S: Source, K: Sink, D: Disk + Drop, L: Link, C: Clock>(
             let (rack, plan) = serve_plan(serve);
             run_files(alloc, rack, plan, source, sink, disks, links)
         }
+        Command::Mirror(asked) => run_mirror(alloc, asked, source, sink, disks, links),
         Command::Replay => run_script(alloc, source, sink),
         Command::Soak(asked) => run_soak(alloc, asked, sink),
         Command::Live(asked) => {
             let (one, two) = links.split_at_mut(1);
             run_live(alloc, &asked, sink, &mut one[0], &mut two[0], clock)
         }
+        Command::Switch(asked) => run_switch(alloc, asked.ports.as_slice(), source, sink),
         Command::Ask(tool) => run_tool(alloc, &tool, sink, &mut links[0], clock),
         Command::Get(asked) => run_get(alloc, &asked, sink, &mut links[0], clock),
         Command::Put(asked) => run_put(alloc, &asked, source, &mut links[0], clock),
@@ -185,6 +195,10 @@ fn run_command<S: Source, K: Sink, D: Disk + Drop, L: Link, C: Clock>(
 /// much as `--mtu` says. Each target holds back as many sectors that were written as `--cache` says,
 /// until it has no room or its store is synced.
 ///
+/// `mirror SHELF SLOT FILE FILE MARK KEEP` answers as `answer` does over two sides, the first two
+/// disks, either of which may fail. The third says which of them leads, and the fourth is the keep. The
+/// sides are made equal before the first frame is read, and at the end of a run that went well.
+///
 /// The tools ask over the first link and the clock: `discover` and `stat` which targets there are, with
 /// their sizes and states, `cfg`, `mask` and `reserve` one target for a list or a change of it; what they
 /// are told goes to the sink as text. `get` copies sectors of a target to the sink, and `put` what the
@@ -200,7 +214,13 @@ fn run_command<S: Source, K: Sink, D: Disk + Drop, L: Link, C: Clock>(
 /// it, nothing is. `soak SEED N` does so with a script that it makes, and puts the last line of the text
 /// on the sink.
 ///
-/// The second disk of each pair is the keep of the target's lists. All keeps are mounted first, and
+/// `switch PORT PORT ..` reads frames from the source's stream, each behind the number of the port at
+/// which it comes in, and writes on the sink's what the ports give of it, before it reads the next. A
+/// port is of one VLAN or, as a trunk, of several; a frame goes to the port of its destination where
+/// that was a source in its VLAN, to the VLAN's other ports where it wasn't, and never to a port of
+/// another VLAN.
+///
+/// Of `answer` and `serve` the second disk of each pair is the keep of the target's lists. All keeps are mounted first, and
 /// where one is refused nothing is read, written or sent. At the end each store is synced, however
 /// the run ended. There are as many disks as `files_of` names, and as many links as `ports_of`.
 ///
@@ -225,9 +245,10 @@ pub fn aoe<S: Source, K: Sink, D: Disk + Drop, L: Link, C: Clock>(
         × (disks.new ≡ disks.old) × (links.new ≡ links.old) }
 
     // A keep is refused, or the run is one of the shelf law, or the history of a script is lawful and read as was written.
-    ensures refused { (slot : ℕ) → refused_slot result ≡ Some slot
-        → Refused D.state result slot disks.old disks.new }
-    ensures unread { IsSome (refused_slot result)
+    ensures refused { is_mirror (command (map string_bytes words.now)) ≡ false → (slot : ℕ)
+        → refused_slot result ≡ Some slot → Refused D.state result slot disks.old disks.new }
+    ensures unread { is_mirror (command (map string_bytes words.now)) ≡ false
+        → IsSome (refused_slot result)
         → (source.new ≡ source.old) × (sink.new ≡ sink.old) × (links.new ≡ links.old) }
     ensures run { IfSome (command (map string_bytes words.now)) (λ asked. refused_slot result ≡ None → result ≢ Status.NoMemory → Ran D.state asked
         record { left = S.left; held = K.held; turns = L.turns; given = L.given; taken = L.taken } result
@@ -237,6 +258,13 @@ pub fn aoe<S: Source, K: Sink, D: Disk + Drop, L: Link, C: Clock>(
         → result ≡ Status.Ok → OnSlot (λ _ file' _ _. IfSome
         (D.state file').contents NothingLoose) slot disks.old disks.new }
     ensures there { All IsSome disks.new }
+
+    // A mirror of two sides is the store of one slot, or there was no memory to read its command.
+    ensures mirrors { (asked : Mirrors) → command (map string_bytes words.now) ≡ Some (Command.Mirror asked)
+        → (result ≡ Status.NoMemory) × (disks.new ≡ disks.old) ⊎ RunsMirror D.state asked
+        record { left = S.left; held = K.held; turns = L.turns; given = L.given; taken = L.taken } result
+        record { source = source.old; sink = sink.old; links = links.old } record { source = source.new; sink = sink.new; links = links.new }
+        disks.old disks.new }
 
     // When a fault is told: an object whose fault isn't told had none, and one whose fault is told had one, since the first trouble ends
     // the run. Of a command that exports files as slots, the faults of files and keeps, and when a keep is refused.
@@ -257,7 +285,7 @@ pub fn aoe<S: Source, K: Sink, D: Disk + Drop, L: Link, C: Clock>(
     ensures keep_bad { exports (command (map string_bytes words.now)) ≡ true → (slot bad : ℕ) → OnSlot (λ _ _ keep _. IfSome (D.state keep).contents (λ c.
         (result ≡ Status.KeepBad (keep_at slot) bad) ↔ IsBad (D.state keep) c result slot bad)) slot disks.old disks.new }
     ensures memory { result ≡ Status.NoMemory → (reads_input (command (map string_bytes words.now)) ≡ false → source.new ≡ source.old)
-        × (sink.new ≡ sink.old) × (disks.new ≡ disks.old) × (uses_clock (command (map string_bytes words.now)) ≡ false → links.new ≡ links.old) }
+        × (sink.new ≡ sink.old) × (is_mirror (command (map string_bytes words.now)) ≡ false → disks.new ≡ disks.old) × (uses_clock (command (map string_bytes words.now)) ≡ false → links.new ≡ links.old) }
 
     // What a tool asks, when it ends and what it says; or there was no memory to read its command.
     ensures asks { (tool : Tool) → command (map string_bytes words.now) ≡ Some (Command.Ask tool) → (result ≡ Status.NoMemory) × (links.new ≡ links.old)

@@ -19,3 +19,10 @@ pub struct DeviceNo(pub u32);
 /// A frame of a network: the number of its sending there, from 1.
 #[derive(Clone, Copy, Debug, PartialEq, Eq, PartialOrd, Ord, Hash)]
 pub struct FrameNo(pub u32);
+
+/// How long a frame can arrive after it was sent, by its kind.
+#[derive(Clone, Copy, Debug, PartialEq, Eq)]
+pub struct Lifetimes {
+    pub requests: Millis,
+    pub responses: Millis,
+}

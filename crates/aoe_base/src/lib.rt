@@ -25,7 +25,7 @@ pub use address::{
     BROADCAST, LAST_MAJOR, LAST_MINOR, Mac, Ports, TargetId, all_unique, read_device, read_mac,
 };
 pub use bytes::{Blob, append, copy_of};
-pub use counted::{DeviceNo, FrameNo, Millis, PathNo, Ticket};
+pub use counted::{DeviceNo, FrameNo, Lifetimes, Millis, PathNo, Ticket};
 pub use decimal::read_number;
 pub use failure::{Failed, NoMemory};
 pub use names::{broadcast_law, device_law, mac_reads_back, mac_spelling_is_one};

@@ -10,7 +10,7 @@ ghost use Rattle.aoe_base.specs.Addresses.{IsDistinct};
 use aoe_base::{Blob, DeviceNo, Mac, Millis, NoMemory, Ports, Span, TargetId};
 use aoe_disk::MemDisk;
 use aoe_frame::Frame;
-use aoe_initiator::{Initiator, Op, Outcome};
+use aoe_initiator::{DEAD, Initiator, LIFETIMES, Op, Outcome, ROOM};
 use aoe_keep::Keep;
 use aoe_shelf::Shelf;
 use aoe_store::Direct;
@@ -24,12 +24,6 @@ const HOST: Mac = Mac([2, 0, 0, 0, 0, 0x0a]);
 const SHELF: Mac = Mac([2, 0, 0, 0, 0, 1]);
 
 const DEVICE: TargetId = TargetId { major: 1, minor: 0 };
-
-/// How long a frame can arrive after it was sent.
-const LIFE: Millis = Millis(2000);
-
-/// After how long a command without an answer is given up.
-const DEAD: Millis = Millis(180_000);
 
 fn one(port: Mac) -> Ports
     ensures one { length result.items ≡ 1 }
@@ -90,7 +84,7 @@ fn use_device(
     let bytes = Blob::of(alloc, &[0x5a; 512]).ok()?;
     ask(host, device, Op::Write { at: 3, bytes }, shelf)?;
     // A flush is held back until no frame of the write can arrive any more.
-    host.advance(Millis(2001));
+    host.advance(Millis(LIFETIMES.requests.0 + 1));
     ask(host, device, Op::Flush, shelf)?;
     match ask(host, device, Op::Read(Span { at: 3, count: 1 }), shelf)? {
         Outcome::Read(data) => data.bytes().first().copied(),
@@ -101,7 +95,7 @@ fn use_device(
 /// Makes both ends, and uses the one by the other.
 fn first_byte(alloc: Global) -> Option<u8> {
     let mut shelf = shelf_of_one(alloc).ok()?;
-    let mut host = Initiator::new(alloc, &one(HOST), LIFE, 4096, DEAD).ok()?;
+    let mut host = Initiator::new(alloc, &one(HOST), LIFETIMES, ROOM, DEAD).ok()?;
     let device = host.attach(DEVICE, &one(SHELF), 16, 2).ok()?;
     use_device(alloc, &mut host, device, &mut shelf)
 }

@@ -1,6 +1,7 @@
 -- What a host keeps of the commands that it sent.
 use Rattle.std.specs.Prelude.{ℕ, ◌≡◌, ◌≤◌, Bool, List, [], length, map}
 use Rattle.std.specs.List.{count_by}
+use Rattle.aoe_base.specs.declared.counted.Lifetimes.{Lifetimes}
 use Rattle.aoe_flight.specs.declared.outstanding.Outstanding.{Outstanding}
 use Rattle.aoe_flight.specs.Outstanding.{change_of, live, rest_time, tag_count}
 
@@ -14,7 +15,7 @@ pub record FlightTable : Type 0 where
   pub last_tag : ℕ
   pub commands : List Outstanding
 
-abbrev pub no_commands : ℕ → ℕ → ℕ → FlightTable
+abbrev pub no_commands : ℕ → Lifetimes → ℕ → FlightTable
 no_commands room life dead = record {
   room = room;
   rest = rest_time life;

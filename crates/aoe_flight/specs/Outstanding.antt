@@ -1,15 +1,16 @@
 -- Commands that were sent, and the tags of their frames.
-use Rattle.std.specs.Prelude.{ℕ, ◌≡◌, ◌+◌, ◌-◌, ◌*◌, ◌<◌, ◌&&◌, ◌||◌, Bool, true, false, not, List, [], ◌∷◌, Option, Some, None, min, nat_lt, nat_le, nat_eq, if◌then◌else◌, All, Contains}
+use Rattle.std.specs.Prelude.{ℕ, ◌≡◌, ◌+◌, ◌-◌, ◌<◌, ◌&&◌, ◌||◌, Bool, true, false, not, List, [], ◌∷◌, Option, Some, None, min, nat_lt, nat_le, nat_eq, if◌then◌else◌, All, Contains}
 use Rattle.std.specs.List.{count_by, filter, list_any}
+use Rattle.aoe_base.specs.declared.counted.Lifetimes.{Lifetimes}
 use Rattle.aoe_base.specs.declared.counted.Millis.{Millis}
 use Rattle.aoe_base.specs.declared.counted.PathNo.{PathNo}
 use Rattle.aoe_base.specs.declared.counted.Ticket.{Ticket}
 use Rattle.aoe_flight.specs.declared.outstanding.Outstanding.{Outstanding}
 
--- how long a command rests after its last send: as long as a frame of it can arrive, and as long again
--- for a response to that frame
-abbrev pub rest_time : ℕ → ℕ
-rest_time life = 2 * life
+-- how long a command rests after its last send: as long as a frame of it can arrive, and then as long as a
+-- response to that frame can
+abbrev pub rest_time : Lifetimes → ℕ
+rest_time life = life.requests.0 + life.responses.0
 
 -- it has its outcome, and rested out
 abbrev pub is_over : ℕ → ℕ → Outstanding → Bool

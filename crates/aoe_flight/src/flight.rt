@@ -10,7 +10,7 @@ use crate::counted::{find_tag, find_ticket, is_any_over};
 use crate::outstanding::Flying;
 use crate::search::{first_due, first_expired};
 use crate::table::Table;
-use aoe_base::{Millis, NoMemory, PathNo, Steps, Ticket};
+use aoe_base::{Lifetimes, Millis, NoMemory, PathNo, Steps, Ticket};
 use std::alloc::Global;
 use std::marker::Model;
 use std::sync::ledger::Ledger;
@@ -63,20 +63,22 @@ impl Model for Flight {
 }
 
 impl Flight {
-    /// No command was sent. A frame can arrive as long as `life` after it was sent, so a finished
-    /// command rests for twice as long. A command is given up after `dead`. The limit of the room
-    /// is this program's own, since all of it is made here.
-    pub fn new(alloc: Global, room: u32, life: Millis, dead: Millis) -> Result<Flight, NoMemory>
+    /// No command was sent. A frame can arrive as long as `life` has it for its kind, so a finished
+    /// command rests for the sum of both: its last request may come as late as can be, and then the
+    /// response to it. A command is given up after `dead`. The limit of the room is this program's
+    /// own, since all of it is made here.
+    pub fn new(alloc: Global, room: u32, life: Lifetimes, dead: Millis) -> Result<Flight, NoMemory>
         requires some_room { 0 < room }
         requires room { room ≤ 16384 }
-        requires life { life.0 ≤ 600000 }
+        requires requests { life.requests.0 ≤ 600000 }
+        requires responses { life.responses.0 ≤ 600000 }
         requires dead { 0 < dead.0 }
-        ensures value { IfOk result (λ flight. flight ≡ no_commands room life.0 dead.0) }
+        ensures value { IfOk result (λ flight. flight ≡ no_commands room life dead.0) }
         ensures recalls { IfOk result (λ flight. Recalls flight []) }
     {
         Ok(Flight {
             room,
-            rest: Millis(2 * life.0),
+            rest: Millis(life.requests.0 + life.responses.0),
             dead,
             latest: Millis(0),
             last_tag: 0,

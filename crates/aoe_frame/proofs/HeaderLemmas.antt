@@ -1,15 +1,15 @@
 -- What is written as a header is read as it, and what is read as a header was written so.
 use Rattle.std.proofs.Common.{◌≡◌, ℕ, suc, ◌+◌, ◌*◌, ◌/◌, ◌%◌, ◌^◌, ◌<◌, ◌≤◌, inl, inr, List, [], ◌∷◌, ◌++◌, append-nil, length, get_or, drop, take, Some, None, true, false, Bool, refl, sym, ap, subst, ◌∙◌, arith, bit_and}
-use Rattle.std.specs.Prelude.{nat_le, All, if◌then◌else◌, ◌&&◌, ◌==◌}
+use Rattle.std.specs.Prelude.{nat_le, not, All, if◌then◌else◌, ◌&&◌, ◌==◌}
 use Rattle.std.specs.Int.Bits.{and_zero_r}
 use Rattle.std.proofs.lemmas.Bool.{le-leb, cases_lt}
 use Rattle.std.specs.Int.{w16, w32, to_be_bytes, from_be_bytes}
 use Rattle.std.proofs.Math.Seq.{drop-cons, take-add}
-use Rattle.std.proofs.lemmas.Nat.{and_block, div-mul-add, from_be_bytes-to_be_bytes_2, from_be_bytes-to_be_bytes_4, be_bytes_2, be_bytes_4}
+use Rattle.std.proofs.lemmas.Nat.{and_assoc, and_block, div-mul-add, from_be_bytes-to_be_bytes_2, from_be_bytes-to_be_bytes_4, be_bytes_2, be_bytes_4}
 use Rattle.aoe_frame.specs.declared.header.Header.{Header}
 use Rattle.aoe_base.proofs.MacLemmas.{six-is}
 use Rattle.aoe_frame.proofs.PieceLemmas.{two-at, four-at, each-small, part-small}
-use Rattle.aoe_frame.specs.Header.{Fits, IsFlags, fields, head, header_bytes}
+use Rattle.aoe_frame.specs.Header.{Fits, IsFlags, fields, head, header_bytes, is_response}
 
 -- a flag comes back from the byte that it shares with the version
 flags-back : (v f : ℕ) → IsFlags f → bit_and (v * 16 + f) 12 ≡ f
@@ -92,6 +92,18 @@ read h f is =
     let some : Some (fields f) ≡ Some h = subst Q tests is in
     let the_fields : fields f ≡ h = cc in
     record { long = grind arith; first = grind arith; second = grind arith; same = the_fields }
+
+-- the flag that tells the kind of a frame is one of those that are read
+flag-read : (b : ℕ) → bit_and (bit_and b 12) 8 ≡ bit_and b 8
+flag-read b = and_assoc 8 b 12
+
+-- the kind of a frame that has a header
+pub kind-read : (f : List ℕ) (h : Header) → head f ≡ Some h → is_response f ≡ not (bit_and h.flags 8 == 0)
+kind-read f h is =
+    let r = read h f is in
+    let long : nat_le 15 (length f) ≡ true = (let l = r.long in le-leb 15 (length f) (omega arith)) in
+    let flag = flag-read (get_or f 14 0) in
+    rw (← r.same, long, flag) refl
 
 four-multiples : (f : ℕ) → f < 16 → f % 4 ≡ 0 → IsFlags f
 four-multiples f low clear =

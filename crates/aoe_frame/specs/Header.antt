@@ -1,5 +1,5 @@
 -- The header of a frame (AoEr11, "Common AoE header"), and the padding behind it.
-use Rattle.std.specs.Prelude.{ℕ, ◌+◌, ◌*◌, ◌/◌, ◌-◌, ◌<◌, ◌≡◌, ◌⊎◌, List, [], ◌∷◌, ◌++◌, ◌&&◌, ◌==◌, length, replicate, nat_le, Option, Some, None, if◌then◌else◌, is_some, unwrap_or, take, slice_index, slice_range, bit_and}
+use Rattle.std.specs.Prelude.{ℕ, ◌+◌, ◌*◌, ◌/◌, ◌-◌, ◌<◌, ◌≡◌, ◌⊎◌, List, [], ◌∷◌, ◌++◌, ◌&&◌, ◌==◌, Bool, not, length, replicate, nat_le, Option, Some, None, if◌then◌else◌, is_some, unwrap_or, take, slice_index, slice_range, bit_and}
 use Rattle.std.specs.Int.{w16, w32, to_be_bytes, from_be_bytes}
 use Rattle.aoe_base.specs.declared.address.Mac.{Mac}
 use Rattle.aoe_base.specs.declared.address.TargetId.{TargetId}
@@ -22,6 +22,10 @@ fields f = record {
 -- what the header of a frame says, or nothing where the frame has fewer than 24 bytes or another type than 0x88A2
 abbrev pub head : List ℕ → Option Header
 head f = if nat_le 24 (length f) && (slice_index f 12 == 136) && (slice_index f 13 == 162) then Some (fields f) else None
+
+-- the kind of a frame, whatever its bytes: it is a response where it has the byte of the flags and the flag there is set, and a request else
+abbrev pub is_response : List ℕ → Bool
+is_response f = nat_le 15 (length f) && not (bit_and (slice_index f 14) 8 == 0)
 
 -- the bytes of a header
 abbrev pub header_bytes : Header → List ℕ

@@ -2,7 +2,7 @@
 ghost use Rattle.aoe_frame.specs.declared.header.Header.{Header};
 ghost use Rattle.std.specs.Int.{w16, w32, to_be_bytes};
 ghost use Rattle.std.specs.Prelude.{List, ℕ, [], ◌∷◌, ◌≡◌, ◌+◌, ◌%◌, ◌^◌, ◌<◌, ◌≤◌, ◌++◌, All, drop, length, is_some, slice_index, slice_range, take, true};
-ghost use Rattle.aoe_frame.specs.Header.{head, header_bytes, reply_header, Fits, IsFlags};
+ghost use Rattle.aoe_frame.specs.Header.{head, header_bytes, is_response, reply_header, Fits, IsFlags};
 
 use crate::Frame;
 use crate::frame::refill;
@@ -46,6 +46,14 @@ pub struct Header {
     pub id: TargetId,
     pub command: u8,
     pub tag: u32,
+}
+
+/// Whether a frame is a response. Every other frame is a request, one that is too short to have
+/// flags among them, and its type doesn't matter.
+pub fn is_response(frame: &[u8]) -> bool
+    ensures { result ≡ is_response frame.now }
+{
+    frame.len() >= 15 && frame[14] & RESPONSE_FLAG != 0
 }
 
 /// Whether there are 24 bytes, and the type is that of AoE.

@@ -4,6 +4,7 @@ use Rattle.aoe_base.specs.declared.address.Mac.{Mac}
 use Rattle.aoe_base.specs.declared.address.TargetId.{TargetId}
 use Rattle.aoe_base.specs.declared.counted.DeviceNo.{DeviceNo}
 use Rattle.aoe_base.specs.Addresses.{holds}
+use Rattle.aoe_base.specs.declared.counted.Lifetimes.{Lifetimes}
 use Rattle.aoe_ata.specs.Decision.{written}
 use Rattle.aoe_ata.specs.declared.decision.AtaAnswer.{AtaAnswer}
 use Rattle.aoe_flight.specs.Outstanding.{rest_time}
@@ -17,6 +18,7 @@ use Rattle.aoe_initiator.specs.Op.{span_of}
 use Rattle.aoe_initiator.specs.Request.{request, CanSpell}
 use Rattle.aoe_net.specs.Network.{SentFrame}
 use Rattle.aoe_paths.specs.PathLog.{timeout_on}
+use Rattle.aoe_target.specs.Verdict.{as_marked}
 use Rattle.aoe_history.specs.declared.entry.Entry.{Entry}
 use Rattle.aoe_history.specs.declared.entry.Entry.TheVariants.{Sent, Done}
 use Rattle.aoe_history.specs.Commands.{is_of, log_of, path_of, submission, tickets, Submission}
@@ -72,12 +74,12 @@ abbrev pub views : HostSetup → List Entry → List HostCommand
 views host h = map (view host h) (upto (tickets host h))
 
 -- a command that was sent flies, or it is done and rests: a response to its last frame can still arrive
-abbrev pub is_live : ℕ → HostSetup → List Entry → ℕ → Sending → Bool
+abbrev pub is_live : Lifetimes → HostSetup → List Entry → ℕ → Sending → Bool
 is_live life host h c x = not (was_done host h c && nat_lt (rest_time life) (clock h - x.last.0))
 
 -- a command that was sent flies, or a frame of it can still arrive
-abbrev pub is_active : ℕ → HostSetup → List Entry → ℕ → Sending → Bool
-is_active life host h c x = not (was_done host h c && is_gone life (clock h) x.last.0)
+abbrev pub is_active : Lifetimes → HostSetup → List Entry → ℕ → Sending → Bool
+is_active life host h c x = not (was_done host h c && is_gone life.requests.0 (clock h) x.last.0)
 
 -- two commands are for one device, and must keep their order there
 abbrev pub in_conflict : HostSetup → List Entry → ℕ → ℕ → Bool
@@ -118,8 +120,8 @@ pub record IsAskable (host : HostSetup) (x : Submission) : Type 0 where
   pub id : about.id ≡ x.dev
 
 -- a slot that takes a frame as an ATA command is the one that the frame's command is for, and is told what the command asks, with the
--- data of a write
-pub record IsUnderstood (slot : SlotSetup) (x : Submission) (f : List ℕ) (answer : AtaAnswer) : Type 0 where
+-- data of a write, which a read-only one aborts
+pub record IsUnderstood (slot : SlotSetup) (read_only : Bool) (x : Submission) (f : List ℕ) (answer : AtaAnswer) : Type 0 where
   pub slot_is : is_slot slot x.dev ≡ true
-  pub answer_is : answer ≡ asked_for slot.station.sectors x.op
+  pub answer_is : answer ≡ as_marked read_only (asked_for slot.station.sectors x.op)
   pub bytes_are : (at : ℕ) (bytes : List ℕ) → x.op ≡ Write at bytes → written (drop 24 f) (span_of (Write at bytes)) ≡ bytes

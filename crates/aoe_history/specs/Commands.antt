@@ -95,14 +95,14 @@ log_of host (_ ∷ h) = log_of host h
 abbrev pub commands_of : HostSetup → List Entry → List HostCommand
 commands_of host h = commands (log_of host h)
 
--- each device with all commands that were submitted to it; the devices are counted from a number on
+-- each device with all commands that were submitted to it, by the lifetime of requests; the devices are counted from a number on
 abbrev pub devices_of : List Mac → ℕ → ℕ → List HostCommand → ℕ → List Attached → List Device
-devices_of ports life now cs n [] = []
-devices_of ports life now cs n (d ∷ ds) = record {
+devices_of ports requests now cs n [] = []
+devices_of ports requests now cs n (d ∷ ds) = record {
   about = d;
-  holds = record { life = life; latest = now; greatest = None; commands = entered_at n cs; ready = [] };
+  holds = record { life = requests; latest = now; greatest = None; commands = entered_at n cs; ready = [] };
   paths = new_paths ports d.remotes.items;
-} ∷ devices_of ports life now cs (n + 1) ds
+} ∷ devices_of ports requests now cs (n + 1) ds
 
 -- the host as the host law speaks of it: with all that it did, and no table of its own
 abbrev pub host_after : Setup → HostSetup → List Entry → Host
@@ -114,7 +114,7 @@ host_after s host h = record {
   clock = clock h;
   last_ticket = tickets host h;
   flight = no_commands host.room s.life host.dead;
-  devices = devices_of host.ports s.life (clock h) (commands_of host h) 0 host.devices;
+  devices = devices_of host.ports s.life.requests.0 (clock h) (commands_of host h) 0 host.devices;
   pending = [];
   waiting = [];
 }

@@ -7,6 +7,7 @@ use Rattle.aoe_base.specs.declared.sectors.Span.{Span}
 use Rattle.aoe_frame.specs.Header.{fields}
 use Rattle.aoe_ata.specs.Args.{registers}
 use Rattle.aoe_ata.specs.declared.reply.AtaOutcome.{AtaOutcome}
+use Rattle.aoe_initiator.specs.Defaults.{default_life}
 use Rattle.aoe_initiator.specs.declared.device.Attached.{Attached}
 use Rattle.aoe_initiator.specs.declared.op.Op.{Op}
 use Rattle.aoe_initiator.specs.Request.{request}
@@ -58,7 +59,7 @@ abbrev pub host_b : HostSetup
 host_b = host_with b 11
 
 abbrev pub setup_of : List Mac → Option ℕ → List HostSetup → Setup
-setup_of shelf cache hosts = record { life = 2000; hosts = hosts; slots = slot_at shelf cache ∷ [] }
+setup_of shelf cache hosts = record { life = default_life; hosts = hosts; slots = slot_at shelf cache ∷ [] }
 
 abbrev pub setup_with : Option ℕ → List HostSetup → Setup
 setup_with cache hosts = setup_of (port 1 ∷ []) cache hosts

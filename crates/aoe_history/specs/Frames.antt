@@ -1,6 +1,7 @@
 -- The time of a history, and the frames that are in the network.
 use Rattle.std.specs.Prelude.{ℕ, suc, ◌+◌, List, [], ◌∷◌, length, Option}
 use Rattle.std.specs.Option.{option_map_or}
+use Rattle.aoe_base.specs.declared.counted.Lifetimes.{Lifetimes}
 use Rattle.aoe_net.specs.Network.{deliverable, numbered, Network, SentFrame}
 use Rattle.aoe_history.specs.declared.entry.Entry.{Entry}
 use Rattle.aoe_history.specs.declared.entry.Entry.TheVariants.{Sent, Injected, Arrived, Ticked}
@@ -25,11 +26,11 @@ abbrev pub next_number : List Entry → ℕ
 next_number h = suc (length (frames h))
 
 -- the network that has the frames
-abbrev pub network : ℕ → List Entry → Network
+abbrev pub network : Lifetimes → List Entry → Network
 network life h = record { life = life; latest = clock h; sent = frames h }
 
 -- the bytes of a frame while it can be handed over
-abbrev pub arriving : ℕ → List Entry → ℕ → Option (List ℕ)
+abbrev pub arriving : Lifetimes → List Entry → ℕ → Option (List ℕ)
 arriving life h number = deliverable (network life h) number (clock h)
 
 -- the bytes of the frame with a number; none where there is no such frame

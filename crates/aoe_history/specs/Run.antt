@@ -1,5 +1,6 @@
 -- A run as contracts see it.
 use Rattle.std.specs.Prelude.{All, length, sum_by, ℕ, ◌≡◌, ◌≤◌, Bool, true, false, List, ◌∷◌}
+use Rattle.aoe_base.specs.declared.counted.Lifetimes.{Lifetimes}
 use Rattle.aoe_net.specs.Network.{IsFull, Network, SentFrame}
 use Rattle.aoe_history.specs.declared.entry.Entry.{Entry}
 use Rattle.aoe_history.specs.declared.entry.Entry.TheVariants.{Sent, Injected, Arrived, Ticked}
@@ -8,9 +9,9 @@ use Rattle.aoe_history.specs.Frames.{clock, frames, network}
 use Rattle.aoe_history.specs.Lawful.{MayCome}
 use Rattle.aoe_history.specs.Setup.{Setup}
 
--- how long a frame can be handed over after its sending, and what happened, the latest first
+-- how long frames can be handed over after their sending, and what happened, the latest first
 pub record Recorded : Type 0 where
-  pub life : ℕ
+  pub life : Lifetimes
   pub entries : List Entry
 
 -- one thing more happened
@@ -39,7 +40,7 @@ pub record IsWithin (frames : List SentFrame) : Type 0 where
   pub small : sum_by (λ frame. length frame.bytes) frames ≤ 536870912
 
 -- a network has the frames of a history, none of them from a later time or too long
-pub record Carries (life now : ℕ) (h : List Entry) (net : Network) : Type 0 where
+pub record Carries (life : Lifetimes) (now : ℕ) (h : List Entry) (net : Network) : Type 0 where
   pub life_is : net.life ≡ life
   pub sent : net.sent ≡ frames h
   pub past : net.latest ≤ now

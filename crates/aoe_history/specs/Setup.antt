@@ -8,6 +8,7 @@ use Rattle.aoe_base.specs.declared.address.TargetId.{TargetId}
 use Rattle.aoe_base.specs.declared.counted.DeviceNo.{DeviceNo}
 use Rattle.aoe_base.specs.declared.counted.PathNo.{PathNo}
 use Rattle.aoe_base.specs.Addresses.{holds, same_address}
+use Rattle.aoe_base.specs.declared.counted.Lifetimes.{Lifetimes}
 use Rattle.aoe_initiator.specs.declared.device.Attached.{Attached}
 use Rattle.aoe_initiator.specs.HostLaw.{same_id}
 use Rattle.aoe_lists.specs.Settings.{empty_settings, Settings}
@@ -33,10 +34,10 @@ pub record SlotSetup : Type 0 where
 abbrev pub slot_over : Station → Option ℕ → SlotSetup
 slot_over station cache = record { station = station; cache = cache; lists = empty_settings }
 
--- how long a frame can be handed over after its sending, the hosts in their order, and the slots of all shelves in
+-- how long frames can be handed over after their sending, the hosts in their order, and the slots of all shelves in
 -- theirs; times in milliseconds
 pub record Setup : Type 0 where
-  pub life : ℕ
+  pub life : Lifetimes
   pub hosts : List HostSetup
   pub slots : List SlotSetup
 

@@ -2,6 +2,7 @@
 ghost use Rattle.std.specs.Prelude.{ℕ, ◌≡◌, ◌≤◌, ◌<◌, true, false, List, Some, is_some, Contains};
 ghost use Rattle.aoe_base.specs.declared.sectors.Span.{Span};
 ghost use Rattle.aoe_ata.specs.declared.decision.AtaDecision.{AtaDecision};
+ghost use Rattle.aoe_frame.specs.Header.{is_response};
 ghost use Rattle.aoe_hold.specs.Commands.{has_effect, is_gone, rests_on_effects};
 ghost use Rattle.aoe_initiator.specs.declared.op.Op.TheVariants.{Flush, Read};
 ghost use Rattle.aoe_initiator.specs.HostLog.{Sending};
@@ -40,26 +41,29 @@ pub fn host_commands_law()
     ensures earlier_gone { (s : Setup) (host : HostSetup) (h : List Entry) → HasHost s host h → (c d : ℕ) (x y : Sending)
         → sends_of host h c ≡ Some x → sends_of host h d ≡ Some y → d < c → in_conflict host h d c ≡ true
         → has_effect (kind_of (view host h d).op) ≡ true → rests_on_effects (kind_of (view host h c).op) ≡ true
-        → is_gone s.life (clock h) y.last.0 ≡ true }
+        → is_gone s.life.requests.0 (clock h) y.last.0 ≡ true }
     ensures tags_differ { (s : Setup) (host : HostSetup) (h : List Entry) → HasHost s host h → (c d : ℕ) (x y : Sending)
         → sends_of host h c ≡ Some x → sends_of host h d ≡ Some y
         → is_live s.life host h c x ≡ true → is_live s.life host h d y ≡ true → x.tag ≡ y.tag → c ≡ d }
 {}
 
 /// A law: in every lawful history a frame in the network whose source is a port of the host is the
-/// request of one of the host's commands that were sent, with its tag. While it can arrive, the
-/// command flies, or it is done and a frame of it can still arrive. Only the slot that the command
-/// is for takes it as an ATA command, and is told what the command asks.
+/// request of one of the host's commands that were sent, with its tag, and so it lives as long as
+/// requests do. While it can arrive, the command flies, or it is done and a frame of it can still
+/// arrive. Only the slot that the command is for takes it as an ATA command, and is told what the
+/// command asks.
 pub fn host_frames_law()
     ensures requests { (s : Setup) (host : HostSetup) (h : List Entry) → HasHost s host h → (number : ℕ) (frame : SentFrame)
         → numbered (frames h) number ≡ Some frame → is_from host frame.bytes ≡ true → IsSentFor host h frame }
     ensures active { (s : Setup) (host : HostSetup) (h : List Entry) → HasHost s host h → (number : ℕ) (frame : SentFrame)
         → numbered (frames h) number ≡ Some frame → arriving s.life h number ≡ Some frame.bytes
         → (x : IsSentFor host h frame) → is_active s.life host h x.ticket x.sending ≡ true }
+    ensures kind { (s : Setup) (host : HostSetup) (h : List Entry) → HasHost s host h → (frame : SentFrame)
+        → IsSentFor host h frame → is_response frame.bytes ≡ false }
     ensures understood { (s : Setup) (host : HostSetup) (h : List Entry) → HasHost s host h
         → (slot : SlotSetup) → Contains s.slots slot → (frame : SentFrame) (lists : Settings) (d : AtaDecision) → (x : IsSentFor host h frame)
         → verdict slot.station lists frame.bytes ≡ Ata d → (asked : Submission) → submission host h x.ticket ≡ Some asked
-        → IsUnderstood slot asked frame.bytes d.answer }
+        → IsUnderstood slot lists.read_only asked frame.bytes d.answer }
 {}
 
 /// A law: in every lawful history, of a host's writes of one sector at most one is under way: it

@@ -18,15 +18,16 @@ ghost use Rattle.aoe_target.specs.declared.station.Station.{Station};
 ghost use Rattle.aoe_target.specs.declared.verdict.Verdict.TheVariants.{Ata};
 ghost use Rattle.aoe_target.specs.Device.{State};
 ghost use Rattle.aoe_target.specs.Law.{replied, Allows};
-ghost use Rattle.aoe_target.specs.Verdict.{verdict};
+ghost use Rattle.aoe_target.specs.Verdict.{as_marked, verdict};
 ghost use Rattle.aoe_history.specs.Conversation.{asked_for, CanReply, HasSectors, TellsTruly};
 
 /// A law: a target that takes a request as an ATA command does what the operation asks for, with
-/// the data of a write.
+/// the data of a write, unless it is read-only and that is a write.
 pub fn requests_are_understood()
     ensures answer { (op : Op) (id : TargetId) (remote local : Mac) (tag : ℕ) (station : Station) (lists : Settings) (d : AtaDecision)
         → CanSpell op → HasSectors op → Fits (request_header op id remote local tag)
-        → verdict station lists (request op id remote local tag) ≡ Ata d → d.answer ≡ asked_for station.sectors op }
+        → verdict station lists (request op id remote local tag) ≡ Ata d
+        → d.answer ≡ as_marked lists.read_only (asked_for station.sectors op) }
     ensures data { (at : ℕ) (bytes : List ℕ) (id : TargetId) (remote local : Mac) (tag : ℕ)
         → at < 2 ^ 48 → length bytes % 512 ≡ 0 → Fits (request_header (Write at bytes) id remote local tag)
         → written (drop 24 (request (Write at bytes) id remote local tag)) (span_of (Write at bytes)) ≡ bytes }

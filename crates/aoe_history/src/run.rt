@@ -8,7 +8,7 @@ ghost use Rattle.aoe_history.specs.Frames.{arriving, clock, frames, next_number}
 ghost use Rattle.aoe_history.specs.Run.{is_plain, network_of, with_entry, IsWithin};
 
 use crate::{Boxed, Entry, Fate, History};
-use aoe_base::{FrameNo, Millis, NoMemory, TargetId, Ticket};
+use aoe_base::{FrameNo, Lifetimes, Millis, NoMemory, TargetId, Ticket};
 use aoe_disk::Loss;
 use aoe_lists::Lists;
 use aoe_net::{FrameBytes, Net, NetRefusal};
@@ -21,7 +21,7 @@ use std::marker::Model;
 #[derive(Drop)]
 pub struct Run {
     alloc: Global,
-    life: Millis,
+    life: Lifetimes,
     clock: Millis,
     net: Net,
     history: History,
@@ -32,9 +32,9 @@ impl Model for Run {
 
     ghost Value = { Recorded };
 
-    ghost view = { λ r. record { life = r.life.0; entries = r.history } };
+    ghost view = { λ r. record { life = r.life; entries = r.history } };
 
-    ghost invariant = { λ r. Carries r.life.0 r.clock.0 r.history r.net };
+    ghost invariant = { λ r. Carries r.life r.clock.0 r.history r.net };
 }
 
 /// A copy of the bytes of a frame, for the history and for the network.
@@ -55,10 +55,10 @@ fn take_back(history: &mut History)
 }
 
 impl Run {
-    /// A run in which nothing happened yet. A frame can be handed over until it is older than
-    /// `life`.
-    pub fn new(alloc: Global, life: Millis) -> Run
-        ensures { result ≡ record { life = life.0; entries = [] } }
+    /// A run in which nothing happened yet. A frame can be handed over until it is older than `life`
+    /// has it for its kind.
+    pub fn new(alloc: Global, life: Lifetimes) -> Run
+        ensures { result ≡ record { life = life; entries = [] } }
     {
         Run {
             alloc,

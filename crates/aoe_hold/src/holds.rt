@@ -244,7 +244,7 @@ fn leave<L: Ledger>(
 /// more: no answer goes by it. No other call takes memory.
 #[derive(Drop)]
 pub struct Holds {
-    /// How long a frame can arrive after it was sent.
+    /// How long a request can arrive after it was sent.
     life: Millis,
 
     /// The latest time that was told.
@@ -306,12 +306,12 @@ impl Model for Holds {
 }
 
 impl Holds {
-    /// No command was entered. A frame can arrive as long as `life` after it was sent.
-    pub fn new(alloc: Global, life: Millis) -> Holds
-        ensures { result ≡ no_commands life.0 }
+    /// No command was entered. A request can arrive as long as `requests` after it was sent.
+    pub fn new(alloc: Global, requests: Millis) -> Holds
+        ensures { result ≡ no_commands requests.0 }
     {
         Holds {
-            life,
+            life: requests,
             latest: Millis(0),
             greatest: None,
             unsent: 0,

@@ -5,7 +5,7 @@ ghost use Rattle.aoe_io.specs.LinkMemory.{IsShort};
 use aoe_base::{Blob, Mac, NoMemory, TargetId};
 use aoe_frame::Frame;
 use aoe_io::{MemLink, MemSink, MemSource, SetClock};
-use aoe_tools::{Ask, CopyRefusal, get, put};
+use aoe_tools::{Ask, CopyRefusal, flush, get, put};
 use std::alloc::Global;
 use std::test::Fail;
 
@@ -130,6 +130,17 @@ fn puts_sectors(rt: HostRuntime) -> Result<(), Fail> {
     let write = [0x41, 0, 1, 0x34, 3, 0, 0, 0, 0, 0, 0, 0, 0x5a];
     let flush = [0x40, 0, 0, 0xea, 0, 0];
     assert!(rt; is_sent(&link, 2, &write) && is_sent(&link, 3, &flush));
+    Ok(())
+}
+
+#[test]
+fn flushes(rt: HostRuntime) -> Result<(), Fail> {
+    let mut link = link_of(rt.alloc(), &[None, Some((1, &[]))])?;
+    let ask = Ask { port: A, turns: 50 };
+    let mut clock = SetClock::new(0, 10);
+    let done = flush(rt.alloc(), &ask, DEVICE, &mut link, &mut clock);
+    let args = [0x40, 0, 0, 0xea, 0, 0];
+    assert!(rt; done == Ok(()) && link.count() == 3 && is_sent(&link, 2, &args));
     Ok(())
 }
 

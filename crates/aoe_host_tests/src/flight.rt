@@ -1,10 +1,16 @@
 ghost use Rattle.std.specs.Prelude.{◌≡◌, ◌<◌, ◌≤◌};
 
-use aoe_base::{Millis, PathNo, Steps, Ticket};
+use aoe_base::{Lifetimes, Millis, PathNo, Steps, Ticket};
 use aoe_flight::{Flight, Flying};
 use std::marker::Brand;
 use std::sync::ledger::{Blank, Ledger};
 use std::test::Fail;
+
+/// The lifetimes: responses live shorter.
+const LIFE: Lifetimes = Lifetimes {
+    requests: Millis(2000),
+    responses: Millis(500),
+};
 
 fn due_counted<L: Ledger>(flight: &Flight, now: Millis, blank: Blank) -> Option<Ticket>
     requires time { flight.now.latest ≤ now.0 }
@@ -72,7 +78,7 @@ fn expired(flight: &Flight, now: u64) -> Option<Ticket> {
 
 #[test]
 fn a_command_is_due_by_its_waits(rt: HostRuntime) -> Result<(), Fail> {
-    let mut flight = Flight::new(rt.alloc(), 16, Millis(2000), Millis(30_000))?;
+    let mut flight = Flight::new(rt.alloc(), 16, LIFE, Millis(30_000))?;
     let sent = flies(&mut flight, 1, 0, 1000);
     let first = [due(&flight, 999), due(&flight, 1000)];
     repeat(&mut flight, 1, 1000, 2000);
@@ -102,13 +108,13 @@ fn is_full(flight: &mut Flight, now: u64) -> bool
 }
 
 #[test]
-fn a_finished_command_rests_for_two_lifetimes(rt: HostRuntime) -> Result<(), Fail> {
-    let mut flight = Flight::new(rt.alloc(), 1, Millis(2000), Millis(30_000))?;
+fn a_finished_command_rests_for_both_lifetimes(rt: HostRuntime) -> Result<(), Fail> {
+    let mut flight = Flight::new(rt.alloc(), 1, LIFE, Millis(30_000))?;
     let first = launch(&mut flight, 5, 0, 1000);
     let finished = finishes(&mut flight, 5, 1);
-    let full = is_full(&mut flight, 4000);
-    let rested = !flight.is_full(Millis(4001));
-    let next = launch(&mut flight, 6, 4001, 1000);
+    let full = is_full(&mut flight, 2500);
+    let rested = !flight.is_full(Millis(2501));
+    let next = launch(&mut flight, 6, 2501, 1000);
     assert!(rt; first.is_some() && finished && full && rested && next == Some(2));
     Ok(())
 }

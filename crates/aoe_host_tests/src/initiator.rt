@@ -4,7 +4,8 @@ ghost use Rattle.aoe_base.specs.Addresses.{IsDistinct};
 use aoe_base::{DeviceNo, Mac, Millis, PathNo, Ports, Span, TargetId, Ticket};
 use aoe_frame::Frame;
 use aoe_initiator::{
-    AttachRefusal, Done, Initiator, MAX_HELD, Op, Outcome, Sent, SubmitRefusal, Taken,
+    AttachRefusal, DEAD, Done, Initiator, LIFETIMES, MAX_HELD, Op, Outcome, ROOM, Sent,
+    SubmitRefusal, Taken,
 };
 use std::alloc::Global;
 use std::test::Fail;
@@ -52,16 +53,13 @@ fn no_port() -> Ports
 }
 
 /// A host with one port, attached to the device.
-fn attached(alloc: Global, remotes: &Ports, life: Millis, room: u32) -> Result<Initiator, Fail>
+fn attached(alloc: Global, remotes: &Ports) -> Result<Initiator, Fail>
     requires differ { IsDistinct remotes.now.items }
-    requires life { life.0 ≤ 600000 }
-    requires some_room { 0 < room }
-    requires room { room ≤ 16384 }
     ensures tickets { IfOk result (λ host. host.last_ticket ≡ 0) }
     ensures devices { IfOk result (λ host. 0 < length host.devices) }
     ensures few { IfOk result (λ host. length host.devices < 2) }
 {
-    let mut host = Initiator::new(alloc, &one(A), life, room, Millis(180_000))?;
+    let mut host = Initiator::new(alloc, &one(A), LIFETIMES, ROOM, DEAD)?;
     host.attach(DEVICE, remotes, 16, 2)?;
     Ok(host)
 }
@@ -93,7 +91,7 @@ fn sends(host: &mut Initiator, steps: &[(u64, Option<Sent>)]) -> bool {
 
 #[test]
 fn a_read_is_repeated_by_its_waits(rt: HostRuntime) -> Result<(), Fail> {
-    let mut host = attached(rt.alloc(), &one(SHELF), Millis(2000), 4096)?;
+    let mut host = attached(rt.alloc(), &one(SHELF))?;
     let submitted = host.submit(FIRST_DEVICE, Op::Read(Span { at: 0, count: 1 }));
     assert!(rt; matches!(submitted, Ok(Ticket(1))));
     let steps = [
@@ -110,7 +108,7 @@ fn a_read_is_repeated_by_its_waits(rt: HostRuntime) -> Result<(), Fail> {
 
 #[test]
 fn a_path_that_doesnt_answer_is_avoided(rt: HostRuntime) -> Result<(), Fail> {
-    let mut host = attached(rt.alloc(), &two(1, 2), Millis(2000), 4096)?;
+    let mut host = attached(rt.alloc(), &two(1, 2))?;
     let submitted = host.submit(FIRST_DEVICE, Op::Read(Span { at: 0, count: 1 }));
     assert!(rt; submitted.is_ok());
     let other = Sent {
@@ -129,7 +127,7 @@ fn a_path_that_doesnt_answer_is_avoided(rt: HostRuntime) -> Result<(), Fail> {
 
 #[test]
 fn a_response_ends_its_command_once(rt: HostRuntime) -> Result<(), Fail> {
-    let mut host = attached(rt.alloc(), &one(SHELF), Millis(2000), 4096)?;
+    let mut host = attached(rt.alloc(), &one(SHELF))?;
     let submitted = host.submit(FIRST_DEVICE, Op::Flush);
     assert!(rt; submitted.is_ok());
     assert!(rt; sends(&mut host, &[(0, Some(FIRST))]));
@@ -151,7 +149,7 @@ fn a_response_ends_its_command_once(rt: HostRuntime) -> Result<(), Fail> {
 
 #[test]
 fn attachments_are_refused(rt: HostRuntime) -> Result<(), Fail> {
-    let mut host = attached(rt.alloc(), &one(SHELF), Millis(2000), 4096)?;
+    let mut host = attached(rt.alloc(), &one(SHELF))?;
     let again = host.attach(DEVICE, &one(SHELF), 16, 2);
     assert!(rt; again == Err(AttachRefusal::Already));
     let other = TargetId { major: 1, minor: 1 };
@@ -177,7 +175,7 @@ fn fill(host: &mut Initiator, device: DeviceNo, count: u32) -> bool
 
 #[test]
 fn a_backlog_is_refused(rt: HostRuntime) -> Result<(), Fail> {
-    let mut host = attached(rt.alloc(), &one(SHELF), Millis(2000), 4096)?;
+    let mut host = attached(rt.alloc(), &one(SHELF))?;
     let filled = fill(&mut host, FIRST_DEVICE, MAX_HELD);
     assert!(rt; filled);
     let refused = host.submit(FIRST_DEVICE, Op::Flush);

@@ -23,7 +23,7 @@ use Rattle.aoe_initiator.specs.declared.op.Op.{Op}
 use Rattle.aoe_initiator.specs.declared.pending.Pending.{Pending}
 use Rattle.aoe_initiator.specs.declared.response.Answer.{Answer}
 use Rattle.aoe_initiator.specs.Host.{Host, Matches, Waiting}
-use Rattle.aoe_initiator.specs.HostLaw.{answer_to, has_tag, is_answered, is_from, is_response, same_id, CameOn}
+use Rattle.aoe_initiator.specs.HostLaw.{answer_to, has_tag, is_answered, is_from, is_response_to, same_id, CameOn}
 use Rattle.aoe_initiator.specs.HostLog.{commands, outstanding, sent_of, Event, HostCommand, Sending}
 use Rattle.aoe_initiator.specs.Response.{answer, has_flag}
 use Rattle.aoe_initiator.specs.Op.{command_of}
@@ -61,7 +61,7 @@ not-answered : (host : Host) (c : HostCommand) (frame : List ℕ) (h : Header) �
 not-answered host c frame h is out = rw (is, out) refl
 
 pub untagged : (host : Host) (c : HostCommand) (frame : List ℕ) (h : Header) → head frame ≡ Some h → tagged h.tag c ≡ false → answer_to host c frame ≡ None
-untagged host c frame h is out = not-answered host c frame h is (and-false (is_response host h) (tagged h.tag c) (is_from (slice_get host.devices c.device.0) c.op h) out)
+untagged host c frame h is out = not-answered host c frame h is (and-false (is_response_to host h) (tagged h.tag c) (is_from (slice_get host.devices c.device.0) c.op h) out)
 
 -- no command flies with a tag
 no-flyer : (cs : List HostCommand) (tag : ℕ) (c : HostCommand) → All (λ o. flies_with tag o ≡ false) (sent_of cs) → Contains cs c → tagged tag c ≡ false
@@ -163,7 +163,7 @@ pub not-from : (host : Host) (log : List Event) (frame : List ℕ) (h : Header) 
 not-from host log frame h p c pending is out =
     let device : c.device.0 ≡ p.device.0 = ap (λ (d : DeviceNo). d.0) pending.device in
     let elsewhere : is_from (slice_get host.devices c.device.0) c.op h ≡ false = rw (device, pending.op) out in
-    not-answered host c frame h is (last-false (is_response host h) (tagged h.tag c) (is_from (slice_get host.devices c.device.0) c.op h) elsewhere)
+    not-answered host c frame h is (last-false (is_response_to host h) (tagged h.tag c) (is_from (slice_get host.devices c.device.0) c.op h) elsewhere)
 
 pub no-answer : (host : Host) (log : List Event) (frame : List ℕ) (h : Header) (p : Pending) (c : HostCommand) → IsPending (commands log) p c
     → head frame ≡ Some h → answer p.op h (drop 24 frame) ≡ None → answer_to host c frame ≡ None
@@ -176,13 +176,13 @@ no-answer host log frame h p c pending is out =
 
 pub answered-by : (host : Host) (log : List Event) (frame : List ℕ) (h : Header) (t : Ticket) (p : Pending) (c : HostCommand) (a : Answer)
     → IsPending (commands log) p c → IsFlyer (commands log) h.tag t c → head frame ≡ Some h
-    → is_response host h ≡ true → is_from (slice_get host.devices p.device.0) p.op h ≡ true → answer p.op h (drop 24 frame) ≡ Some a
+    → is_response_to host h ≡ true → is_from (slice_get host.devices p.device.0) p.op h ≡ true → answer p.op h (drop 24 frame) ≡ Some a
     → answer_to host c frame ≡ Some a
 answered-by host log frame h t p c a pending f is hears from says =
     let device : c.device.0 ≡ p.device.0 = ap (λ (d : DeviceNo). d.0) pending.device in
     let here : is_from (slice_get host.devices c.device.0) c.op h ≡ true = rw (device, pending.op) from in
     let yes_answered : is_answered host c h ≡ true =
-    all-true (is_response host h) (tagged h.tag c) (is_from (slice_get host.devices c.device.0) c.op h) hears (flyer-tagged (commands log) h.tag t c f) here in
+    all-true (is_response_to host h) (tagged h.tag c) (is_from (slice_get host.devices c.device.0) c.op h) hears (flyer-tagged (commands log) h.tag t c f) here in
     rw (is, yes_answered) (rw pending.op says)
 
 pub not-from-at : (host : Host) (log : List Event) (frame : List ℕ) (h : Header) (t : Ticket) (at : ℕ) (from : Bool) (c : HostCommand) → Matches log host
@@ -214,7 +214,7 @@ from-device (Some d) op h is =
 
 -- the pair of a response's ports is that of a path
 pub no-path : (host : Host) (log : List Event) (h : Header) (at : ℕ) (p : Pending) (from : Bool) → Matches log host → slice_get host.pending at ≡ Some p
-    → is_response host h ≡ true → from ≡ true
+    → is_response_to host h ≡ true → from ≡ true
     → IfSome (slice_get host.pending at) (λ q. from ≡ is_from (slice_get host.devices q.device.0) q.op h)
     → IfSome (slice_get host.pending at) (λ q. IfSome (slice_get host.devices q.device.0) (λ d. (n : ℕ) → pair_of d.paths n ≢ Some (h.dst, h.src)))
     → {P : Type 0} → P
@@ -251,7 +251,7 @@ came-on host log frame h p c path m pending is from on =
 -- the command that a frame answers
 pub found-answer : (host : Host) (log : List Event) (frame : List ℕ) (h : Header) (t : Ticket) (at : ℕ) (p : Pending) (c : HostCommand) (path : PathNo)
     (a : Answer) (from : Bool) → Matches log host → head frame ≡ Some h → IsFlyer (commands log) h.tag t c
-    → place t host.pending ≡ Some at → slice_get host.pending at ≡ Some p → is_response host h ≡ true → from ≡ true
+    → place t host.pending ≡ Some at → slice_get host.pending at ≡ Some p → is_response_to host h ≡ true → from ≡ true
     → IfSome (slice_get host.pending at) (λ q. from ≡ is_from (slice_get host.devices q.device.0) q.op h)
     → IfSome (slice_get host.pending at) (λ q. IfSome (slice_get host.devices q.device.0) (λ d. pair_of d.paths path.0 ≡ Some (h.dst, h.src)))
     → answer p.op h (drop 24 frame) ≡ Some a

@@ -111,27 +111,27 @@ module _ (life now : ℕ) (cs : List HostCommand) where
 
 -- the tickets of all clear commands
 abbrev clear_in : Host → List Event → List ℕ
-clear_in host log = all_clear host.life host.clock (commands log) 0 host.devices
+clear_in host log = all_clear host.life.requests.0 host.clock (commands log) 0 host.devices
 
 -- every clear command of the log is among the clear ones of the devices
 clear-all : (host : Host) (log : List Event) (c : HostCommand) → Matches log host → Contains (commands log) c
-    → is_clear_at host.life host.clock (commands log) c ≡ true → Contains (clear_in host log) c.ticket.0
+    → is_clear_at host.life.requests.0 host.clock (commands log) c ≡ true → Contains (clear_in host log) c.ticket.0
 clear-all host log c m there is =
-    clear-there host.life host.clock (commands log) 0 c.device.0 host.devices c there (omega arith) (All-contains (λ x. x.device.0 < length host.devices) (commands log) c m.attached there) is
+    clear-there host.life.requests.0 host.clock (commands log) 0 c.device.0 host.devices c there (omega arith) (All-contains (λ x. x.device.0 < length host.devices) (commands log) c m.attached there) is
 
 -- the clear command with the lowest ticket
 pub record IsLowestClear (host : Host) (log : List Event) (t : Ticket) (c : HostCommand) : Type 0 where
-  pub is : IsClearOf host.life host.clock (commands log) t.0 c
-  pub first : All (λ other. is_clear_at host.life host.clock (commands log) other ≡ true → t.0 ≤ other.ticket.0) (commands log)
+  pub is : IsClearOf host.life.requests.0 host.clock (commands log) t.0 c
+  pub first : All (λ other. is_clear_at host.life.requests.0 host.clock (commands log) other ≡ true → t.0 ≤ other.ticket.0) (commands log)
 
 pub lowest-clear : (host : Host) (log : List Event) (t : Ticket) → Matches log host → IsLowest (clear_in host log) (Some t)
     → (c : HostCommand) × IsLowestClear host log t c
 lowest-clear host log t m lowest =
-    let found = clear-from host.life host.clock (commands log) 0 host.devices t.0 lowest.0 in (
+    let found = clear-from host.life.requests.0 host.clock (commands log) 0 host.devices t.0 lowest.0 in (
       found.0,
       record {
         is = found.1;
-        first = All-weaker (Contains (commands log)) (λ other. is_clear_at host.life host.clock (commands log) other ≡ true → t.0 ≤ other.ticket.0)
+        first = All-weaker (Contains (commands log)) (λ other. is_clear_at host.life.requests.0 host.clock (commands log) other ≡ true → t.0 ≤ other.ticket.0)
             (λ other inside is. All-contains (λ n. t.0 ≤ n) (clear_in host log) other.ticket.0 lowest.1 (clear-all host log other m inside is)) (commands log) (All-contains_itself (commands log));
       },
     )
@@ -160,13 +160,13 @@ quiet-clear : (host : Host) (log : List Event) (lowest : Option Ticket) → Matc
     → IfSome lowest (λ t. place t host.pending ≡ None) → IsQuiet host (commands log)
 quiet-clear host log None m none lowest missing = record { nothing_due = none; nothing_clear = inr (All-weaker (Contains (commands log)) _ each (commands log) (All-contains_itself (commands log))) }
   where
-    each : (c : HostCommand) → Contains (commands log) c → is_clear_at host.life host.clock (commands log) c ≡ false
+    each : (c : HostCommand) → Contains (commands log) c → is_clear_at host.life.requests.0 host.clock (commands log) c ≡ false
     each c there = false_from_ne_true _ (λ is. let impossible = rw lowest at (clear-all host log c m there is) in omega (arith, impossible.1))
 quiet-clear host log (Some t) m none lowest missing =
     let found = lowest-clear host log t m lowest in
     let c = found.0 in
     let clear = found.1.is in
-    absurd (is-placed host log t c m clear.there (waits c (clear-unsent host.life host.clock (commands log) c clear.clear) clear.there) clear.same missing)
+    absurd (is-placed host log t c m clear.there (waits c (clear-unsent host.life.requests.0 host.clock (commands log) c clear.clear) clear.there) clear.same missing)
   where
     waits : (c : HostCommand) → c.sends ≡ None → Contains (commands log) c → c.done ≡ false
     waits c unsent there = false_from_ne_true _ (λ done. let flew = rw unsent at (All-contains (λ x. x.done ≡ true → IsSome x.sends) (commands log) c m.flew there done) in cc)
@@ -177,5 +177,5 @@ pub quiet-exit : {T : Type 0} (o : Option T) (old : Host) → InTime old
 quiet-exit (Some x) old time stuck = tt
 quiet-exit None old time stuck = λ log m none. elim (cases_Bool (is_full old)) [
   | inl full ↦ quiet-full old time full log m none
-  | inr room ↦ let found = stuck room in quiet-clear old log found.0 m none (found.1 old.life (commands log) m.entered) found.2
+  | inr room ↦ let found = stuck room in quiet-clear old log found.0 m none (found.1 old.life.requests.0 (commands log) m.entered) found.2
 ]

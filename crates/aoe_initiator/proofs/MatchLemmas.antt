@@ -200,7 +200,7 @@ matches-ended log host new at path outcome s m closes flew =
       room = m.room;
       dead = m.dead;
       sent = sent;
-      entered = recall-ended host.life 0 p.device.0 p.ticket (arrival_on host.clock path (Some s)) cs host.devices place m.entered;
+      entered = recall-ended host.life.requests.0 0 p.device.0 p.ticket (arrival_on host.clock path (Some s)) cs host.devices place m.entered;
       paths = have;
     } in
     rw closes.after after
@@ -255,7 +255,7 @@ matches-sent log host c p tag path flight m is times rest room dead sent =
       room = room ∙ m.room;
       dead = dead ∙ m.dead;
       sent = rw (← m.time) sent;
-      entered = rw (← m.time) (recall-sent host.life 0 p.device.0 p.ticket tag now path ts (path_before c.sends) cs host.devices place waits times m.entered);
+      entered = rw (← m.time) (recall-sent host.life.requests.0 0 p.device.0 p.ticket tag now path ts (path_before c.sends) cs host.devices place waits times m.entered);
       paths = have;
     }
   where
@@ -305,7 +305,7 @@ matches-submitted log host new t device op room m is inside same =
       room = m.room;
       dead = m.dead;
       sent = rw (sent-submitted cs t device op) m.sent;
-      entered = recall-entered host.life 0 device.0 cs t device op host.devices (omega arith) m.entered;
+      entered = recall-entered host.life.requests.0 0 device.0 cs t device op host.devices (omega arith) m.entered;
       paths = have-kept host.ports log (Submits t device op ∷ log) device.0 (device_entered (new_command t (kind_of op) (span_of op))) host.devices (λ n. refl) (λ d. refl) (λ d. refl) m.paths;
     } in
     rw same after
@@ -329,7 +329,7 @@ recall-attached life n cs (x ∷ devices) d all fresh recalls = (
   recall-attached life (n + 1) cs devices d (All-weaker (λ c. c.device.0 < n + length (x ∷ devices)) (λ c. c.device.0 < n + 1 + length devices) (λ c less. omega (arith, less)) cs all) fresh recalls.2,
 )
 
-pub matches-attached : (log : List Event) (host new : Host) (d : Device) → Matches log host → d.holds ≡ nothing_entered host.life
+pub matches-attached : (log : List Event) (host new : Host) (d : Device) → Matches log host → d.holds ≡ nothing_entered host.life.requests.0
     → d.paths ≡ new_paths host.ports d.about.remotes.items → new ≡ with_device host d → Matches log new
 matches-attached log host new d m fresh paths same =
     let cs = commands log in
@@ -345,7 +345,7 @@ matches-attached log host new d m fresh paths same =
       room = m.room;
       dead = m.dead;
       sent = m.sent;
-      entered = recall-attached host.life 0 cs host.devices d (All-weaker (λ c. c.device.0 < length host.devices) (λ c. c.device.0 < 0 + length host.devices) (λ c less. omega (arith, less)) cs m.attached) fresh m.entered;
+      entered = recall-attached host.life.requests.0 0 cs host.devices d (All-weaker (λ c. c.device.0 < length host.devices) (λ c. c.device.0 < 0 + length host.devices) (λ c less. omega (arith, less)) cs m.attached) fresh m.entered;
       paths = have-attached host.ports log host.devices d m.attached paths m.paths;
     } in
     rw same after
@@ -397,7 +397,7 @@ matches-devices log host m times = record {
   room = m.room;
   dead = m.dead;
   sent = m.sent;
-  entered = recall-at host.life 0 host.clock (commands log) host.devices times m.entered;
+  entered = recall-at host.life.requests.0 0 host.clock (commands log) host.devices times m.entered;
   paths = have-at host.ports log host.clock host.devices m.paths;
 }
 

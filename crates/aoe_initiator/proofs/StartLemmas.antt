@@ -141,7 +141,7 @@ module _ {old h new : Host} {log : List Event} {t : Ticket} {at : ℕ} {sent : S
 
   started : (c : HostCommand) × IsStarted c
   started =
-      let found = lowest-clear old log t m (cleared.lowest old.life (commands log) m.entered) in
+      let found = lowest-clear old log t m (cleared.lowest old.life.requests.0 (commands log) m.entered) in
       let c = found.0 in
       let clear = found.1.is in
       let at_old : slice_get old.pending at ≡ Some launches.command = rw (ap (λ (g : Host). g.pending) cleared.same) at launches.there in (
@@ -150,7 +150,7 @@ module _ {old h new : Host} {log : List Event} {t : Ticket} {at : ℕ} {sent : S
           there = clear.there;
           ticket = ap (λ (n : ℕ). record { 0 = n }) clear.same;
           clear = found.1;
-          fresh = clear-unsent old.life old.clock (commands log) c clear.clear;
+          fresh = clear-unsent old.life.requests.0 old.clock (commands log) c clear.clear;
           pending = pending-of old log t at launches.command c m cleared.found at_old clear.there clear.same;
         },
       )

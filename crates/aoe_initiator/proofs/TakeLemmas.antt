@@ -23,7 +23,7 @@ use Rattle.aoe_initiator.specs.declared.response.Answer.{Answer}
 use Rattle.aoe_initiator.specs.declared.step.Taken.TheVariants.{Finished}
 use Rattle.aoe_initiator.specs.Devices.{device_finished, trip_from}
 use Rattle.aoe_initiator.specs.Host.{Closes, Host, IsSame, Matches}
-use Rattle.aoe_initiator.specs.HostLaw.{answer_to, ended, given_up, has_tag, is_answered, is_from, is_response, CameOn, GaveUpInTurn, Takes}
+use Rattle.aoe_initiator.specs.HostLaw.{answer_to, ended, given_up, has_tag, is_answered, is_from, is_response_to, CameOn, GaveUpInTurn, Takes}
 use Rattle.aoe_initiator.specs.HostLog.{commands, outstanding, sent_of, trip_of, Event, HostCommand, Sending}
 use Rattle.aoe_initiator.specs.HostLog.Event.{Advances, Ends}
 use Rattle.aoe_initiator.specs.Response.{answer, outcome_of}
@@ -51,8 +51,8 @@ aloft host c frame a is = by_header (head frame) is
 
     by_answered : (h : Header) (b : Bool) → is_answered host c h ≡ b → cond b (answer c.op h (drop 24 frame)) None ≡ Some a → IsAloft c
     by_answered h true yes_answered given =
-        let outer = and_parts (is_response host h && (not c.done && has_tag h.tag c.sends)) (is_from (slice_get host.devices c.device.0) c.op h) yes_answered in
-        let inner = and_parts (is_response host h) (not c.done && has_tag h.tag c.sends) outer.0 in
+        let outer = and_parts (is_response_to host h && (not c.done && has_tag h.tag c.sends)) (is_from (slice_get host.devices c.device.0) c.op h) yes_answered in
+        let inner = and_parts (is_response_to host h) (not c.done && has_tag h.tag c.sends) outer.0 in
         by_sends h.tag c.sends refl inner.1
     by_answered h false not_answered given = absurd cc
 

@@ -5,6 +5,7 @@ use Rattle.std.specs.Option.{ForSome}
 use Rattle.aoe_base.specs.declared.address.Mac.{Mac}
 use Rattle.aoe_base.specs.declared.address.TargetId.{TargetId}
 use Rattle.aoe_base.specs.declared.counted.DeviceNo.{DeviceNo}
+use Rattle.aoe_base.specs.declared.counted.Lifetimes.{Lifetimes}
 use Rattle.aoe_base.specs.declared.counted.Ticket.{Ticket}
 use Rattle.aoe_base.specs.Addresses.{IsDistinct}
 use Rattle.aoe_hold.specs.HoldTable.{no_commands as nothing_entered, Recalls as RecallsEntered}
@@ -32,12 +33,12 @@ pub record Waiting : Type 0 where
 abbrev pub unfinished : List HostCommand → List Waiting
 unfinished cs = map (λ c. record { ticket = c.ticket; device = c.device; op = c.op }) (filter (λ c. not c.done) cs)
 
--- what a host keeps: its ports, the lifetime of a frame, how many commands may fly or rest, after how long
+-- what a host keeps: its ports, the lifetimes of frames, how many commands may fly or rest, after how long
 -- a command is given up, its clock, the ticket given last, the tables of its commands, its devices with the
 -- order of the commands there, the commands without an outcome, and the outcomes that wait to be taken
 pub record Host : Type 0 where
   pub ports : List Mac
-  pub life : ℕ
+  pub life : Lifetimes
   pub room : ℕ
   pub dead : ℕ
   pub clock : ℕ
@@ -55,7 +56,7 @@ abbrev pub Ascends : ℕ → List HostCommand → Type 0
 Ascends n [] = Unit {0}
 Ascends n (c ∷ cs) = (n < c.ticket.0) × Ascends c.ticket.0 cs
 
--- each device, counted from a number on, has the commands that a later answer can go by
+-- each device, counted from a number on, has the commands that a later answer can go by; `life` is that of requests
 abbrev pub RecallAll : ℕ → List HostCommand → ℕ → List Device → Type 0
 RecallAll life cs n [] = Unit {0}
 RecallAll life cs n (d ∷ devices) = (d.holds.life ≡ life) × RecallsEntered d.holds (entered_at n cs) × RecallAll life cs (n + 1) devices
@@ -79,7 +80,7 @@ pub record Matches (log : List Event) (host : Host) : Type 0 where
   pub room : host.flight.room ≡ host.room
   pub dead : host.flight.dead ≡ host.dead
   pub sent : RecallsSent host.flight (sent_of (commands log))
-  pub entered : RecallAll host.life (commands log) 0 host.devices
+  pub entered : RecallAll host.life.requests.0 (commands log) 0 host.devices
   pub paths : (n : ℕ) → IfSome (slice_get host.devices n) (HasPaths host.ports (path_log log n))
 
 -- a command that waits has its device, an operation that a frame has room for, and room for its data
@@ -112,7 +113,7 @@ pub record IsConsistent (ports : List Mac) (now last : ℕ) (flight : FlightTabl
   pub given : All (λ p. p.ticket.0 ≤ last) pending
   pub reserved : length pending + length waiting ≤ capacity
 
-abbrev pub new_host : List Mac → ℕ → ℕ → ℕ → Host
+abbrev pub new_host : List Mac → Lifetimes → ℕ → ℕ → Host
 new_host ports life room dead = record {
   ports = ports;
   life = life;
@@ -127,9 +128,9 @@ new_host ports life room dead = record {
 }
 
 abbrev pub new_device : List Mac → TargetId → List Mac → ℕ → ℕ → ℕ → Device
-new_device ports id remotes total max life = record {
+new_device ports id remotes total max requests = record {
   about = record { id = id; remotes = record { items = remotes }; total = total; max = max };
-  holds = nothing_entered life;
+  holds = nothing_entered requests;
   paths = new_paths ports remotes;
 }
 

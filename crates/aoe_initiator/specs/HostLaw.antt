@@ -35,7 +35,7 @@ use Rattle.aoe_initiator.specs.Op.{command_of, span_of}
 use Rattle.aoe_initiator.specs.Request.{request}
 use Rattle.aoe_initiator.specs.Response.{answer, has_flag, outcome_of}
 
--- a command may be sent for the first time, by all commands that were submitted to its device
+-- a command may be sent for the first time, by all commands that were submitted to its device; `life` is that of requests
 abbrev pub is_clear_at : ℕ → ℕ → List HostCommand → HostCommand → Bool
 is_clear_at life now cs c = is_clear life now (entered_at c.device.0 cs) (as_entered c)
 
@@ -75,8 +75,8 @@ pub record IsStart (host : Host) (cs : List HostCommand) (sent : Sent) : Type 0 
   pub command : HostCommand
   pub there : Contains cs command
   pub ticket : command.ticket ≡ sent.ticket
-  pub clear : is_clear_at host.life host.clock cs command ≡ true
-  pub lowest : All (λ other. is_clear_at host.life host.clock cs other ≡ true → sent.ticket.0 ≤ other.ticket.0) cs
+  pub clear : is_clear_at host.life.requests.0 host.clock cs command ≡ true
+  pub lowest : All (λ other. is_clear_at host.life.requests.0 host.clock cs other ≡ true → sent.ticket.0 ≤ other.ticket.0) cs
   pub free : is_taken (live (rest_time host.life) host.clock (sent_of cs)) sent.tag ≡ false
 
 -- what may be sent next is sent
@@ -90,7 +90,7 @@ IsNext host cs sent = IsNextBy sent.again host cs sent
 -- nothing may be sent: nothing is due, and `room` commands fly or rest or no command is clear
 pub record IsQuiet (host : Host) (cs : List HostCommand) : Type 0 where
   pub nothing_due : All (λ o. is_due host.clock o ≡ false) (sent_of cs)
-  pub nothing_clear : (host.room ≤ length (live (rest_time host.life) host.clock (sent_of cs))) ⊎ All (λ c. is_clear_at host.life host.clock cs c ≡ false) cs
+  pub nothing_clear : (host.room ≤ length (live (rest_time host.life) host.clock (sent_of cs))) ⊎ All (λ c. is_clear_at host.life.requests.0 host.clock cs c ≡ false) cs
 
 -- how many commands a device holds unsent
 abbrev pub held_at : Host → ℕ → ℕ
@@ -100,8 +100,8 @@ abbrev pub same_id : TargetId → TargetId → Bool
 same_id a b = nat_eq a.major b.major && nat_eq a.minor b.minor
 
 -- a version 1 response to a port of the host
-abbrev pub is_response : Host → Header → Bool
-is_response host h = nat_eq h.version 1 && has_flag h.flags 0x8 && holds host.ports h.dst
+abbrev pub is_response_to : Host → Header → Bool
+is_response_to host h = nat_eq h.version 1 && has_flag h.flags 0x8 && holds host.ports h.dst
 
 -- it comes from a port of the device and bears its name and the operation's command
 abbrev pub is_from : Option Device → Op → Header → Bool
@@ -114,7 +114,7 @@ has_tag tag (Some s) = nat_eq s.tag tag
 
 -- the header is that of a response to a command that flies
 abbrev pub is_answered : Host → HostCommand → Header → Bool
-is_answered host c h = is_response host h && (not c.done && has_tag h.tag c.sends) && is_from (slice_get host.devices c.device.0) c.op h
+is_answered host c h = is_response_to host h && (not c.done && has_tag h.tag c.sends) && is_from (slice_get host.devices c.device.0) c.op h
 
 -- what a frame answers to a command; nothing where it isn't a well-formed response to it
 abbrev pub answer_to : Host → HostCommand → List ℕ → Option Answer

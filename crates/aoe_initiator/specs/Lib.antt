@@ -1,3 +1,4 @@
+pub mod Defaults
 pub mod Devices
 pub mod Host
 pub mod HostLaw

@@ -69,24 +69,24 @@ fn mark(paths: &mut Paths, missed: Option<PathNo>)
 }
 
 impl Device {
-    /// A device with no commands, and the paths to it from these ports. A frame can arrive as long
-    /// as `life` after it was sent.
+    /// A device with no commands, and the paths to it from these ports. A request can arrive as long
+    /// as `requests` after it was sent.
     pub(crate) fn new(
         alloc: Global,
         about: Attached,
         ports: &Ports,
-        life: Millis,
+        requests: Millis,
     ) -> Result<Device, NoMemory>
         requires local { ports.now.items ≢ [] }
         requires remote { about.remotes.items ≢ [] }
         requires locals_differ { IsDistinct ports.now.items }
         requires remotes_differ { IsDistinct about.remotes.items }
-        ensures { IfOk result (λ d. d ≡ record { about = about; holds = no_commands life.0; paths = new_paths ports.now.items about.remotes.items }) }
+        ensures { IfOk result (λ d. d ≡ record { about = about; holds = no_commands requests.0; paths = new_paths ports.now.items about.remotes.items }) }
     {
         let paths = Paths::new(alloc, ports, &about.remotes)?;
         Ok(Device {
             about,
-            holds: Holds::new(alloc, life),
+            holds: Holds::new(alloc, requests),
             paths,
         })
     }

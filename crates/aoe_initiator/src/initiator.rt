@@ -15,7 +15,7 @@ ghost use Rattle.aoe_initiator.specs.declared.outcome.Done.{Done};
 ghost use Rattle.aoe_initiator.specs.declared.pending.Pending.{Pending};
 ghost use Rattle.aoe_initiator.specs.Devices.{all_clear, change_at, device_at, device_finished, trip_from, IsLowest};
 ghost use Rattle.aoe_initiator.specs.Host.{new_device, new_host, with_device, Closes, IsSame, Matches, RecallAll};
-ghost use Rattle.aoe_initiator.specs.HostLaw.{answer_to, attach_refusal, ended, has_id, held_at, is_from, is_response, submit_refusal, CameOn, GaveUpInTurn, IsFrameOf, IsNext, IsOnNextPath, IsQuiet, Takes};
+ghost use Rattle.aoe_initiator.specs.HostLaw.{answer_to, attach_refusal, ended, has_id, held_at, is_from, is_response_to, submit_refusal, CameOn, GaveUpInTurn, IsFrameOf, IsNext, IsOnNextPath, IsQuiet, Takes};
 ghost use Rattle.aoe_initiator.specs.HostLog.{clock, commands, sent_of, Event, HostCommand};
 ghost use Rattle.aoe_initiator.specs.HostLog.Event.{Advances, Ends, Sends, Submits};
 ghost use Rattle.aoe_initiator.specs.Op.{data_len, CanSubmit};
@@ -33,7 +33,9 @@ use crate::request::write_request;
 use crate::response::{Answer, read_answer};
 use crate::step::{Sent, Taken};
 use crate::wait::{trip_at, wait_after};
-use aoe_base::{Blob, DeviceNo, Mac, Millis, NoMemory, PathNo, Ports, TargetId, Ticket, copy_of};
+use aoe_base::{
+    Blob, DeviceNo, Lifetimes, Mac, Millis, NoMemory, PathNo, Ports, TargetId, Ticket, copy_of,
+};
 use aoe_flight::Flight;
 use aoe_frame::{Frame, HEADER_LEN, Header, RESPONSE_FLAG, read_header};
 use std::alloc::Global;
@@ -56,7 +58,7 @@ pub struct Initiator {
     ports: Ports,
 
     /// How long a frame can arrive after it was sent.
-    life: Millis,
+    life: Lifetimes,
 
     /// The most commands that fly or rest.
     room: u32,
@@ -87,7 +89,7 @@ impl Model for Initiator {
 
     ghost view = { λ i. record {
       ports = i.ports.items;
-      life = i.life.0;
+      life = i.life;
       room = i.room;
       dead = i.dead.0;
       clock = i.clock.0;
@@ -169,22 +171,24 @@ fn close(
 }
 
 impl Initiator {
-    /// A host with these ports, attached to no device. A frame can arrive as long as `life` after
-    /// it was sent, at most `room` commands fly or rest, and a command is given up after `dead`.
+    /// A host with these ports, attached to no device. A frame can arrive as long after it was sent
+    /// as `life` has it for its kind, at most `room` commands fly or rest, and a command is given up
+    /// after `dead`.
     pub fn new(
         alloc: Global,
         ports: &Ports,
-        life: Millis,
+        life: Lifetimes,
         room: u32,
         dead: Millis,
     ) -> Result<Initiator, NoMemory>
         requires port { 0 < length ports.now.items }
         requires differ { IsDistinct ports.now.items }
-        requires life { life.0 ≤ 600000 }
+        requires requests { life.requests.0 ≤ 600000 }
+        requires responses { life.responses.0 ≤ 600000 }
         requires some_room { 0 < room }
         requires room { room ≤ 16384 }
         requires dead { 0 < dead.0 }
-        ensures value { IfOk result (λ host. host ≡ new_host ports.now.items life.0 room dead.0) }
+        ensures value { IfOk result (λ host. host ≡ new_host ports.now.items life room dead.0) }
         ensures matches { IfOk result (λ host. Matches [] host) }
     {
         let flight = Flight::new(alloc, room, life, dead)?;
@@ -224,7 +228,7 @@ impl Initiator {
         ensures number { IfOk result (λ device. device.0 ≡ length self.old.devices) }
         ensures device { OnOk result (self.new
             ≡ with_device self.old
-            (new_device self.old.ports id remotes.now.items total max self.old.life)) }
+            (new_device self.old.ports id remotes.now.items total max self.old.life.requests.0)) }
         ensures matches { OnOk result ((log : List Event) → Matches log self.old
             → Matches log self.new) }
         ensures unchanged { OnErr result (self.new ≡ self.old) }
@@ -244,7 +248,7 @@ impl Initiator {
             total,
             max,
         };
-        let Ok(device) = Device::new(self.alloc, about, &self.ports, self.life) else {
+        let Ok(device) = Device::new(self.alloc, about, &self.ports, self.life.requests) else {
             return Err(AttachRefusal::NoMemory);
         };
         let number = DeviceNo(self.devices.len() as u32);
@@ -491,7 +495,7 @@ impl Initiator {
 
     /// Whether a header is that of a version 1 response to a port of this host.
     fn hears(&self, header: &Header) -> bool
-        ensures { result ≡ is_response self.now header.now }
+        ensures { result ≡ is_response_to self.now header.now }
     {
         header.version == 1 && header.flags & RESPONSE_FLAG != 0 && self.ports.contains(&header.dst)
     }

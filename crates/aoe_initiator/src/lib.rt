@@ -15,12 +15,15 @@
 //! order (`aoe_hold`), frames that aren't answered are repeated (`aoe_flight`), and each goes on
 //! the next path that answers (`aoe_paths`).
 //!
+//! A user without a reason for other numbers takes [`LIFETIMES`], [`ROOM`] and [`DEAD`].
+//!
 //! A host doesn't find devices: its user says which there are, how long they are and how many
 //! sectors they take in one command. It doesn't split what is longer, and it doesn't ask again
 //! what a device refused.
 #![tactic(auto)]
 
 mod counted;
+mod defaults;
 mod device;
 mod initiator;
 mod law;
@@ -34,6 +37,7 @@ mod step;
 mod wait;
 
 pub use aoe_lists::{Dir, MAX_DIRS};
+pub use defaults::{DEAD, LIFETIMES, MOST_ROOM, ROOM};
 pub use device::Attached;
 pub use initiator::{Initiator, MAX_HELD};
 pub use law::held_law;

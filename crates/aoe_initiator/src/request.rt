@@ -4,6 +4,7 @@ ghost use Rattle.arrayvec.specs.ArrayVec.{array_vec_len};
 ghost use Rattle.aoe_ata.specs.Args.{args_bytes};
 ghost use Rattle.aoe_ata.specs.Command.{code_of};
 ghost use Rattle.aoe_frame.specs.Header.{head};
+ghost use Rattle.aoe_lists.specs.Settings.{max_directives};
 ghost use Rattle.aoe_initiator.specs.Request.{arguments, config_bytes, mask_bytes, registers_of, request, request_header, reserve_bytes, write_bytes, CanSpell};
 
 use crate::op::Op;
@@ -57,7 +58,7 @@ pub fn append_config_args(ccmd: u8, text: &[u8], out: &mut Frame)
 
 /// Appends the arguments of a mask list request.
 pub fn append_mask_args(edit: bool, dirs: &[Dir], out: &mut Frame)
-    requires few { length dirs.now ≤ 64 }
+    requires few { length dirs.now ≤ max_directives }
     requires room { array_vec_len out.old + 4 + 8 * length dirs.now ≤ 9018 }
     ensures { out.new.items ≡ out.old.items ++ mask_bytes edit dirs.now }
 {
@@ -70,7 +71,7 @@ pub fn append_mask_args(edit: bool, dirs: &[Dir], out: &mut Frame)
 
 /// Appends the arguments of a reserve request.
 pub fn append_reserve_args(rcmd: u8, list: &[Mac], out: &mut Frame)
-    requires few { length list.now ≤ 64 }
+    requires few { length list.now ≤ max_directives }
     requires room { array_vec_len out.old + 2 + 6 * length list.now ≤ 9018 }
     ensures { out.new.items ≡ out.old.items ++ reserve_bytes rcmd list.now }
 {

@@ -7,7 +7,7 @@ use Rattle.aoe_disk.specs.Sectors.{Calms}
 use Rattle.aoe_disk.proofs.Touching.{settles_calm, may_settle_calm}
 use Rattle.aoe_keep.specs.Body.{decode}
 use Rattle.aoe_keep.specs.Found.{body}
-use Rattle.aoe_keep.specs.Stages.{spare, turn_after, IsKept, IsCleared, IsStaged, IsInterrupted, IsOpened, IsReplaced, WritesGate, WritesBody}
+use Rattle.aoe_keep.specs.Stages.{spare, next_body, IsKept, IsCleared, IsStaged, IsInterrupted, IsOpened, IsReplaced, WritesGate, WritesBody}
 use Rattle.aoe_keep.specs.declared.place.Place.{Place}
 use Rattle.aoe_keep.proofs.Told.{told_then, told_both, both_then, told_link, told_last}
 use Rattle.aoe_keep.proofs.Replacing.{still_closed, close_failed, close_done, clear_failed, clear_done, cleared_finds, body_touched, cleared_calm, stage_done, open_failed, opened, last_failed, replaced}
@@ -72,7 +72,7 @@ module _ (place : Option Place) (lists next : Settings) where
   HasBody piece c = IsCleared place lists c × (body c.bytes (spare place) ≡ piece)
 
   pub staged_ok : {T E S F : Type 0} (k : ℕ) (piece : List ℕ) (wrote : Result S F) (r : S) (result : Result T E) (a b c : Option Contents) → wrote ≡ Ok r
-      → k ≡ spare place → decode piece ≡ Some (record { turn = turn_after place; lists = next })
+      → k ≡ spare place → decode piece ≡ Some (next_body place next)
       → IfSome a (IsCleared place lists) → BothTell (WritesBody k piece wrote) a b → BothTell (Syncs result) b c
       → OnOk result (IfSome c (IsStaged place lists next))
   staged_ok k piece wrote r (Err e) a b c ok is reads cleared writes syncs = tt

@@ -5,6 +5,7 @@ use Rattle.aoe_lists.specs.Settings.{Settings}
 use Rattle.aoe_disk.specs.State.{Contents, DiskState, DeviceCall, BothTell, Read, Sync}
 use Rattle.aoe_disk.specs.Calls.{Logs, Makes, Syncs}
 use Rattle.aoe_disk.proofs.Runs.{makes_one, makes_then, makes_stop}
+use Rattle.aoe_keep.specs.Body.{format_2}
 use Rattle.aoe_keep.specs.Found.{is_open}
 use Rattle.aoe_keep.specs.Stages.{next_place, is_unplaced, spare, turn_after}
 use Rattle.aoe_keep.specs.Calls as calls
@@ -108,13 +109,13 @@ module _ {D : Type 0} (state : D → DiskState) (next : Settings) where
           })
 
       -- no call failed
-      pub replaces : (disk : D) (lists : Settings) {slot turn : ℕ} {is_closed : Bool} → Makes (opening last.place) false (state last.disk) (state disk)
-          → slot ≡ spare last.place → turn ≡ turn_after last.place → is_closed ≡ is_unplaced last.place
+      pub replaces : (disk : D) (lists : Settings) {slot turn format : ℕ} {is_closed : Bool} → Makes (opening last.place) false (state last.disk) (state disk)
+          → slot ≡ spare last.place → turn ≡ turn_after last.place → format ≡ format_2.number → is_closed ≡ is_unplaced last.place
           → ReplacesBy state next false (shown old)
-          (shown (record { disk = disk; lists = lists; place = Some (record { slot = slot; turn = turn }); is_closed = is_closed }))
-      replaces disk lists makes es et ec = record {
+          (shown (record { disk = disk; lists = lists; place = Some (record { slot = slot; turn = turn; format = format }); is_closed = is_closed }))
+      replaces disk lists makes es et ef ec = record {
         calls = all_calls false (state disk) (rw (here ∙ there) at makes);
-        place = (λ i. Some (record { slot = es i; turn = et i })) ∙ ap next_place (here ∙ there);
+        place = (λ i. Some (record { slot = es i; turn = et i; format = ef i })) ∙ ap next_place (here ∙ there);
         closed = ec ∙ ap is_unplaced (here ∙ there);
       }
 

@@ -2,31 +2,41 @@
 use Rattle.std.proofs.Common.{◌≡◌, ◌⊎◌, ◌<◌, ◌+◌, ◌*◌, ◌==◌, ◌&&◌, cond, ℕ, Bool, true, false, Option, Some, None, IfSome, Result, Ok, Err, MatchResult, List, drop, refl, arith, ◌∙◌, ap, inl, inr, slice_index, nat_eq, nat_lt}
 use Rattle.std.proofs.lemmas.Option.{cond_some}
 use Rattle.std.specs.List.{starts_with}
+use Rattle.std.specs.Option.{option_and_then}
 use Rattle.std.proofs.lemmas.Bool.{eqb-true, and_parts, ltb-true}
 use Rattle.aoe_lists.specs.Settings.{Settings, empty_settings}
 use Rattle.aoe_disk.specs.State.{Contents, CanLeave, BothTell, is_loose}
 use Rattle.aoe_disk.specs.Calls.{Settles}
 use Rattle.aoe_disk.specs.Sectors.{Calms}
 use Rattle.aoe_disk.proofs.Touching.{settles_calm, settles_kept}
+use Rattle.aoe_keep.specs.declared.body.Format.{Format}
 use Rattle.aoe_keep.specs.declared.body.Written.{Written}
-use Rattle.aoe_keep.specs.Body.{format_1, mark, decode, decode_by, is_valid, config_len}
-use Rattle.aoe_keep.specs.Found.{slot, body, is_open, next_turn, choice, found, Finds}
-use Rattle.aoe_keep.specs.Stages.{StaysClosed, StaysOpen, IsKept, IsSteady, placement}
+use Rattle.aoe_keep.specs.Body.{format_named, start, mark_in, head_len, decode, decode_by, is_valid, config_len}
+use Rattle.aoe_keep.specs.Found.{slot, body, is_open, next_turn, choice, placement, format_at, format_found, found, Finds}
+use Rattle.aoe_keep.specs.Stages.{StaysClosed, StaysOpen, IsKept, IsSteady}
 use Rattle.aoe_keep.specs.Keep.{ReadsSlots}
 use Rattle.aoe_keep.specs.declared.place.Place.{Place}
 use Rattle.aoe_keep.specs.declared.mount.Present.{Present}
 use Rattle.aoe_keep.proofs.Slots.{gate_same, body_same, left_same}
-use Rattle.aoe_keep.proofs.Told.{both_map, told_last}
+use Rattle.aoe_keep.proofs.Told.{both_map, told_last, told_then}
+
+-- what a body spells it spells by one format
+spelled_by : (o : Option Format) (bytes : List ℕ) (b : Written) → option_and_then (λ f. decode_by f bytes) o ≡ Some b → (f : Format) × (decode_by f bytes ≡ Some b)
+spelled_by None bytes b e = absurd cc
+spelled_by (Some f) bytes b e = (f, e)
 
 -- a turn that was read is one of three
-turn_small : (bytes : List ℕ) (b : Written) → decode bytes ≡ Some b → b.turn < 3
+turn_small_by : (f : Format) (bytes : List ℕ) (b : Written) → decode_by f bytes ≡ Some b → b.turn < 3
 unfolding decode_by is_valid
-turn_small bytes b e =
-    let w = cond_some (starts_with nat_eq bytes (mark format_1) && is_valid format_1 (slice_index bytes 5) (config_len bytes) (slice_index bytes 8) (slice_index bytes 9) (drop 10 bytes)) _ b e in
-    let valid = (and_parts (starts_with nat_eq bytes (mark format_1)) _ w.0).1 in
+turn_small_by f bytes b e =
+    let w = cond_some (starts_with nat_eq bytes (start f) && is_valid f (slice_index bytes 5) (config_len bytes) (slice_index bytes 8) (slice_index bytes 9) (mark_in f bytes) (drop (head_len f) bytes)) _ b e in
+    let valid = (and_parts (starts_with nat_eq bytes (start f)) _ w.0).1 in
     let less : slice_index bytes 5 < 3 = ltb-true _ 3 (and_parts (nat_lt (slice_index bytes 5) 3) _ (and_parts _ _ valid).0).0 in
     let same : slice_index bytes 5 ≡ b.turn = ap (λ (p : Written). p.turn) w.1 in
     omega (arith, less, same)
+
+turn_small : (bytes : List ℕ) (b : Written) → decode bytes ≡ Some b → b.turn < 3
+turn_small bytes b e = let by = spelled_by (format_named (slice_index bytes 4)) bytes b e in turn_small_by by.0 bytes b by.1
 
 chosen : {X : Type 0} (t : Bool) (x y z : X) → cond t x y ≡ z → ((t ≡ true) × (x ≡ z)) ⊎ ((t ≡ false) × (y ≡ z))
 chosen true x y z e = inl (refl, e)
@@ -34,7 +44,8 @@ chosen false x y z e = inr (refl, e)
 
 -- the later of two open slots
 abbrev later : Bool → Written → Written → Option Place × Bool
-later t a b = cond t (Some (record { slot = 0; turn = a.turn }), false) (Some (record { slot = 1; turn = b.turn }), false)
+later t a b =
+    cond t (Some (record { slot = 0; turn = a.turn; format = a.format }), false) (Some (record { slot = 1; turn = b.turn; format = b.format }), false)
 
 module _ (c : Contents) (kept : (s : ℕ) → is_loose c.loose s ≡ false) where
   open_from : (k : ℕ) (b : Written) → slot c.bytes k ≡ Some (Some b) → StaysOpen c k b
@@ -59,7 +70,7 @@ module _ (c : Contents) (kept : (s : ℕ) → is_loose c.loose s ≡ false) wher
   turn_of k b h = turn_small (body c.bytes k) b h.body.spells
 
   steady_in : (k : ℕ) (b : Written) (lists : Settings) → k < 2 → b.lists ≡ lists → StaysOpen c k b
-      → IsSteady (Some (record { slot = k; turn = b.turn })) lists c
+      → IsSteady (Some (record { slot = k; turn = b.turn; format = b.format })) lists c
   steady_in k b lists lt same h = (lt, turn_of k b h, rw same at h)
 
   both_open : (a b : Written) (lists : Settings) → StaysOpen c 0 a → StaysOpen c 1 b → (t : Bool) → (a.turn == next_turn b.turn) ≡ t
@@ -128,3 +139,12 @@ pub always_found : (lists : Settings) (a b : Option Contents) → BothTell (λ x
     → IfSome b (Finds (λ l. l ≡ lists))
 always_found lists a b told = told_last (λ x y. (found x.bytes ≡ Ok lists) × Settles x y) (Finds (λ l. l ≡ lists)) a b
     (λ x y (h : (found x.bytes ≡ Ok lists) × Settles x y). finds_kept y (settles_kept x y h.1) lists (ap found h.1.bytes ∙ h.0)) told
+
+-- and it finds them in the format in which they stand
+pub always_format : (place : Option Place) (is_closed : Bool) (lists : Settings) (a b : Option Contents)
+    → IfSome a (λ x. placement (slot x.bytes 0) (slot x.bytes 1) ≡ (place, is_closed)) → BothTell (λ x y. (found x.bytes ≡ Ok lists) × Settles x y) a b
+    → IfSome b (λ y. (image : List ℕ) → CanLeave y image → format_found image ≡ format_at place)
+always_format place is_closed lists a b stands told = told_then _ _ _ a b (λ x y (p : placement (slot x.bytes 0) (slot x.bytes 1) ≡ (place, is_closed)) (h : (found x.bytes ≡ Ok lists) × Settles x y). λ image left.
+    let kept = settles_kept x y h.1 in
+    (λ i. format_at (placement (slot_left y kept image 0 left i) (slot_left y kept image 1 left i)).0) ∙ ap format_found h.1.bytes ∙ ap (λ (q : Option Place × Bool). format_at q.0) p)
+    stands told

@@ -64,13 +64,13 @@ outcome place lists None = lists
 outcome None lists (Some b) = b.lists
 outcome (Some p) lists (Some b) = cond (b.turn == next_turn p.turn) b.lists lists
 
-first_holds : (t : ℕ) (lists : Settings) (b : Written) → t < 3 → b.turn < 3 → b.turn ≢ t
-    → choice (Some (Some (record { turn = t; lists = lists }))) (Some (Some b)) ≡ Ok (cond (b.turn == next_turn t) b.lists lists)
-first_holds t lists b lt lb ne = grind (arith, nat_tests, rivals b.turn t lb lt ne)
+first_holds : (t n : ℕ) (lists : Settings) (b : Written) → t < 3 → b.turn < 3 → b.turn ≢ t
+    → choice (Some (Some (record { format = n; turn = t; lists = lists }))) (Some (Some b)) ≡ Ok (cond (b.turn == next_turn t) b.lists lists)
+first_holds t n lists b lt lb ne = grind (arith, nat_tests, rivals b.turn t lb lt ne)
 
-second_holds : (t : ℕ) (lists : Settings) (b : Written) → t < 3 → b.turn < 3 → b.turn ≢ t
-    → choice (Some (Some b)) (Some (Some (record { turn = t; lists = lists }))) ≡ Ok (cond (b.turn == next_turn t) b.lists lists)
-second_holds t lists b lt lb ne = grind (arith, nat_tests, rivals b.turn t lb lt ne)
+second_holds : (t n : ℕ) (lists : Settings) (b : Written) → t < 3 → b.turn < 3 → b.turn ≢ t
+    → choice (Some (Some b)) (Some (Some (record { format = n; turn = t; lists = lists }))) ≡ Ok (cond (b.turn == next_turn t) b.lists lists)
+second_holds t n lists b lt lb ne = grind (arith, nat_tests, rivals b.turn t lb lt ne)
 
 -- a slot that isn't bad
 abbrev pub seen : Option Written → Option (Option Written)
@@ -84,20 +84,20 @@ IsRival place (Some b) = IsOtherTurn place b.turn
 found_of : (image : List ℕ) (a b : Option (Option Written)) → slot image 0 ≡ a → slot image 1 ≡ b → found image ≡ choice a b
 found_of image a b ea eb = λ i. choice (ea i) (eb i)
 
-found_some : (k t : ℕ) (lists : Settings) (c : Contents) (image : List ℕ) (o : Option Written) → k < 2 → t < 3
-    → StaysOpen c k (record { turn = t; lists = lists }) → CanLeave c image
-    → slot image (1 - k) ≡ seen o → IsRival (Some (record { slot = k; turn = t })) o → found image ≡ Ok (outcome (Some (record { slot = k; turn = t })) lists o)
-found_some zero t lists c image None lk lt holds left e rival = found_of image _ _ (open_after c 0 (record { turn = t; lists = lists }) image holds left) e
-found_some zero t lists c image (Some b) lk lt holds left e rival = found_of image _ _ (open_after c 0 (record { turn = t; lists = lists }) image holds left) e ∙ first_holds t lists b lt rival.0 rival.1
-found_some (suc zero) t lists c image None lk lt holds left e rival = found_of image _ _ e (open_after c 1 (record { turn = t; lists = lists }) image holds left)
-found_some (suc zero) t lists c image (Some b) lk lt holds left e rival = found_of image _ _ e (open_after c 1 (record { turn = t; lists = lists }) image holds left) ∙ second_holds t lists b lt rival.0 rival.1
-found_some (suc (suc k)) t lists c image o lk lt holds left e rival = absurd (omega (arith, lk))
+found_some : (k t n : ℕ) (lists : Settings) (c : Contents) (image : List ℕ) (o : Option Written) → k < 2 → t < 3
+    → StaysOpen c k (record { format = n; turn = t; lists = lists }) → CanLeave c image
+    → slot image (1 - k) ≡ seen o → IsRival (Some (record { slot = k; turn = t; format = n })) o → found image ≡ Ok (outcome (Some (record { slot = k; turn = t; format = n })) lists o)
+found_some zero t n lists c image None lk lt holds left e rival = found_of image _ _ (open_after c 0 (record { format = n; turn = t; lists = lists }) image holds left) e
+found_some zero t n lists c image (Some b) lk lt holds left e rival = found_of image _ _ (open_after c 0 (record { format = n; turn = t; lists = lists }) image holds left) e ∙ first_holds t n lists b lt rival.0 rival.1
+found_some (suc zero) t n lists c image None lk lt holds left e rival = found_of image _ _ e (open_after c 1 (record { format = n; turn = t; lists = lists }) image holds left)
+found_some (suc zero) t n lists c image (Some b) lk lt holds left e rival = found_of image _ _ e (open_after c 1 (record { format = n; turn = t; lists = lists }) image holds left) ∙ second_holds t n lists b lt rival.0 rival.1
+found_some (suc (suc k)) t n lists c image o lk lt holds left e rival = absurd (omega (arith, lk))
 
 pub found_by : (place : Option Place) (lists : Settings) (c : Contents) (image : List ℕ) (o : Option Written) → IsSteady place lists c → CanLeave c image
     → slot image (spare place) ≡ seen o → IsRival place o → found image ≡ Ok (outcome place lists o)
 found_by None lists c image None steady left e rival = found_of image _ _ e (closed_after c 1 image steady.1 left) ∙ ap (λ (x : Settings). let r : Result Settings ℕ = Ok x in r) (sym steady.0)
 found_by None lists c image (Some b) steady left e rival = found_of image _ _ e (closed_after c 1 image steady.1 left)
-found_by (Some p) lists c image o steady left e rival = found_some p.slot p.turn lists c image o steady.0 steady.1 steady.2 left e rival
+found_by (Some p) lists c image o steady left e rival = found_some p.slot p.turn p.format lists c image o steady.0 steady.1 steady.2 left e rival
 
 pub spare_small : (place : Option Place) → spare place ≤ 1
 spare_small None = omega arith

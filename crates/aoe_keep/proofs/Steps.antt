@@ -46,7 +46,7 @@ steady_touch (Some p) lists lo n old new within touch steady =
       record {
         gate = gate_same new.bytes old.bytes p.slot (λ s l h. touch.same s (out s (omega arith) (omega arith))) ∙ steady.2.gate;
         kept = λ s l h. touch.kept s (out s (omega arith) (omega arith)) (steady.2.kept s l h);
-        body = body_touch lo n old new touch p.slot (record { turn = p.turn; lists = lists }) (λ s l h. out s (omega arith) (omega arith)) steady.2.body;
+        body = body_touch lo n old new touch p.slot (record { format = p.format; turn = p.turn; lists = lists }) (λ s l h. out s (omega arith) (omega arith)) steady.2.body;
       },
     )
 

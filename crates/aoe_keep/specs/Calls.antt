@@ -3,10 +3,10 @@ use Rattle.std.specs.Prelude.{ℕ, ◌≡◌, ◌+◌, ◌*◌, ◌==◌, Bool, 
 use Rattle.aoe_lists.specs.Settings.{Settings}
 use Rattle.aoe_disk.specs.State.{DiskState, DeviceCall, Read, Write, Sync}
 use Rattle.aoe_disk.specs.Calls.{Makes}
-use Rattle.aoe_keep.specs.Body.{format_1, spelling}
-use Rattle.aoe_keep.specs.Found.{is_open, slot}
+use Rattle.aoe_keep.specs.Body.{format_2, spelling}
+use Rattle.aoe_keep.specs.Found.{is_open, placement, slot}
 use Rattle.aoe_keep.specs.Keep.{Kept}
-use Rattle.aoe_keep.specs.Stages.{spare, turn_after, next_place, is_unplaced, placement}
+use Rattle.aoe_keep.specs.Stages.{spare, turn_after, next_place, is_unplaced}
 use Rattle.aoe_keep.specs.declared.place.Place.{Place}
 use Rattle.aoe_keep.specs.declared.mounted.Mounted.{Mounted}
 use Rattle.aoe_keep.specs.declared.refusal.MountRefusal.{MountRefusal}
@@ -20,7 +20,7 @@ abbrev pub write_gate : Option Place → Bool → DeviceCall
 write_gate place opens = Write (8 * spare place) (gate opens)
 
 abbrev pub write_body : Option Place → Settings → DeviceCall
-write_body place next = Write (8 * spare place + 1) (spelling format_1 (turn_after place) next)
+write_body place next = Write (8 * spare place + 1) (spelling format_2 (turn_after place) next)
 
 -- the gate of the spare slot is written closed; where it is known to be closed a sync stands in the place of the write
 abbrev pub close_gate : Option Place → Bool → DeviceCall

@@ -1,9 +1,10 @@
--- Which lists stand in an image, and which lists a loss of power can leave.
-use Rattle.std.specs.Prelude.{◌≡◌, ◌⊎◌, ◌+◌, ◌*◌, ◌%◌, ◌==◌, ℕ, Bool, Option, None, Some, IfSome, List, take, drop, get_or, Result, Ok, Err, if◌then◌else◌}
+-- Which lists stand in an image, in which format, and which lists a loss of power can leave.
+use Rattle.std.specs.Prelude.{◌≡◌, ◌⊎◌, ◌+◌, ◌*◌, ◌%◌, ◌==◌, ℕ, Bool, true, false, Option, None, Some, IfSome, List, take, drop, get_or, Result, Ok, Err, if◌then◌else◌}
 use Rattle.aoe_lists.specs.Settings.{Settings, empty_settings}
 use Rattle.aoe_disk.specs.State.{Contents, DiskState, CanLeave, BothTell, sector}
 use Rattle.aoe_keep.specs.Body.{decode}
 use Rattle.aoe_keep.specs.declared.body.Written.{Written}
+use Rattle.aoe_keep.specs.declared.place.Place.{Place}
 
 abbrev pub next_turn : ℕ → ℕ
 next_turn turn = (turn + 1) % 3
@@ -32,6 +33,29 @@ choice (Some (Some a)) (Some (Some b)) =
     if a.turn == next_turn b.turn then Ok a.lists
     else if b.turn == next_turn a.turn then Ok b.lists
     else Err 1
+
+-- where the lists of two slots stand, and whether the gate of the other slot is closed
+abbrev pub placement : Option (Option Written) → Option (Option Written) → Option Place × Bool
+placement None (Some (Some b)) = (Some (record { slot = 1; turn = b.turn; format = b.format }), true)
+placement (Some (Some a)) None = (Some (record { slot = 0; turn = a.turn; format = a.format }), true)
+placement (Some (Some a)) (Some (Some b)) =
+    if a.turn == next_turn b.turn
+    then (Some (record { slot = 0; turn = a.turn; format = a.format }), false)
+    else (Some (record { slot = 1; turn = b.turn; format = b.format }), false)
+placement a b = (None, true)
+
+-- the format of the slot that holds the lists, 0 where none does
+abbrev pub format_at : Option Place → ℕ
+format_at None = 0
+format_at (Some p) = p.format
+
+-- the format in which the lists of an image stand
+abbrev pub format_found : List ℕ → ℕ
+format_found image = format_at (placement (slot image 0) (slot image 1)).0
+
+-- of a disk that tells its contents: every crash finds the lists in this format
+abbrev pub AlwaysFindsFormat : DiskState → ℕ → Type 0
+AlwaysFindsFormat disk format = IfSome disk.contents (λ c. (image : List ℕ) → CanLeave c image → format_found image ≡ format)
 
 -- the lists that stand in an image, or the slot that is bad
 abbrev pub found : List ℕ → Result Settings ℕ

@@ -4,16 +4,17 @@ use Rattle.aoe_lists.specs.Settings.{Settings}
 use Rattle.aoe_disk.specs.State.{DiskState, Contents, BothTell}
 use Rattle.aoe_disk.specs.Calls.{IsRun, Settles}
 use Rattle.aoe_disk.specs.Sectors.{Calms, Touches}
-use Rattle.aoe_keep.specs.Found.{found, slot, AlwaysFinds}
-use Rattle.aoe_keep.specs.Stages.{IsKept, IsCleared, IsStaged, IsInterrupted, IsReplaced, placement}
+use Rattle.aoe_keep.specs.Body.{format_2}
+use Rattle.aoe_keep.specs.Found.{found, placement, slot, AlwaysFinds, AlwaysFindsFormat}
+use Rattle.aoe_keep.specs.Stages.{IsKept, IsCleared, IsStaged, IsInterrupted, IsReplaced}
 use Rattle.aoe_keep.specs.declared.mounted.Mounted.{Mounted}
 use Rattle.aoe_keep.specs.declared.mount.Present.{Present}
 use Rattle.aoe_keep.specs.declared.place.Place.{Place}
 use Rattle.aoe_keep.specs.declared.refusal.MountRefusal.{MountRefusal}
 use Rattle.aoe_keep.specs.declared.refusal.MountRefusal.TheVariants.{Failed, TooSmall, BadKeep}
 
--- what a keep shows: its disk, the lists that it keeps there, the slot where these stand with the turn of its body, if they stand in
--- one, and whether the gate of the other slot is known to be closed
+-- what a keep shows: its disk, the lists that it keeps there, the slot where these stand with the turn and the format of its body, if
+-- they stand in one, and whether the gate of the other slot is known to be closed
 pub record Kept (D : Type 0) : Type 0 where
   pub disk : D
   pub lists : Settings
@@ -52,6 +53,7 @@ pub record HasReplaced {D : Type 0} (state : D → DiskState) (next : Settings) 
   pub lists : k.lists ≡ next
   pub mounted : IsAtRest state k
   pub finds : AlwaysFinds (state k.disk) next
+  pub format : AlwaysFindsFormat (state k.disk) format_2.number
 
 -- a call of the disk failed on the way to the next lists
 pub record HasFailed {D : Type 0} (state : D → DiskState) (next : Settings) (old new : Mounted D) : Type 0 where

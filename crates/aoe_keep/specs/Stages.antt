@@ -1,10 +1,10 @@
 -- What is known of a keep's disk, after each of the device calls that replace its lists.
-use Rattle.std.specs.Prelude.{◌≡◌, ◌≢◌, ◌⊎◌, ◌+◌, ◌-◌, ◌*◌, ◌<◌, ◌≤◌, ◌==◌, ℕ, Bool, true, false, Option, None, Some, List, Result, OnOk, if◌then◌else◌}
+use Rattle.std.specs.Prelude.{◌≡◌, ◌≢◌, ◌⊎◌, ◌+◌, ◌-◌, ◌*◌, ◌<◌, ◌≤◌, ℕ, Bool, true, false, Option, None, Some, List, Result, OnOk}
 use Rattle.aoe_lists.specs.Settings.{Settings, empty_settings}
-use Rattle.aoe_disk.specs.State.{Contents, HasShape, is_loose}
+use Rattle.aoe_disk.specs.State.{Contents, CanLeave, HasShape, is_loose}
 use Rattle.aoe_disk.specs.Sectors.{Touches}
-use Rattle.aoe_keep.specs.Body.{decode}
-use Rattle.aoe_keep.specs.Found.{body, is_open, next_turn, Finds, IsOffered}
+use Rattle.aoe_keep.specs.Body.{decode, format_2}
+use Rattle.aoe_keep.specs.Found.{body, is_open, next_turn, format_found, Finds, IsOffered}
 use Rattle.aoe_keep.specs.declared.body.Written.{Written}
 use Rattle.aoe_keep.specs.declared.place.Place.{Place}
 
@@ -41,7 +41,7 @@ turn_after (Some p) = next_turn p.turn
 -- whatever a crash does, the present lists stand; where no slot holds them they are empty, and slot 1 is closed
 abbrev pub IsSteady : Option Place → Settings → Contents → Type 0
 IsSteady None lists c = (lists ≡ empty_settings) × StaysClosed c 1
-IsSteady (Some p) lists c = (p.slot < 2) × (p.turn < 3) × StaysOpen c p.slot (record { turn = p.turn; lists = lists })
+IsSteady (Some p) lists c = (p.slot < 2) × (p.turn < 3) × StaysOpen c p.slot (record { format = p.format; turn = p.turn; lists = lists })
 
 -- a turn that isn't the present lists' own
 abbrev pub IsOtherTurn : Option Place → ℕ → Type 0
@@ -69,16 +69,20 @@ pub record IsCleared (place : Option Place) (lists : Settings) (c : Contents) : 
   pub steady : IsSteady place lists c
   pub closed : StaysClosed c (spare place)
 
+-- the body of the next lists
+abbrev pub next_body : Option Place → Settings → Written
+next_body place next = record { format = format_2.number; turn = turn_after place; lists = next }
+
 -- after the fourth call: the next lists stand behind the closed gate
 pub record IsStaged (place : Option Place) (lists next : Settings) (c : Contents) : Type 0 where
   pub cleared : IsCleared place lists c
-  pub body : StaysBody c (spare place) (record { turn = turn_after place; lists = next })
+  pub body : StaysBody c (spare place) (next_body place next)
 
 -- after the fifth call: the gate is open
 pub record IsOpened (place : Option Place) (lists next : Settings) (c : Contents) : Type 0 where
   pub steady : IsSteady place lists c
   pub gate : is_open c.bytes (spare place) ≡ true
-  pub body : StaysBody c (spare place) (record { turn = turn_after place; lists = next })
+  pub body : StaysBody c (spare place) (next_body place next)
 
 -- after the sixth call the other slot is the spare one: its gate is known to be closed where it held nothing
 abbrev pub is_unplaced : Option Place → Bool
@@ -86,11 +90,12 @@ is_unplaced None = true
 is_unplaced (Some p) = false
 
 abbrev pub next_place : Option Place → Option Place
-next_place place = Some (record { slot = spare place; turn = turn_after place })
+next_place place = Some (record { slot = spare place; turn = turn_after place; format = format_2.number })
 
 pub record IsReplaced (place : Option Place) (next : Settings) (c : Contents) : Type 0 where
   pub kept : IsKept (next_place place) (is_unplaced place) next c
   pub finds : Finds (λ l. l ≡ next) c
+  pub format : (image : List ℕ) → CanLeave c image → format_found image ≡ format_2.number
 
 -- after a call that failed
 pub record IsInterrupted (place : Option Place) (is_closed : Bool) (lists next : Settings) (before after : Contents) : Type 0 where
@@ -108,11 +113,3 @@ pub record WritesGate {T E : Type 0} (sectors k : ℕ) (opens : Bool) (result : 
 pub record WritesBody {T E : Type 0} (k : ℕ) (piece : List ℕ) (result : Result T E) (old new : Contents) : Type 0 where
   pub touches : Touches (8 * k + 1) 7 old new
   pub body : OnOk result (body new.bytes k ≡ piece)
-
--- where the lists of two slots stand, and whether the gate of the spare slot is closed
-abbrev pub placement : Option (Option Written) → Option (Option Written) → Option Place × Bool
-placement None (Some (Some b)) = (Some (record { slot = 1; turn = b.turn }), true)
-placement (Some (Some a)) None = (Some (record { slot = 0; turn = a.turn }), true)
-placement (Some (Some a)) (Some (Some b)) =
-    if a.turn == next_turn b.turn then (Some (record { slot = 0; turn = a.turn }), false) else (Some (record { slot = 1; turn = b.turn }), false)
-placement a b = (None, true)

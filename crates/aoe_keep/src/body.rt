@@ -6,11 +6,12 @@
 //! | 4 | 1 | number of the format |
 //! | 5 | 1 | turn, 0 to 2 |
 //! | 6 | 2 | length of the config string, at most 1024, the high byte first |
-//! | 8 | 1 | number of masks, at most as many as the format has |
+//! | 8 | 1 | number of masks, at most 64 in format 1 and 180 in format 2 |
 //! | 9 | 1 | number of reserves, as many at most |
-//! | 10 | | config string, then masks, then reserves, six bytes to an address |
+//! | 10 | 1 | in format 2: 1 read-only, 0 not. In format 1 this byte is the first of what follows |
+//! | 11 | | config string, then masks, then reserves, six bytes to an address |
 //! | | | zeros to byte 3584 |
-ghost use Rattle.std.specs.Prelude.{◌≡◌, ◌≤◌, ◌<◌, ◌+◌, ◌-◌, ◌*◌, ◌++◌, ◌==◌, ◌↔◌, ℕ, List, [], None, Some, true, false, length, replicate, MatchOption};
+ghost use Rattle.std.specs.Prelude.{◌≡◌, ◌≤◌, ◌<◌, ◌+◌, ◌-◌, ◌*◌, ◌++◌, ◌==◌, ◌↔◌, ℕ, List, [], IfSome, None, Some, true, false, drop, length, replicate, MatchOption};
 ghost use Rattle.std.specs.List.{All, flat_map, list_all};
 ghost use Rattle.std.specs.Simd.{first_chunks};
 ghost use Rattle.aoe_base.specs.Addresses.{all_unique, holds};
@@ -18,10 +19,10 @@ ghost use Rattle.aoe_lists.specs.Reserves.{addresses};
 ghost use Rattle.aoe_lists.specs.Settings.{Settings, max_addresses, max_config};
 ghost use Rattle.aoe_keep.specs.declared.body.Format.{Format};
 ghost use Rattle.aoe_keep.specs.declared.body.Written.{Written};
-ghost use Rattle.aoe_keep.specs.Body.{decode, decode_by, format_1, spelling, head_of, fields_of, is_valid, sizes_fit, Fits, HasFault, IsFormat};
+ghost use Rattle.aoe_keep.specs.Body.{decode, decode_by, format_2, format_named, spelling, head_len, head_of, fields_of, is_valid, mark_in, sizes_fit, Fits, HasFault, IsFormat};
 
 use aoe_base::Mac;
-use aoe_lists::{AddressList, Lists, MAX_CONFIG};
+use aoe_lists::{AddressList, Lists, MAX_ADDRESSES, MAX_CONFIG};
 use arrayvec::ArrayVec;
 
 /// How many bytes a body has: seven sectors.
@@ -32,9 +33,6 @@ pub(crate) type Body = ArrayVec<u8, BODY>;
 
 /// What every body begins with.
 pub(crate) const MARK: [u8; 4] = [b'A', b'o', b'E', b'K'];
-
-/// How many bytes stand before the config string.
-const HEAD: usize = 10;
 
 /// The last turn.
 const LAST_TURN: u8 = 2;
@@ -47,17 +45,32 @@ pub(crate) struct Format {
 
     /// The most addresses that a list has.
     most: usize,
+
+    /// Whether a byte says that the device is read-only.
+    has_mark: bool,
 }
 
-/// The format that keeps have.
-const FORMAT: Format = Format {
+/// The number of the format that is written.
+pub(crate) const WRITTEN: u8 = 2;
+
+/// The format of keeps that were written before lists had a mark.
+const FORMAT_1: Format = Format {
     number: 1,
     most: 64,
+    has_mark: false,
+};
+
+/// The format that is written.
+const FORMAT_2: Format = Format {
+    number: WRITTEN,
+    most: MAX_ADDRESSES,
+    has_mark: true,
 };
 
 /// What a body spells.
 #[derive(Drop)]
 pub(crate) struct Written {
+    pub(crate) format: u8,
     pub(crate) turn: u8,
     pub(crate) lists: Lists,
 }
@@ -83,17 +96,21 @@ fn append_addresses(body: &mut Body, list: &[Mac])
 }
 
 /// Appends the bytes before the fields.
-fn append_head(body: &mut Body, format: Format, turn: u8, lists: &Lists)
+fn append_head(body: &mut Body, turn: u8, lists: &Lists)
     requires { body.old.items ≡ [] }
-    ensures items { body.new.items ≡ head_of format turn lists.now }
+    ensures items { body.new.items ≡ head_of format_2 turn lists.now }
     ensures config { length lists.now.config ≤ max_config }
     ensures masks { length lists.now.masks ≤ max_addresses }
     ensures reserves { length lists.now.reserves ≤ max_addresses }
 {
     append(body, &MARK);
-    append(body, &[format.number, turn]);
+    append(body, &[WRITTEN, turn]);
     append(body, &(lists.config.len() as u16).to_be_bytes());
-    append(body, &[lists.masks.len() as u8, lists.reserves.len() as u8]);
+    let mark = if lists.read_only { 1 } else { 0 };
+    append(
+        body,
+        &[lists.masks.len() as u8, lists.reserves.len() as u8, mark],
+    );
 }
 
 /// Appends zeros to the end.
@@ -109,12 +126,13 @@ fn append_zeros(body: &mut Body)
 /// The body that spells these lists with a turn.
 pub(crate) fn spell(turn: u8, lists: &Lists) -> Body
     requires { turn < 3 }
-    ensures items { result.items ≡ spelling format_1 turn lists.now }
+    ensures items { result.items ≡ spelling format_2 turn lists.now }
     ensures len { length result.items ≡ 3584 }
-    ensures read { decode result.items ≡ Some (record { turn = turn; lists = lists.now }) }
+    ensures read { decode result.items
+        ≡ Some (record { format = 2; turn = turn; lists = lists.now }) }
 {
     let mut body = Body::new();
-    append_head(&mut body, FORMAT, turn, lists);
+    append_head(&mut body, turn, lists);
     append(&mut body, lists.config.as_slice());
     append_addresses(&mut body, lists.masks.as_slice());
     append_addresses(&mut body, lists.reserves.as_slice());
@@ -157,13 +175,24 @@ fn read_addresses(bytes: &[u8], count: usize) -> Option<AddressList>
 }
 
 /// Whether the numbers before the fields have values of the format.
-fn are_sizes(format: Format, turn: u8, config: usize, masks: usize, reserves: usize) -> bool
-    ensures value { result ≡ sizes_fit format turn config masks reserves }
+fn are_sizes(
+    format: Format,
+    turn: u8,
+    config: usize,
+    masks: usize,
+    reserves: usize,
+    mark: u8,
+) -> bool
+    ensures value { result ≡ sizes_fit format turn config masks reserves mark }
     ensures config { result ≡ true → config ≤ max_config }
     ensures masks { result ≡ true → masks ≤ format.most }
     ensures reserves { result ≡ true → reserves ≤ format.most }
 {
-    turn <= LAST_TURN && config <= MAX_CONFIG && masks <= format.most && reserves <= format.most
+    turn <= LAST_TURN
+        && config <= MAX_CONFIG
+        && masks <= format.most
+        && reserves <= format.most
+        && mark <= 1
 }
 
 /// Whether all bytes are zero.
@@ -180,15 +209,16 @@ fn read_fields(
     config: usize,
     masks: usize,
     reserves: usize,
+    mark: u8,
     rest: &[u8],
 ) -> Option<Lists>
-    requires len { length rest.now ≡ 3574 }
+    requires len { 3573 ≤ length rest.now }
     requires most { format.most ≤ max_addresses }
-    ensures { MatchOption result (is_valid format turn config masks reserves rest.now ≡ false)
-        (λ lists. (is_valid format turn config masks reserves rest.now ≡ true)
-        × (lists ≡ fields_of config masks reserves rest.now)) }
+    ensures { MatchOption result (is_valid format turn config masks reserves mark rest.now ≡ false)
+        (λ lists. (is_valid format turn config masks reserves mark rest.now ≡ true)
+        × (lists ≡ fields_of config masks reserves mark rest.now)) }
 {
-    if !are_sizes(format, turn, config, masks, reserves) {
+    if !are_sizes(format, turn, config, masks, reserves, mark) {
         return None;
     }
     let reserves_at = config + 6 * masks;
@@ -204,10 +234,28 @@ fn read_fields(
         config: string,
         masks,
         reserves,
+        read_only: mark == 1,
     })
 }
 
-/// The turn and the lists that a body spells by a format.
+/// The byte of the mark, which is clear where the format has none.
+fn mark_of(format: Format, body: &[u8]) -> u8
+    requires { length body.now ≡ 3584 }
+    ensures { result ≡ mark_in format body.now }
+{
+    if format.has_mark { body[10] } else { 0 }
+}
+
+/// The bytes behind the numbers.
+fn behind_numbers(format: Format, body: &[u8]) -> &[u8]
+    requires { length body.now ≡ 3584 }
+    ensures value { result.now ≡ drop (head_len format) body.now }
+    ensures len { 3573 ≤ length result.now }
+{
+    &body[if format.has_mark { 11 } else { 10 }..]
+}
+
+/// What a body spells by a format.
 fn read_by(format: Format, body: &[u8]) -> Option<Written>
     requires len { length body.now ≡ 3584 }
     requires most { format.most ≤ max_addresses }
@@ -221,16 +269,34 @@ fn read_by(format: Format, body: &[u8]) -> Option<Written>
     let config = usize::from(u16::from_be_bytes([body[6], body[7]]));
     let masks = usize::from(body[8]);
     let reserves = usize::from(body[9]);
-    let lists = read_fields(format, turn, config, masks, reserves, &body[HEAD..])?;
-    Some(Written { turn, lists })
+    let mark = mark_of(format, body);
+    let rest = behind_numbers(format, body);
+    let lists = read_fields(format, turn, config, masks, reserves, mark, rest)?;
+    Some(Written {
+        format: format.number,
+        turn,
+        lists,
+    })
 }
 
-/// The turn and the lists that a body spells.
+/// The format of a number.
+fn named(number: u8) -> Option<Format>
+    ensures value { result ≡ format_named number }
+    ensures most { IfSome result (λ f. f.most ≤ max_addresses) }
+{
+    match number {
+        1 => Some(FORMAT_1),
+        2 => Some(FORMAT_2),
+        _ => None,
+    }
+}
+
+/// What a body spells, by the format that it names.
 pub(crate) fn read(body: &[u8]) -> Option<Written>
     requires { length body.now ≡ 3584 }
     ensures { result ≡ decode body.now }
 {
-    read_by(FORMAT, body)
+    read_by(named(body[4])?, body)
 }
 
 /// A law: a body that spells lists is the one that `replace` writes for them, so no two bodies spell
@@ -242,10 +308,11 @@ pub fn a_body_is_the_one_spelling()
 
 /// A law: what is spelled is read again, and there are as many bytes of it as a body has.
 pub fn spelled_lists_are_read()
-    ensures read { (f : Format) (b : Written) → Fits f b.turn b.lists
-        → decode_by f (spelling f b.turn b.lists) ≡ Some b }
-    ensures len { (f : Format) (b : Written) → IsFormat f → Fits f b.turn b.lists
-        → length (spelling f b.turn b.lists) ≡ 3584 }
+    ensures read { (f : Format) (turn : ℕ) (lists : Settings) → Fits f turn lists
+        → decode_by f (spelling f turn lists)
+        ≡ Some (record { format = f.number; turn = turn; lists = lists }) }
+    ensures len { (f : Format) (turn : ℕ) (lists : Settings) → IsFormat f → Fits f turn lists
+        → length (spelling f turn lists) ≡ 3584 }
 {}
 
 /// A law: a body spells no lists by these causes, and by no other: it begins otherwise, a number is

@@ -5,7 +5,9 @@
 //! 2. [`Keep::lists`] gives the present ones.
 //! 3. [`Keep::replace`] makes others the present ones, by six device calls. Where one fails the
 //!    lists stay, and a crash finds them or the others.
-//! 4. [`Keep::close`] gives the disk back.
+//! 4. [`Keep::format`] says in which of two formats they stand, and [`Keep::upgrade`] writes those of
+//!    the first again in the second, which alone is written. Both are read.
+//! 5. [`Keep::close`] gives the disk back.
 //!
 //! The first 16 sectors of the disk are two slots of eight. A slot has a gate, its first sector,
 //! and behind it a body, which spells lists and a turn. The present lists stand behind an open

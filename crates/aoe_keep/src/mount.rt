@@ -4,8 +4,7 @@ ghost use Rattle.std.specs.Bool.{OnTrue};
 ghost use Rattle.aoe_disk.specs.State.{BothTell};
 ghost use Rattle.aoe_disk.specs.Calls.{IsRun, Settles};
 ghost use Rattle.aoe_disk.specs.Sectors.{Calms};
-ghost use Rattle.aoe_keep.specs.Found.{slot, choice};
-ghost use Rattle.aoe_keep.specs.Stages.{placement};
+ghost use Rattle.aoe_keep.specs.Found.{slot, choice, placement};
 ghost use Rattle.aoe_keep.specs.Keep.{IsAtRest, Mounts, IsRefused, RunsBetween, ReadsSlots};
 ghost use Rattle.aoe_keep.specs.Calls.{MountsBy, ReadsSlot, RefusesBy};
 
@@ -34,13 +33,18 @@ pub(crate) struct Present {
 /// What a slot's body spells, and whether the other slot is closed.
 fn standing(written: Written, slot: u8, is_closed: bool) -> Present
     ensures lists { result.lists ≡ written.lists }
-    ensures place { result.place ≡ Some (record { slot = slot; turn = written.turn }) }
+    ensures place { result.place
+        ≡ Some (record { slot = slot; turn = written.turn; format = written.format }) }
     ensures closed { result.is_closed ≡ is_closed }
 {
-    let Written { turn, lists } = written;
+    let Written {
+        format,
+        turn,
+        lists,
+    } = written;
     Present {
         lists,
-        place: Some(Place { slot, turn }),
+        place: Some(Place { slot, turn, format }),
         is_closed,
     }
 }

@@ -6,7 +6,7 @@ ghost use Rattle.aoe_keep.specs.Calls as calls;
 ghost use Rattle.aoe_keep.specs.Stages.{WritesGate, WritesBody};
 ghost use Rattle.aoe_keep.specs.Keep.{IsAtRest, HasCleared, HasStaged, HasOpened, HasHalfOpened, HasReplaced, HasFailed, KeepsOthers};
 
-use crate::body::spell;
+use crate::body::{WRITTEN, spell};
 use crate::place::{Place, spare_slot, spare_turn};
 use aoe_base::Failed;
 use aoe_disk::Disk;
@@ -156,7 +156,11 @@ impl<D: Disk> Mounted<D> {
         self.open(next)?;
         let (slot, turn) = (spare_slot(self.place), spare_turn(self.place));
         self.is_closed = self.place.is_none();
-        self.place = Some(Place { slot, turn });
+        self.place = Some(Place {
+            slot,
+            turn,
+            format: WRITTEN,
+        });
         self.lists = next.copy();
         Ok(())
     }

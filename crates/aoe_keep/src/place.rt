@@ -3,11 +3,12 @@ ghost use Rattle.std.specs.Prelude.{◌≡◌, ◌≤◌, ◌<◌};
 ghost use Rattle.aoe_keep.specs.Found.{next_turn};
 ghost use Rattle.aoe_keep.specs.Stages.{spare, turn_after, is_unplaced, next_place};
 
-/// The slot that holds the present lists, and the turn of its body.
+/// The slot that holds the present lists, with the turn of its body and the number of its format.
 #[derive(Clone, Copy)]
 pub(crate) struct Place {
     pub(crate) slot: u8,
     pub(crate) turn: u8,
+    pub(crate) format: u8,
 }
 
 /// The turn that follows another: 0, 1 and 2 go round.

@@ -1,4 +1,4 @@
-//! A config string, the mask list and the reserve list of one device.
+//! A config string, the mask list, the reserve list and the read-only mark of one device.
 ghost use Rattle.std.specs.Prelude.{◌≡◌, ◌⊎◌, ◌↔◌, ◌≤◌, [], true, IsTrue, Contains, length};
 ghost use Rattle.aoe_lists.specs.Settings.{Settings, admits as is_admitted, empty_settings, may_use as is_user, same_settings};
 
@@ -7,7 +7,7 @@ use arrayvec::ArrayVec;
 use std::marker::Model;
 
 /// The most addresses that a mask list or a reserve list has.
-pub const MAX_ADDRESSES: usize = 64;
+pub const MAX_ADDRESSES: usize = 180;
 
 /// The most bytes that a config string has (AoEr11, "Query Config Information").
 pub const MAX_CONFIG: usize = 1024;
@@ -15,7 +15,8 @@ pub const MAX_CONFIG: usize = 1024;
 /// A mask list or a reserve list, in the order in which the addresses came.
 pub type AddressList = ArrayVec<Mac, MAX_ADDRESSES>;
 
-/// What a device keeps for its hosts. No address stands twice in a list.
+/// What a device keeps: a string and two lists for its hosts, and the mark of its owner. No address
+/// stands twice in a list.
 #[derive(Debug, Default, Drop, PartialEq, Eq)]
 pub struct Lists {
     /// The config string: bytes of which the device knows no meaning.
@@ -26,6 +27,9 @@ pub struct Lists {
 
     /// The stations whose ATA commands are done; those of every station where it is empty.
     pub reserves: AddressList,
+
+    /// Whether writes are refused. No request of a host changes it.
+    pub read_only: bool,
 }
 
 impl Model for Lists {
@@ -35,7 +39,7 @@ impl Model for Lists {
 
     ghost Value = { Settings };
 
-    ghost view = { λ l. record { config = l.config.items; masks = l.masks.items; reserves = l.reserves.items } };
+    ghost view = { λ l. record { config = l.config.items; masks = l.masks.items; reserves = l.reserves.items; read_only = l.read_only } };
 
     ghost invariant = { λ l. (all_unique l.masks.items ≡ true) × (all_unique l.reserves.items ≡ true) };
 
@@ -43,6 +47,7 @@ impl Model for Lists {
       config = record { items = s.config };
       masks = record { items = s.masks };
       reserves = record { items = s.reserves };
+      read_only = s.read_only;
     } };
 }
 
@@ -59,7 +64,7 @@ pub(crate) fn refill<T: Copy + Default + Drop, const N: usize>(
 }
 
 impl Lists {
-    /// The lists of a new device: no config string and no address.
+    /// The lists of a new device: no config string and no address, and it may be written.
     pub fn new() -> Self
         ensures { result ≡ empty_settings }
     {
@@ -67,6 +72,7 @@ impl Lists {
             config: ArrayVec::new(),
             masks: ArrayVec::new(),
             reserves: ArrayVec::new(),
+            read_only: false,
         }
     }
 
@@ -77,6 +83,7 @@ impl Lists {
         refill(&mut self.config, other.config.as_slice());
         refill(&mut self.masks, other.masks.as_slice());
         refill(&mut self.reserves, other.reserves.as_slice());
+        self.read_only = other.read_only;
     }
 
     /// A copy, which takes no memory.
@@ -87,7 +94,17 @@ impl Lists {
             config: copy_of(&self.config),
             masks: copy_of(&self.masks),
             reserves: copy_of(&self.reserves),
+            read_only: self.read_only,
         }
+    }
+
+    /// A copy with the read-only mark set or clear.
+    pub fn marked(&self, read_only: bool) -> Self
+        ensures { result ≡ record self.now { read_only = read_only } }
+    {
+        let mut lists = self.copy();
+        lists.read_only = read_only;
+        lists
     }
 }
 

@@ -27,7 +27,7 @@ port_a = record { 0 = 2 ∷ 0 ∷ 0 ∷ 0 ∷ 0 ∷ 10 ∷ [] }
 -- the setup lines: how long a frame can be handed over, a shelf with one slot of so many sectors, and a host that is attached to it
 abbrev pub stations : ℕ → List Setup
 stations sectors =
-    Life 2000
+    Life 2000 None
     ∷ Shelf shelf_s 1 (record { items = port_s ∷ [] }) 1500
     ∷ Slot shelf_s 0 sectors None
     ∷ Host host_a (record { items = port_a ∷ [] }) None None

@@ -3,9 +3,7 @@ ghost use Rattle.std.specs.Prelude.{◌≡◌, option_map};
 ghost use Rattle.aoe_live.specs.Frames.{frame_by, matching, ms_of, newest, number_of};
 
 use aoe_history::{Entry, Fate, History};
-
-/// How long a frame can be handed over, in milliseconds, as the setup lines say.
-const LIFE: u64 = 2000;
+use aoe_initiator::LIFETIMES;
 
 /// Who sent a frame.
 #[derive(Clone, Copy, Debug, PartialEq, Eq)]
@@ -74,12 +72,12 @@ fn matching(sender: Sender, entry: &Entry, frame: &[u8]) -> Option<u64>
     }
 }
 
-/// The number of the newest frame of the sender with these bytes, where it can still be handed over.
-/// It looks at none that can't.
+/// The number of the newest frame of the sender with these bytes, where it can still be handed over:
+/// frames of both kinds can for as long, as the setup lines say. It looks at none that can't.
 pub(crate) fn newest(history: &History, sender: Sender, frame: &[u8]) -> Option<u64>
     ensures { result ≡ newest sender 2000 history.now frame.now }
 {
-    let mut left = LIFE;
+    let mut left = LIFETIMES.requests.0;
     'entries: for back in 0..history.count() {
         let entry = history.entry(history.count() - 1 - back);
         match matching(sender, entry, frame) {

@@ -254,3 +254,32 @@ none_through marks clear = none_count marks (λ s. elim (cases_lt s (length mark
   | inl within ↦ clear s (omega arith) (omega arith)
   | inr past ↦ get_or_past marks s false past
 ])
+
+-- fewer are set once a run of them is cleared
+
+append_none : (n : ℕ) (marks : List Bool) → count_of (replicate n false ++ marks) ≡ count_of marks
+unfolding count_of
+append_none zero marks = refl
+append_none (suc n) marks = append_none n marks
+
+count_drop : (n : ℕ) (marks : List Bool) → count_of (drop n marks) ≤ count_of marks
+unfolding count_of
+count_drop zero marks = omega arith
+count_drop (suc n) [] = omega arith
+count_drop (suc n) (true ∷ marks) = omega (arith, count_drop n marks)
+count_drop (suc n) (false ∷ marks) = count_drop n marks
+
+count_hole : (marks : List Bool) (at n m : ℕ) → 0 < n → at + n ≡ m → is_loose marks at ≡ true
+    → count_of (take at marks ++ replicate n false ++ drop m marks) < count_of marks
+unfolding count_of
+count_hole [] at n m some is set = cc
+count_hole (b ∷ marks) at zero m some is set = absurd (omega (arith, some))
+count_hole (b ∷ marks) at (suc n) zero some is set = absurd (omega (arith, is))
+count_hole (true ∷ marks) zero (suc n) (suc m) some is set = omega (arith, append_none n (drop m marks), count_drop m marks)
+count_hole (false ∷ marks) zero (suc n) (suc m) some is set = cc
+count_hole (true ∷ marks) (suc at) (suc n) (suc m) some is set =
+    let fewer = count_hole marks at (suc n) m some (omega (arith, is)) set in omega (arith, fewer)
+count_hole (false ∷ marks) (suc at) (suc n) (suc m) some is set = count_hole marks at (suc n) m some (omega (arith, is)) set
+
+pub count_cleared : (marks : List Bool) (at n : ℕ) → 0 < n → is_loose marks at ≡ true → count_of (with_each marks at n false) < count_of marks
+count_cleared marks at n some set = count_hole marks at n (at + n) some refl set

@@ -9,8 +9,8 @@ use Rattle.aoe_disk.proofs.Touching.{sector-read, sector-with_piece, settles_kep
 use Rattle.std.proofs.lemmas.List.{length-replicate}
 use Rattle.aoe_mirror.specs.Marks.{IsFirstRun, count_of, with_each}
 use Rattle.aoe_mirror.specs.Sides.{Agree, IsMirror, Pair, both, seen, shown}
-use Rattle.aoe_mirror.specs.Calls.{Answer, Blames, Copies, CopiesRun, FollowerFailed, Later, LeadFailed, WritesCopy}
-use Rattle.aoe_mirror.proofs.Bits.{length-with_each, with_each_inside, with_each_outside}
+use Rattle.aoe_mirror.specs.Calls.{Answer, Blames, Copied, Copies, CopiesRun, FollowerFailed, Later, LeadFailed, WritesCopy}
+use Rattle.aoe_mirror.proofs.Bits.{count_cleared, length-with_each, with_each_inside, with_each_outside}
 use Rattle.aoe_mirror.proofs.Told.{and_if, both_if, if_any, told_both, told_if, told_map, told_mono, told_same, told_tells, told_then, told_with}
 use Rattle.aoe_mirror.proofs.Whole.{Beside, Fit, beside_refl, cases_range, length-loose_of, loose_at, puts_beside, seen_at}
 use Rattle.aoe_mirror.proofs.Quiet.{calm_by, calm_refl, in_from, parts_in, settled_by}
@@ -323,3 +323,11 @@ module _ {T : Type 0} (old : Pair) (m : IsMirror old) (at n : ℕ) (run : IsFirs
           (put_copies old m at n run c.looked mid.follower lead_later c.read.same (synced_later w z.1 z.3) c.piece c.size (ok_given c.answer y.0 c.read.given) (put_told w z.1 z.0 (sym z.2 ∙ done) z.3))
     ]
   ]
+
+-- fewer sectors are stale after a copy, where any were
+pub copied_fewer : (old new : Pair) → Copied old new → 0 < count_of old.stale → count_of new.stale < count_of old.stale
+copied_fewer old new (inl none) some = absurd (omega (arith, none.0, some))
+copied_fewer old new (inr x) some =
+    let run = x.2 in
+    let fewer = count_cleared old.stale x.0 x.1 run.some (run.set x.0 (omega arith) (omega (arith, run.some))) in
+    omega (arith, ap count_of x.3, fewer)

@@ -8,7 +8,7 @@ use Rattle.aoe_disk.proofs.Touching.{range_same}
 use Rattle.aoe_mirror.specs.Marks.{IsClear}
 use Rattle.aoe_mirror.specs.Sides.{Agree, IsMirror, Pair, both, seen, shown}
 use Rattle.aoe_mirror.specs.Calls.{Answer, FollowerReads, MirrorReads, ReadCause}
-use Rattle.aoe_mirror.proofs.Steps.{Holds, follower_same, holds_of, lead_same, rose_part, run_shown}
+use Rattle.aoe_mirror.proofs.Steps.{Holds, counts_same, follower_same, holds_of, lead_same, rose_part, run_shown}
 
 -- a disk that was read, or wasn't called
 pub record Looked (old new : DiskState) : Type 0 where
@@ -75,6 +75,7 @@ module _ (at n : ℕ) (out : List ℕ) (old : Pair) (m : IsMirror old) where
         log = refl;
       };
       keeps = record { later = omega arith; stale = λ s was is. absurd (both_ways (is_loose old.stale s) was is); lead = inl refl };
+      counts = counts_same old after refl l.later f.later (omega arith);
       stale = refl;
       cause = λ bad. (why bad).1;
     }

@@ -13,7 +13,7 @@ use Rattle.aoe_mirror.specs.Calls.{Answer, FollowerFailed, LeadFailed, MarkFaile
 use Rattle.aoe_mirror.proofs.Bits.{length-with_each, with_each_inside, with_each_outside}
 use Rattle.aoe_mirror.proofs.Told.{told_both, told_if, told_map, told_mono, told_same, told_with}
 use Rattle.aoe_mirror.proofs.Whole.{Beside, Fit, agree_written, beside_refl, cases_range, loose_written, puts_beside, same_marks_each, same_piece, seen_shape, spoils_beside}
-use Rattle.aoe_mirror.proofs.Steps.{Holds, shown_if, turned_mirror, turned_shown, follower_same, holds_of, lead_moved, lead_same, rose_from, rose_part, settled_faults, settled_mirror, settled_sectors, settled_shown, settled_side, settled_stale, stored}
+use Rattle.aoe_mirror.proofs.Steps.{Holds, counts_moved, counts_same, counts_then, settled_counts, shown_if, turned_mirror, turned_shown, follower_same, holds_of, lead_moved, lead_same, rose_from, rose_part, settled_faults, settled_mirror, settled_sectors, settled_shown, settled_side, settled_stale, stored}
 
 -- a write by its answer
 
@@ -136,6 +136,7 @@ module _ (at : ℕ) (piece : List ℕ) (old : Pair) (m : IsMirror old) (range : 
           (told_mono (Puts at piece) (Stores at piece result) (shown old).contents (shown through).contents through_puts (λ a b p. stores_put at piece result a b done p))
           (λ bad. absurd (both_ways (is_err result) done bad));
       keeps = record { later = omega arith; stale = λ s was is. inr (follower_failed (newly s was is)); lead = inl refl };
+      counts = counts_same old through refl w.call.later f.call.later (omega arith);
       marks = rw done (marks_through (is_err answer) refl);
       cause = λ bad. absurd (both_ways (is_err result) done bad);
     }
@@ -219,6 +220,7 @@ module _ (at : ℕ) (piece : List ℕ) (old : Pair) (m : IsMirror old) (range : 
             (told_mono (MaySpoil at (length piece)) (Stores at piece result) (shown old).contents (shown halted).contents halted_spoils (λ a b p. stores_spoilt at piece result a b failed p))
             (λ _. rose_part old.lead.faults lead.faults (shown old).faults (shown halted).faults lead_rose (omega arith) (omega (arith, after_later.later)));
         keeps = record { later = omega arith; stale = λ s was is. inl lead_failed; lead = inl refl };
+        counts = counts_same old halted refl w.call.later after_later.later (omega arith);
         marks = inr (inl (inl lead_failed, refl));
         cause = λ _. elim why [
           | inl idle ↦ inl (lead_failed, idle.0)
@@ -276,6 +278,10 @@ module _ (at : ℕ) (piece : List ℕ) (old : Pair) (m : IsMirror old) (range : 
         (told_with (Puts at piece) (Stores at piece result) (λ (a : Contents). HasShape old.lead.sectors a × (a.settled ≡ None)) (shown old).contents (shown new).contents new_puts (shown_if old m) (stores_by result))
         (λ _. let f = settled_faults failed mid new settles in rose_part old.lead.faults lead.faults (shown old).faults (shown new).faults lead_fell (omega arith) (omega (arith, f, s.write.call.later, settles.mark.later)));
     keeps = record { later = settles.mark.later; stale = λ _ was now. inl swap_lead_failed; lead = inr swap_lead_failed };
+    counts = counts_moved old new m.mark.side moved
+        (let e : new.follower.faults ≡ lead.faults = ap (λ (p : Pair). p.follower.faults) settles.is in let later = w.call.later in omega arith)
+        (let e : new.lead.faults ≡ s.written.faults = ap (λ (p : Pair). p.lead.faults) settles.is in let later = s.write.call.later in omega arith)
+        settles.mark.later;
     marks = inr (inl (inl swap_lead_failed, settled_stale failed mid new settles ∙ ap (λ b. with_each old.stale at (length piece / 512) b) bad));
     cause = λ e. inr (inr (settles.cause (sym is ∙ e)));
   }
@@ -303,6 +309,7 @@ module _ {T E : Type 0} (at : ℕ) (piece : List ℕ) (result : Result T E) (old
             (rw (settled_shown true old mid s) (told_with (λ (a b : Contents). b ≡ a) (Stores at piece result) (λ (a : Contents). HasShape old.lead.sectors a × (a.settled ≡ None)) (shown old).contents (shown old).contents (told_same (shown old).contents) (shown_if old m) (λ a b h e. same_by a b bad h.1 e)))
             (λ _. rose_part old.mark.faults mid.mark.faults (shown old).faults (shown mid).faults (s.cause refl) (omega arith) (omega (arith, faults)));
         keeps = record { later = s.mark.later; stale = λ k was is. let same = settled_stale true old mid s in absurd (both_ways (is_loose old.stale k) was (rw same at is)); lead = inl side };
+        counts = settled_counts true old mid s;
         marks = inr (inr (bad, s.cause refl, settled_stale true old mid s));
         cause = λ _. inr (inr (s.cause refl));
       }
@@ -320,6 +327,7 @@ module _ {T E : Type 0} (at : ℕ) (piece : List ℕ) (result : Result T E) (old
         stores = stored old new m w.mirror w.stores.call.sectors later at piece result w.stores.contents
             (λ bad. rose_from (shown old).faults (old.lead.faults + old.follower.faults + mid.mark.faults) (shown new).faults (omega (arith, s.mark.later)) w.stores.call.later (OnTrue_at bad w.stores.call.cause));
         keeps = record { later = omega (arith, s.mark.later, w.keeps.later); stale = w.keeps.stale; lead = w.keeps.lead };
+        counts = counts_then old mid new (settled_counts false old mid s) writes.counts;
         marks = elim w.marks [
           | inl a ↦ inl a
           | inr b ↦ elim b [

@@ -57,6 +57,7 @@ pub record MirrorReads {T E : Type 0} (at n : ℕ) (result : Result T E) (out : 
   pub mirror : IsMirror new
   pub reads : Reads at n result out (shown old) (shown new)
   pub keeps : Keeps old new
+  pub counts : Counts old new
   pub stale : new.stale ≡ old.stale
   pub cause : is_err result ≡ true → ReadCause at (n / 512) old new
 
@@ -64,6 +65,7 @@ pub record MirrorWrites {T E : Type 0} (at : ℕ) (piece : List ℕ) (result : R
   pub mirror : IsMirror new
   pub stores : StoresTo at piece result (shown old) (shown new)
   pub keeps : Keeps old new
+  pub counts : Counts old new
   pub marks : MarksWrite at (length piece / 512) (is_err result) old new
   pub cause : is_err result ≡ true → Cause old new
 

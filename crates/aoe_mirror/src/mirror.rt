@@ -5,7 +5,7 @@ ghost use Rattle.aoe_disk.specs.State.{BothTell, IsDisk};
 ghost use Rattle.aoe_disk.specs.Calls.{IsRun};
 ghost use Rattle.aoe_disk.specs.Sectors.{Calms};
 ghost use Rattle.aoe_mirror.specs.Marks.{count_of};
-ghost use Rattle.aoe_mirror.specs.Sides.{Survives};
+ghost use Rattle.aoe_mirror.specs.Sides.{IsMirror, Survives};
 ghost use Rattle.aoe_mirror.specs.Calls.{Blames, Copies, MirrorReads, MirrorSyncs, MirrorWrites};
 ghost use Rattle.aoe_mirror.specs.Mirror.{Mounts, ReadsMark, Refuses, first_of, pair, second_of, state_of};
 
@@ -81,6 +81,7 @@ impl<D: Disk> Mirror<D> {
         mark: D,
     ) -> Result<Mirror<D>, (MirrorRefusal, D, D, D)>
         ensures mounts { IfOk result (λ mirror. Mounts D.state one two mark mirror.sides) }
+        ensures mirror { IfOk result (λ mirror. IsMirror (pair D.state mirror)) }
         ensures failed { IfOk result (λ mirror. mirror.failed ≡ None) }
         ensures refused { IfErr result
             (λ e. Refuses e.0 (D.state one) (D.state two) (D.state mark) (D.state e.3)) }
@@ -142,6 +143,8 @@ impl<D: Disk> Mirror<D> {
     pub fn resync(&mut self) -> Result<u64, Failed>
         ensures copies { Copies (is_err result) (pair D.state self.old) (pair D.state self.new) }
         ensures left { IfOk result (λ left. left ≡ count_of self.new.sides.stale) }
+        ensures fewer { IfOk result (λ left. 0 < count_of self.old.sides.stale
+            → left < count_of self.old.sides.stale) }
         ensures failed { self.new.failed ≡ self.old.failed }
     {
         match self.sides.resync(&mut self.scratch) {

@@ -7,7 +7,7 @@ use Rattle.std.proofs.lemmas.List.Sums.{sum_by-append, sum_by-cons}
 use Rattle.std.proofs.lemmas.Option.{slice_get-map, slice_get_past, slice_get_read}
 use Rattle.std.proofs.lemmas.Grind.{reverse_onto}
 use Rattle.aoe_net.specs.declared.net.Kept.{Kept}
-use Rattle.aoe_net.specs.Network.{Network, SentFrame, numbered, total_bytes, fresh_bytes, deliverable, IsFull, IsNumberOf}
+use Rattle.aoe_net.specs.Network.{Network, SentFrame, numbered, total_bytes, fresh_bytes, deliverable, lifetime, IsFull, IsNumberOf}
 use Rattle.aoe_net.specs.Store.{frame_of, frames_of, IsStore}
 
 -- what a list with one more element at its end has at an index
@@ -109,17 +109,17 @@ found kept number index k low is inside read =
     let next : number ≡ suc index = omega arith in
     rw next (numbered-frames_of kept index ∙ ap (option_map frame_of) (slice_get_read kept (length kept) index k refl inside read))
 
-pub expired : (net : Network) (number now : ℕ) (frame : SentFrame) → numbered net.sent number ≡ Some frame → net.life < now - frame.birth
+pub expired : (net : Network) (number now : ℕ) (frame : SentFrame) → numbered net.sent number ≡ Some frame → lifetime net.life frame.bytes < now - frame.birth
     → None ≡ deliverable net number now
 expired net number now frame is old =
-    let late : nat_le (now - frame.birth) net.life ≡ false = lt-leb (now - frame.birth) net.life old in
+    let late : nat_le (now - frame.birth) (lifetime net.life frame.bytes) ≡ false = lt-leb (now - frame.birth) (lifetime net.life frame.bytes) old in
     let gone : None ≡ fresh_bytes net now frame = rw late refl in
     gone ∙ something net number now frame is
 
-pub fresh : (net : Network) (number now : ℕ) (frame : SentFrame) → numbered net.sent number ≡ Some frame → now - frame.birth ≤ net.life
+pub fresh : (net : Network) (number now : ℕ) (frame : SentFrame) → numbered net.sent number ≡ Some frame → now - frame.birth ≤ lifetime net.life frame.bytes
     → Some frame.bytes ≡ deliverable net number now
 fresh net number now frame is young =
-    let early : nat_le (now - frame.birth) net.life ≡ true = le-leb (now - frame.birth) net.life young in
+    let early : nat_le (now - frame.birth) (lifetime net.life frame.bytes) ≡ true = le-leb (now - frame.birth) (lifetime net.life frame.bytes) young in
     let here : Some frame.bytes ≡ fresh_bytes net now frame = rw early refl in
     here ∙ something net number now frame is
 

@@ -1,19 +1,21 @@
 -- What a network is: its frames, and which of them it still hands over.
 use Rattle.std.specs.Prelude.{ℕ, suc, ◌≡◌, ◌+◌, ◌-◌, ◌<◌, ◌≤◌, ◌==◌, ◌⊎◌, List, [], ◌∷◌, length, sum_by, nat_le, Option, Some, None, option_and_then, IsSomeAnd, if◌then◌else◌}
+use Rattle.aoe_base.specs.declared.counted.Lifetimes.{Lifetimes}
+use Rattle.aoe_frame.specs.Header.{is_response}
 
 -- a frame that was sent: its bytes, and the time of its sending
 pub record SentFrame : Type 0 where
   pub bytes : List ℕ
   pub birth : ℕ
 
--- the lifetime of its frames, the time of the latest sending (0 before the first), and the frames
+-- the lifetimes of its frames, the time of the latest sending (0 before the first), and the frames
 -- that were sent, the latest first; times in milliseconds
 pub record Network : Type 0 where
-  pub life : ℕ
+  pub life : Lifetimes
   pub latest : ℕ
   pub sent : List SentFrame
 
-abbrev pub empty_network : ℕ → Network
+abbrev pub empty_network : Lifetimes → Network
 empty_network life = record { life = life; latest = 0; sent = [] }
 
 -- the network after these bytes were sent
@@ -33,13 +35,13 @@ abbrev pub numbered : List SentFrame → ℕ → Option SentFrame
 numbered [] number = None
 numbered (frame ∷ earlier) number = if number == suc (length earlier) then Some frame else numbered earlier number
 
--- how long a frame can be handed over after its sending: the same for all frames
-abbrev pub lifetime : Network → List ℕ → ℕ
-lifetime net _ = net.life
+-- how long a frame can be handed over after its sending, by its kind
+abbrev pub lifetime : Lifetimes → List ℕ → ℕ
+lifetime life bytes = if is_response bytes then life.responses.0 else life.requests.0
 
 -- the bytes of a frame that can still be handed over: its age is at most its lifetime
 abbrev pub fresh_bytes : Network → ℕ → SentFrame → Option (List ℕ)
-fresh_bytes net now frame = if nat_le (now - frame.birth) (lifetime net frame.bytes) then Some frame.bytes else None
+fresh_bytes net now frame = if nat_le (now - frame.birth) (lifetime net.life frame.bytes) then Some frame.bytes else None
 
 -- the bytes that the network hands over for a number, or nothing where no frame has the number or
 -- the one that has it has expired

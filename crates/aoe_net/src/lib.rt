@@ -1,7 +1,7 @@
 //! A network that keeps each frame that was sent on it and hands it over, any number of times and
-//! in any order, until the frame's lifetime is over.
+//! in any order, until its lifetime is over: that of a request, or that of a response.
 //!
-//! 1. [`Net::new`] with that lifetime.
+//! 1. [`Net::new`] with these lifetimes.
 //! 2. [`Net::send`] with each frame, which gets the next number; or [`Net::is_full`], and where it
 //!    isn't, [`Net::keep`] with bytes that somebody else has too.
 //! 3. [`Net::fetch`] gives the frame of a number as long as it can be handed over.

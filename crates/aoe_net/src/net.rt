@@ -1,9 +1,10 @@
 //! The frames of a network, each with the time of its sending.
 ghost use Rattle.std.specs.Prelude.{◌≡◌, ℕ, ◌+◌, ◌-◌, ◌≤◌, ◌↔◌, [], ◌∷◌, ◌++◌, length, nat_lt, option_map, IfNone, IfOk, IfSome, IsTrue, OnErr, OnOk};
-ghost use Rattle.aoe_net.specs.Network.{deliverable, empty_network, total_bytes, with_frame, IsFull, IsNumberOf};
+ghost use Rattle.aoe_net.specs.Network.{deliverable, empty_network, lifetime, total_bytes, with_frame, IsFull, IsNumberOf};
 
 use crate::{FrameBytes, NetRefusal};
-use aoe_base::{FrameNo, Millis, NoMemory};
+use aoe_base::{FrameNo, Lifetimes, Millis, NoMemory};
+use aoe_frame::is_response;
 use std::alloc::Global;
 use std::marker::Model;
 
@@ -26,7 +27,7 @@ struct Kept {
 #[derive(Drop)]
 pub struct Net {
     alloc: Global,
-    life: Millis,
+    life: Lifetimes,
     latest: Millis,
 
     /// In the order of their numbers.
@@ -42,15 +43,16 @@ impl Model for Net {
 
     ghost Value = { Network };
 
-    ghost view = { λ net. record { life = net.life.0; latest = net.latest.0; sent = frames_of net.frames.items } };
+    ghost view = { λ net. record { life = net.life; latest = net.latest.0; sent = frames_of net.frames.items } };
 
     ghost invariant = { λ net. IsStore net.total net.frames.items };
 }
 
 impl Net {
-    /// A network without a frame, whose frames expire once they are older than `life`.
-    pub fn new(alloc: Global, life: Millis) -> Net
-        ensures { result ≡ empty_network life.0 }
+    /// A network without a frame, whose frames expire once they are older than `life` has it for
+    /// their kind.
+    pub fn new(alloc: Global, life: Lifetimes) -> Net
+        ensures { result ≡ empty_network life }
     {
         Net {
             alloc,
@@ -106,10 +108,22 @@ impl Net {
         Ok(FrameNo(self.frames.len() as u32))
     }
 
-    fn has_expired(&self, frame: &Kept, now: Millis) -> bool
-        ensures { result ≡ nat_lt self.now.life (now.0 - frame.now.birth.0) }
+    /// How long a frame with these bytes can be handed over.
+    fn lifetime(&self, bytes: &[u8]) -> Millis
+        ensures { result.0 ≡ lifetime self.now.life bytes.now }
     {
-        now.0.saturating_sub(frame.birth.0) > self.life.0
+        if is_response(bytes) {
+            self.life.responses
+        } else {
+            self.life.requests
+        }
+    }
+
+    fn has_expired(&self, frame: &Kept, now: Millis) -> bool
+        ensures { result ≡ nat_lt (lifetime self.now.life frame.now.bytes)
+            (now.0 - frame.now.birth.0) }
+    {
+        now.0.saturating_sub(frame.birth.0) > self.lifetime(frame.bytes.bytes()).0
     }
 
     /// The frame with a number, or `None` where no frame has it or the one that has it has expired.

@@ -1,11 +1,12 @@
 mod accepted;
 mod refused;
 
-use aoe_base::{Mac, NoMemory, Ports, TargetId};
+use aoe_base::{Blob, Mac, NoMemory, Ports, TargetId};
 use aoe_lists::Dir;
+use aoe_vlan::PortKind;
 use aoe_words::{
-    Answer, Asking, Cfg, Command, Get, Live, Mask, Put, Reserve, Serve, Soak, Tool, files_of,
-    ports_of, read_words,
+    Answer, Asking, Cfg, Command, Flush, Get, Live, Mask, PortKinds, PortWords, Put, Reserve,
+    Serve, Soak, Switch, Tool, files_of, ports_of, read_words, stop_of,
 };
 use arrayvec::ArrayVec;
 use std::alloc::{AllocError, Global};
@@ -51,22 +52,56 @@ fn add_files(alloc: Global, words: &[String], joined: &mut Vec<u8>) -> Result<()
     Ok(())
 }
 
-/// Adds the links that these words open, each as `local>peers`.
-fn add_links(alloc: Global, words: &[String], joined: &mut Vec<u8>) -> Result<(), Fail> {
-    for link in &ports_of(alloc, words)? {
-        add_part(joined, link.local.bytes())?;
-        joined.extend_from_slice(b">")?;
-        joined.extend_from_slice(link.peers.bytes())?;
+/// Adds a link over UDP.
+fn add_udp(
+    alloc: Global,
+    local: &Blob,
+    peers: &Blob,
+    vxlan: Option<u32>,
+    joined: &mut Vec<u8>,
+) -> Result<(), Fail> {
+    add_part(joined, local.bytes())?;
+    joined.extend_from_slice(b">")?;
+    joined.extend_from_slice(peers.bytes())?;
+    if let Some(vni) = vxlan {
+        let text = format!(in alloc; "#{vni}")?;
+        joined.extend_from_slice(text.as_bytes())?;
     }
     Ok(())
 }
 
-/// What a line opens: its files and then its links.
+/// Adds the links that these words open, each as `local>peers`, with `#` and the number of its VXLAN,
+/// or as the name of its tap file.
+fn add_links(alloc: Global, words: &[String], joined: &mut Vec<u8>) -> Result<(), Fail> {
+    for link in &ports_of(alloc, words)? {
+        match link {
+            PortWords::Udp {
+                local,
+                peers,
+                vxlan,
+            } => add_udp(alloc, local, peers, *vxlan, joined)?,
+            PortWords::Tap { file } => add_part(joined, file.bytes())?,
+        }
+    }
+    Ok(())
+}
+
+/// Adds the name of the file whose coming ends the run, behind an exclamation mark.
+fn add_stop(alloc: Global, words: &[String], joined: &mut Vec<u8>) -> Result<(), Fail> {
+    if let Some(name) = stop_of(alloc, words)? {
+        add_part(joined, b"!")?;
+        joined.extend_from_slice(name.as_bytes())?;
+    }
+    Ok(())
+}
+
+/// What a line opens, its files and then its links, and what it looks for.
 fn opened(alloc: Global, line: &str) -> Result<Vec<u8>, Fail> {
     let words = words_of(alloc, line)?;
     let mut joined = Vec::new(alloc);
     add_files(alloc, words.as_slice(), &mut joined)?;
     add_links(alloc, words.as_slice(), &mut joined)?;
+    add_stop(alloc, words.as_slice(), &mut joined)?;
     Ok(joined)
 }
 
@@ -150,8 +185,8 @@ fn serve(
     macs: &[Mac],
     mtu: u32,
     cache: u32,
-    frames: u32,
-    idle: u32,
+    frames: Option<u32>,
+    idle: Option<u32>,
 ) -> Command {
     Command::Serve(Serve {
         shelf,
@@ -176,6 +211,21 @@ fn live(sectors: u32, count: u32, turns: u32) -> Command {
 /// What `soak` asks for.
 fn soak(seed: u16, count: u32) -> Command {
     Command::Soak(Soak { seed, count })
+}
+
+/// A trunk of these VLANs.
+fn trunk(vids: &[u16]) -> PortKind {
+    let mut numbers = ArrayVec::new();
+    let _ = numbers.try_extend_from_slice(vids);
+    PortKind::Trunk(numbers)
+}
+
+/// What `switch` asks for, of two ports.
+fn switch(first: PortKind, second: PortKind) -> Command {
+    let mut ports = PortKinds::new();
+    ports.push(first);
+    ports.push(second);
+    Command::Switch(Switch { ports })
 }
 
 /// Who asks where nothing is said of it.
@@ -232,6 +282,18 @@ fn reserve(rcmd: u8, macs: &[Mac]) -> Command {
     }))
 }
 
+/// What `flush` asks of the device.
+fn flush(turns: u32) -> Command {
+    let asking = Asking {
+        port: mac(10),
+        turns,
+    };
+    Command::Ask(Tool::Flush(Flush {
+        asking,
+        id: device(),
+    }))
+}
+
 /// What `get` asks of the device.
 fn get(at: u64, count: u32, turns: u32) -> Command {
     let asking = Asking {
@@ -270,9 +332,20 @@ fn names_files_and_links(rt: HostRuntime) -> Result<(), Fail> {
             "d0 k0 d1 k1 0.0.0.0:1>10.0.0.1:1",
         ),
         (
+            "serve 1 d k --local x --stop /run/aoe/stop --peers y",
+            "d k x>y !/run/aoe/stop",
+        ),
+        (
             "live 16 10 --one 127.0.0.1:1 --two 127.0.0.1:2",
             "127.0.0.1:1>127.0.0.1:2 127.0.0.1:2>127.0.0.1:1",
         ),
+        ("discover --tap /dev/tap7", "/dev/tap7"),
+        (
+            "put e1.0 0 --vxlan 16777215 --local 0.0.0.0:1 --peers 10.0.0.1:1",
+            "0.0.0.0:1>10.0.0.1:1#16777215",
+        ),
+        ("live 16 10 --one a --two b --vxlan 0", "a>b#0 b>a#0"),
+        ("live 16 10 --one-tap a --two-tap b", "a b"),
     ];
     opens(&rt, rt.alloc(), &cases)
 }

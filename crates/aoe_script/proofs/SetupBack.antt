@@ -13,7 +13,7 @@ use Rattle.aoe_script.specs.declared.setup.Setup.TheVariants.{Life, Shelf, Slot,
 use Rattle.aoe_script.specs.Classes.{is_name}
 use Rattle.aoe_script.specs.Forms.{said}
 use Rattle.aoe_script.specs.Print.{setup_words}
-use Rattle.aoe_script.specs.Rules.{are_ports, is_cache, is_limit, is_setup, is_within}
+use Rattle.aoe_script.specs.Rules.{are_ports, is_cache, is_lifetime, is_limit, is_setup, is_within}
 use Rattle.aoe_script.specs.Types.{FitsSetup, IsAddress}
 use Rattle.aoe_script.proofs.ListedLemmas.{AddressLaw, macs_word, ports_back}
 use Rattle.aoe_script.proofs.NamedLemmas.{name_back, name_word}
@@ -35,6 +35,14 @@ module _ (law : AddressLaw) where
   shelf_is name major ports mtu named high are low fits =
       rw (name_back name named, number_is major high, ports_back law ports.items (few_ports ports are).0 (few_ports ports are).1 fits, number_is mtu low)
       (rw (name_word name named, number_word major high, macs_word law ports.items (few_ports ports are).0 fits, number_word mtu low) refl)
+
+  life_is : (requests : ℕ) (responses : Option ℕ) → requests < 2 ^ 64 → is_lifetime responses ≡ true
+      → IsSaid (setup_words (Life requests responses)) (Declares (Life requests responses))
+  unfolding said
+  life_is requests None small fits = rw (number_is requests small, number_word requests small) refl
+  life_is requests (Some responses) small fits =
+      let low = small_of 600000 responses (lit< tt) fits in
+      rw (number_is requests small, number_is responses low, number_word requests small, number_word responses low) refl
 
   slot_is : (shelf : ArrayVec ℕ) (minor sectors : ℕ) (room : Option ℕ) → is_name shelf ≡ true → minor < 2 ^ 64 → sectors < 2 ^ 64 → is_cache room ≡ true
       → IsSaid (setup_words (Slot shelf minor sectors room)) (Declares (Slot shelf minor sectors room))
@@ -64,7 +72,9 @@ module _ (law : AddressLaw) where
 
   pub setup_is : (setup : Setup) → is_setup setup ≡ true → FitsSetup setup → IsSaid (setup_words setup) (Declares setup)
   unfolding said
-  setup_is (Life ms) e fits = let small = small_of 600000 ms (lit< tt) e in rw (number_is ms small, number_word ms small) refl
+  setup_is (Life requests responses) e fits =
+      let h = and_parts (nat_le requests 600000) (is_lifetime responses) e in
+      life_is requests responses (small_of 600000 requests (lit< tt) h.0) h.1
   setup_is (Shelf name major ports mtu) e fits =
       let h = and_parts (is_name name && nat_le major 65534 && are_ports ports) (is_within 1500 9000 mtu) e in
       let g = and_parts (is_name name && nat_le major 65534) (are_ports ports) h.0 in

@@ -12,6 +12,7 @@ use Rattle.aoe_base.specs.Texts.{each}
 use Rattle.aoe_disk.specs.declared.loss.Loss.{Loss}
 use Rattle.aoe_disk.specs.declared.loss.Loss.TheVariants.{Keep as Kept, Old, Torn, Mix}
 use Rattle.aoe_lists.specs.declared.dir.Dir.{Dir}
+use Rattle.aoe_lists.specs.Settings.{max_directives}
 use Rattle.aoe_script.specs.declared.event.Which.{Which}
 use Rattle.aoe_script.specs.declared.event.Which.TheVariants.{Store, Keep}
 use Rattle.aoe_script.specs.declared.keyword.Keyword.{Keyword}
@@ -64,7 +65,7 @@ abbrev pub at_most : {T : Type 0} → ℕ → Option (List T) → Option (List T
 at_most most = option_and_then (λ xs. if nat_le (length xs) most then Some xs else None)
 
 unfoldable pub macs_of : Text → Option (List Mac)
-macs_of text = at_most 64 (each mac_of (slice_split (λ c. c == 44) text))
+macs_of text = at_most max_directives (each mac_of (slice_split (λ c. c == 44) text))
 
 -- PORTS: those of a station
 abbrev pub ports_of : Text → Option (List Mac)
@@ -82,7 +83,7 @@ dir_of text =
     else None
 
 unfoldable pub dirs_of : Text → Option (List Dir)
-dirs_of text = at_most 64 (each dir_of (slice_split (λ c. c == 44) text))
+dirs_of text = at_most max_directives (each dir_of (slice_split (λ c. c == 44) text))
 
 -- ---- fixed words
 

@@ -30,9 +30,9 @@ submitted make ws = option_and_then (λ host. option_and_then (λ dev. make host
 
 -- ---- setup lines
 
--- life MS
+-- life MS, or life REQUESTS RESPONSES
 abbrev pub life_of : List Text → Option Setup
-life_of ws = option_map Life (number (word_at ws 1))
+life_of ws = option_and_then (λ requests. option_map (λ responses. Life requests responses) (optional_number ws 2)) (number (word_at ws 1))
 
 -- shelf NAME MAJOR PORTS MTU
 abbrev pub shelf_of : List Text → Option Setup
@@ -162,7 +162,7 @@ asks true (Some event) = Asks event
 
 -- how many words there are with the first, which of them are fixed, and what they say
 abbrev pub row_of : Keyword → List Text → Line
-row_of LifeLine ws = declares (length ws == 2) (life_of ws)
+row_of LifeLine ws = declares (length ws == 2 || length ws == 3) (life_of ws)
 row_of ShelfLine ws = declares (length ws == 5) (shelf_of ws)
 row_of SlotLine ws = declares (length ws == 4 || length ws == 5) (slot_of ws)
 row_of HostLine ws = declares (length ws == 3 || length ws == 5) (host_of ws)

@@ -79,7 +79,7 @@ optional_word (Some n) = decimal n ∷ []
 -- ---- lines
 
 abbrev pub setup_words : Setup → List Text
-setup_words (Life ms) = codes "life" ∷ decimal ms ∷ []
+setup_words (Life requests responses) = codes "life" ∷ decimal requests ∷ optional_word responses
 setup_words (Shelf name major ports mtu) = codes "shelf" ∷ name.items ∷ decimal major ∷ macs_text ports.items ∷ decimal mtu ∷ []
 setup_words (Slot shelf minor sectors room) = codes "slot" ∷ shelf.items ∷ decimal minor ∷ decimal sectors ∷ optional_word room
 setup_words (Host name ports room dead) = codes "host" ∷ name.items ∷ macs_text ports.items ∷ (optional_word room ++ optional_word dead)

@@ -6,6 +6,7 @@ use Rattle.arrayvec.specs.ArrayVec.{ArrayVec}
 use Rattle.aoe_base.specs.declared.address.Mac.{Mac}
 use Rattle.aoe_base.specs.declared.address.TargetId.{TargetId}
 use Rattle.aoe_base.specs.Addresses.{all_unique, holds, is_individual, source_of}
+use Rattle.aoe_lists.specs.Settings.{max_directives}
 use Rattle.aoe_script.specs.declared.event.Event.{Event}
 use Rattle.aoe_script.specs.declared.event.Event.TheVariants.{Read, Write, Flush, Identify, Config, Masks, Reserve, Tick, Deliver, Pass, Skip, Again, Inject, Fail, Stop, Crash}
 use Rattle.aoe_script.specs.declared.refusal.Why.{Why}
@@ -35,13 +36,18 @@ abbrev pub is_cache : Option ℕ → Bool
 is_cache None = true
 is_cache (Some room) = is_within 1 65536 room
 
+-- how long responses can be handed over, where a line says it apart
+abbrev pub is_lifetime : Option ℕ → Bool
+is_lifetime None = true
+is_lifetime (Some ms) = nat_le ms 600000
+
 -- a device's name has neither the number of all shelves nor that of all slots
 abbrev pub is_device : TargetId → Bool
 is_device dev = nat_le dev.major 65534 && nat_le dev.minor 254
 
 -- each word of a setup line is in its range
 abbrev pub is_setup : Setup → Bool
-is_setup (Life ms) = nat_le ms 600000
+is_setup (Life requests responses) = nat_le requests 600000 && is_lifetime responses
 is_setup (Shelf name major ports mtu) = is_name name && nat_le major 65534 && are_ports ports && is_within 1500 9000 mtu
 is_setup (Slot shelf minor sectors room) = is_name shelf && nat_le minor 254 && is_within 1 65536 sectors && is_cache room
 is_setup (Host name ports room dead) = is_name name && are_ports ports && is_limit room dead
@@ -61,8 +67,8 @@ is_event (Write host dev at count fill) = is_asked host dev && is_span at count
 is_event (Flush host dev) = is_asked host dev
 is_event (Identify host dev) = is_asked host dev
 is_event (Config host dev ccmd text) = is_asked host dev && nat_le ccmd 4 && nat_le (length text) (if ccmd == 0 then 0 else 1024)
-is_event (Masks host dev edit dirs) = is_asked host dev && is_within (if edit then 1 else 0) (if edit then 64 else 0) (length dirs.items)
-is_event (Reserve host dev rcmd list) = is_asked host dev && nat_le rcmd 2 && nat_le (length list.items) (if rcmd == 0 then 0 else 64)
+is_event (Masks host dev edit dirs) = is_asked host dev && is_within (if edit then 1 else 0) (if edit then max_directives else 0) (length dirs.items)
+is_event (Reserve host dev rcmd list) = is_asked host dev && nat_le rcmd 2 && nat_le (length list.items) (if rcmd == 0 then 0 else max_directives)
 is_event (Tick ms) = is_within 1 10000000 ms
 is_event (Deliver frame station) = is_within 1 4294967295 frame && is_name station
 is_event (Pass n) = is_within 1 10000 n
@@ -79,7 +85,7 @@ abbrev pub same : ArrayVec ℕ → ArrayVec ℕ → Bool
 same a b = bytes_eq a.items b.items
 
 abbrev pub is_life : Setup → Bool
-is_life (Life ms) = true
+is_life (Life requests responses) = true
 is_life _ = false
 
 abbrev pub is_shelf : Setup → Bool
@@ -170,7 +176,7 @@ first_of false false true = Some Unknown
 first_of false false false = None
 
 abbrev pub declared_why : List Setup → Setup → Option Why
-declared_why setups (Life ms) = first_of (list_any is_life setups) false false
+declared_why setups (Life requests responses) = first_of (list_any is_life setups) false false
 declared_why setups (Shelf name major ports mtu) = first_of (is_taken setups name ports.items || list_any (has_major major) setups) (is_full is_shelf setups) false
 declared_why setups (Slot shelf minor sectors room) =
     first_of (list_any (is_slot shelf minor) setups) (is_full (is_slot_of shelf) setups || are_too_many setups sectors) (not (list_any (is_shelf_named shelf) setups))

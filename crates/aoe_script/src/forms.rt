@@ -16,12 +16,13 @@ fn optional_number(words: &Words, i: usize) -> Option<Option<u64>>
     Some(Some(words.number(i)?))
 }
 
-/// `life MS`
+/// `life MS`, or `life REQUESTS RESPONSES`
 pub(crate) fn life_of(words: &Words) -> Option<Setup>
     ensures { result ≡ life_of words.now }
 {
     Some(Setup::Life {
-        ms: words.number(1)?,
+        requests: words.number(1)?,
+        responses: optional_number(words, 2)?,
     })
 }
 

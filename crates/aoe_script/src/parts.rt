@@ -11,7 +11,7 @@ use aoe_base::{Mac, Ports, read_mac};
 use aoe_lists::{Dir, MAX_DIRS};
 use arrayvec::ArrayVec;
 
-/// The addresses that the parts of a text spell, where they are 64 at most.
+/// The addresses that the parts of a text spell, where they are [`MAX_DIRS`] at most.
 #[tactic(auto, unfolding(crate::specs::Classes::macs_of))]
 fn macs_of(text: &[u8]) -> Option<ArrayVec<Mac, MAX_DIRS>>
     ensures { option_map (λ macs. macs.items) result ≡ macs_of text.now }

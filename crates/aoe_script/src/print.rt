@@ -80,7 +80,13 @@ fn put_setup(out: &mut Vec<u8>, setup: &Setup) -> Result<(), NoMemory>
     ensures { OnOk result (out.new.items ≡ out.old.items ++ spelled (setup_words setup.now)) }
 {
     match setup {
-        Setup::Life { ms } => put_count(out, b"life", *ms),
+        Setup::Life {
+            requests,
+            responses,
+        } => {
+            put_words(out, b"life", &[Word::Number(*requests)])?;
+            put_optional(out, *responses)
+        }
         Setup::Shelf {
             name,
             major,

@@ -1,7 +1,8 @@
 //! The ranges of words.
 ghost use Rattle.std.specs.Prelude.{◌≡◌, ◌==◌, nat_le, length, if◌then◌else◌};
 ghost use Rattle.std.specs.List.{list_all};
-ghost use Rattle.aoe_script.specs.Rules.{are_ports, is_asked, is_cache, is_device, is_event, is_limit, is_setup, is_span, is_within};
+ghost use Rattle.aoe_lists.specs.Settings.{max_directives};
+ghost use Rattle.aoe_script.specs.Rules.{are_ports, is_asked, is_cache, is_device, is_event, is_lifetime, is_limit, is_setup, is_span, is_within};
 ghost use Rattle.aoe_base.specs.Addresses.{all_unique, is_individual};
 
 use crate::classes::is_name;
@@ -13,6 +14,9 @@ use arrayvec::ArrayVec;
 
 /// The first sector that has no 48-bit address.
 const END_OF_SECTORS: u64 = 281_474_976_710_656;
+
+/// The longest lifetime of a frame, in milliseconds: ten minutes, a limit of this program.
+const LONGEST_LIFE: u64 = 600_000;
 
 /// Whether a number is one of these.
 fn is_within(least: u64, most: u64, n: u64) -> bool
@@ -46,6 +50,16 @@ fn is_limit(room: Option<u64>, dead: Option<u64>) -> bool
         (Some(room), Some(dead)) => is_within(1, 16384, room) && is_within(1, 10_000_000, dead),
         (None, Some(_)) => false,
         (Some(_), None) => false,
+    }
+}
+
+/// Whether responses can be handed over for so long, where that is given.
+fn is_lifetime(responses: Option<u64>) -> bool
+    ensures { result ≡ is_lifetime responses }
+{
+    match responses {
+        Some(ms) => ms <= LONGEST_LIFE,
+        None => true,
     }
 }
 
@@ -89,7 +103,7 @@ fn has_text(ccmd: u8, text: &Blob) -> bool
 
 /// Whether an action on the mask list can have these directives: a read has none.
 fn has_dirs(edit: bool, dirs: &ArrayVec<Dir, MAX_DIRS>) -> bool
-    ensures { result ≡ is_within (if edit then 1 else 0) (if edit then 64 else 0)
+    ensures { result ≡ is_within (if edit then 1 else 0) (if edit then max_directives else 0)
         (length dirs.now.items) }
 {
     if edit {
@@ -101,7 +115,7 @@ fn has_dirs(edit: bool, dirs: &ArrayVec<Dir, MAX_DIRS>) -> bool
 
 /// Whether an action on the reserve list can have these addresses: a read has none.
 fn has_list(rcmd: u8, list: &ArrayVec<Mac, MAX_DIRS>) -> bool
-    ensures { result ≡ nat_le (length list.now.items) (if rcmd == 0 then 0 else 64) }
+    ensures { result ≡ nat_le (length list.now.items) (if rcmd == 0 then 0 else max_directives) }
 {
     list.len() <= if rcmd == 0 { 0 } else { MAX_DIRS }
 }
@@ -112,7 +126,10 @@ impl Setup {
         ensures { result ≡ is_setup self.now }
     {
         match self {
-            Setup::Life { ms } => *ms <= 600_000,
+            Setup::Life {
+                requests,
+                responses,
+            } => *requests <= LONGEST_LIFE && is_lifetime(*responses),
             Setup::Shelf {
                 name,
                 major,

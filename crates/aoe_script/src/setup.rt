@@ -8,9 +8,11 @@ pub type Name = ArrayVec<u8, 8>;
 /// A setup line. Each field is the word of that line.
 #[derive(Debug, Drop, PartialEq, Eq)]
 pub enum Setup {
-    /// How long a frame lives, in milliseconds.
+    /// How long a request can be handed over, in milliseconds, and how long a response, where that
+    /// is given: as long as a request otherwise.
     Life {
-        ms: u64,
+        requests: u64,
+        responses: Option<u64>,
     },
 
     /// A shelf with its number, its addresses and the mtu that it announces.

@@ -53,7 +53,7 @@ fn row_of(alloc: Global, keyword: Keyword, words: &Words) -> Result<Line, NoMemo
 {
     let count = words.len();
     let line = match keyword {
-        Keyword::Life => declares(count == 2, life_of(words)),
+        Keyword::Life => declares(count == 2 || count == 3, life_of(words)),
         Keyword::Shelf => declares(count == 5, shelf_of(words)),
         Keyword::Slot => declares(count == 4 || count == 5, slot_of(words)),
         Keyword::Host => declares(count == 3 || count == 5, host_of(words)),

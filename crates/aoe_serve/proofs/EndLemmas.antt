@@ -18,7 +18,7 @@ use Rattle.aoe_target.proofs.DeviceLemmas.{first_state}
 use Rattle.aoe_target.proofs.LawLemmas.{agrees_then, both_then, settles_agree}
 use Rattle.aoe_target.proofs.SectorLemmas.{settle_agrees, may_settle_agrees}
 use Rattle.aoe_serve.specs.Ending.{EndsAfter, LeavesKnown, Outlives, after_last}
-use Rattle.aoe_serve.specs.Exporting.{HasRun, Outside, SyncsEach, SyncsSlot, Tells, arrivals_in}
+use Rattle.aoe_serve.specs.Exporting.{FindsAll, HasRun, Outside, SyncsEach, SyncsSlot, Tells, arrivals_in}
 use Rattle.aoe_serve.specs.Files.{OverFiles}
 use Rattle.aoe_serve.specs.declared.plan.Plan.{Plan}
 use Rattle.aoe_serve.specs.declared.plan.Plan.TheVariants as plan
@@ -135,9 +135,6 @@ pub there : (slots : List Slot) (i : ℕ) → i < length slots → There slots i
 there [] i below = absurd (omega (arith, below))
 there (x ∷ slots) zero below = record { slot = x; is = refl }
 there (x ∷ slots) (suc i) below = let t = there slots i (omega (arith, below)) in record { slot = t.slot; is = t.is }
-
-abbrev pub FindsAll : List Slot → Type 0
-FindsAll slots = (i : ℕ) (s : Slot) → slice_get slots i ≡ Some s → AlwaysFinds s.device.keep s.device.lists
 
 pub served_in : {S K L : Type 0} (t : Tells S K L) (p : Plan) (e : RunEnd) (a b : Outside S K L) (old new : List Slot) (ran : HasRun t p e a b old new)
     → AreServed old new (arrivals_in t p e a b old new ran)

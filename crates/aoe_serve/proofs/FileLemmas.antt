@@ -234,13 +234,11 @@ over-files {D} state most name minor disks disks' (a ∷ first) (b ∷ last) cou
     ))
 
 -- a run adds no slot and takes none
-pub run-count : {D S K L : Type 0} (t : Tells S K L) (p : Plan) (e : RunEnd) (a b : Outside S K L) (state : D → DiskState)
-    (old new : List (Mounted (AnyStore D) D))
-    → HasRun t p e a b (slots_of (any_state state) state old) (slots_of (any_state state) state new) → length new ≡ length old
-run-count t p e a b state old new ran =
-    let f = slot_of (any_state state) state in
-    sym (length-map new f) ∙ (served_in t p e a b (slots_of (any_state state) state old) (slots_of (any_state state) state new) ran).slots.count
-    ∙ length-map old f
+pub run-count : {T D S K L : Type 0} (store : T → DiskState) (keep : D → DiskState) (t : Tells S K L) (p : Plan) (e : RunEnd) (a b : Outside S K L)
+    (old new : List (Mounted T D)) → HasRun t p e a b (slots_of store keep old) (slots_of store keep new) → length new ≡ length old
+run-count store keep t p e a b old new ran =
+    let f = slot_of store keep in
+    sym (length-map new f) ∙ (served_in t p e a b (slots_of store keep old) (slots_of store keep new) ran).slots.count ∙ length-map old f
 
 -- a shelf was given these slots, ran, and gave them back
 pub exported : {D S K L : Type 0} (state : D → DiskState) (most most' : ℕ) (name name' : ℕ → ℕ → Station) (minor : ℕ) (t : Tells S K L) (p : Plan)

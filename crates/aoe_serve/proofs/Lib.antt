@@ -7,3 +7,4 @@ mod SyncLemmas
 pub mod BackingLemmas
 pub mod EndLemmas
 mod FileLemmas
+mod MirrorLemmas

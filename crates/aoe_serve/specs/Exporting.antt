@@ -1,10 +1,11 @@
 -- What a run over the slots of a shelf takes, gives and leaves.
-use Rattle.std.specs.Prelude.{ℕ, ◌+◌, ◌/◌, ◌%◌, ◌<◌, ◌≤◌, ◌≡◌, Bool, true, false, List, [], ◌∷◌, length, get_or, Option, Some, None, Result, Ok, Err}
+use Rattle.std.specs.Prelude.{ℕ, ◌+◌, ◌/◌, ◌%◌, ◌<◌, ◌≤◌, ◌≡◌, Bool, true, false, List, [], ◌∷◌, length, get_or, slice_get, Option, Some, None, Result, Ok, Err}
 use Rattle.std.specs.Option.{option_map}
 use Rattle.aoe_base.specs.declared.failure.Failed.{Failed}
 use Rattle.aoe_disk.specs.Calls.{SyncsTo}
 use Rattle.aoe_disk.specs.State.{DiskState}
 use Rattle.aoe_io.specs.Link.{Turn}
+use Rattle.aoe_keep.specs.Found.{AlwaysFinds}
 use Rattle.aoe_serve.specs.Arrivals.{Arrived, at_slot}
 use Rattle.aoe_serve.specs.Answering.{Answered}
 use Rattle.aoe_serve.specs.Serving.{Served}
@@ -120,6 +121,17 @@ pub record HasRunAndSynced {S K L : Type 0} (t : Tells S K L) (p : Plan) (e : Ex
   pub results : List (Result (Unit {0}) Failed)
   pub synced : SyncsEach results middle new
   pub unsynced : e.unsynced ≡ first_failed results
+
+-- every crash finds the lists of each slot
+abbrev pub FindsAll : List Slot → Type 0
+FindsAll slots = (i : ℕ) (s : Slot) → slice_get slots i ≡ Some s → AlwaysFinds s.device.keep s.device.lists
+
+-- The plan was run over these slots, and then each was synced. Where every crash found their lists, each slot holds at the end what is
+-- known after the frames that came to it and the sync, and outlives a loss of power.
+pub record RanSlots {S K L : Type 0} (t : Tells S K L) (p : Plan) (e : Exported) (a b : Outside S K L) (old new : List Slot) : Type 0 where
+  pub run : HasRunAndSynced t p e a b old new
+  pub ends : FindsAll old
+      → EachSlot (λ i x y. EndsAfter (at_slot i (arrivals_in t p e.end a b old run.middle run.ran)) (get_or run.results i (Ok tt)) x y) old new
 
 -- A run over files and their keeps: each pair was a slot, whose store holds back up to so many sectors, the plan was run over the slots, and
 -- then each was synced. At the end each slot holds what is known after the frames that came to it and the sync, and its disks outlive a

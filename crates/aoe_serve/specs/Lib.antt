@@ -9,3 +9,4 @@ pub mod Backing
 pub mod Files
 pub mod Ending
 pub mod Exporting
+pub mod Mirroring

@@ -6,6 +6,10 @@
 //! - [`export`] makes a shelf of files for the time of one such run: it takes the memory of all
 //!   stores, mounts all keeps, runs the [`Plan`], syncs every store, and gives every disk back. A
 //!   store writes through, or holds back as many sectors as the [`Rack`] says (`aoe_cache`).
+//! - [`run_slots`] is the middle of `export`: it runs a plan over the slots of a shelf that is there,
+//!   whatever their stores are, and syncs each store.
+//! - [`export_mirror`] is as `export` for one slot over two files, a mark disk and a keep
+//!   (`aoe_mirror`): the sides are made equal before the run, and after one that ended well.
 //! - [`ShelfLink`] is a link to a shelf in the same process, for a host that needs no network.
 //!
 //! A loop serves one source or one link, one frame after the other. It ends with the first fault of
@@ -18,6 +22,7 @@ mod mount;
 mod outlet;
 mod over_files;
 mod over_link;
+mod over_mirror;
 mod over_stream;
 mod plan;
 mod replies;
@@ -27,6 +32,8 @@ mod shelf_link;
 
 pub use over_files::{Rack, export};
 pub use over_link::{ServeEnd, serve};
+pub use over_mirror::{MirrorDisks, MirrorEnd, MirrorStop, export_mirror};
 pub use over_stream::{AnswerEnd, answer};
 pub use plan::{ExportRefusal, Exported, Plan, RunEnd};
+pub use run::run_slots;
 pub use shelf_link::ShelfLink;

@@ -7,8 +7,7 @@ ghost use Rattle.aoe_keep.specs.declared.refusal.MountRefusal.{MountRefusal};
 
 use crate::backing::{Backing, Most};
 use crate::mount::{mount, unmount};
-use crate::run::{run, sync_each};
-use crate::{AnswerEnd, ExportRefusal, Exported, Plan, RunEnd, ServeEnd};
+use crate::{AnswerEnd, ExportRefusal, Exported, Plan, RunEnd, ServeEnd, run_slots};
 use aoe_base::{NoMemory, Ports, TargetId};
 use aoe_disk::Disk;
 use aoe_io::{Link, Sink, Source};
@@ -127,8 +126,7 @@ fn export_at<M: Most, D: Disk + Drop, S: Source, K: Sink, L: Link>(
         Ok(()) => {}
         Err(refusal) => return Err(refusal),
     }
-    let end = run(&mut shelf, plan, source, sink, links);
-    let unsynced = sync_each(&mut shelf);
+    let exported = run_slots(&mut shelf, plan, source, sink, links);
     unmount(&mut shelf, disks);
-    Ok(Exported { end, unsynced })
+    Ok(exported)
 }

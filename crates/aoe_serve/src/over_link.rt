@@ -25,7 +25,7 @@ pub enum ServeEnd {
 }
 
 /// Waits for a frame for up to `idle` turns, and says what the last turn was.
-fn wait<L: Link>(link: &mut L, idle: u32, out: &mut Frame) -> Result<Got, Failed>
+fn wait<L: Link>(link: &mut L, idle: u64, out: &mut Frame) -> Result<Got, Failed>
     ensures waited { (turns : List Turn) × Waited result idle out.new.items turns
         × Turned (L.turns link.old) (L.turns link.new) (L.given link.old) (L.given link.new) turns }
     ensures taken { L.taken link.new ≡ L.taken link.old }
@@ -49,8 +49,8 @@ fn wait<L: Link>(link: &mut L, idle: u32, out: &mut Frame) -> Result<Got, Failed
 pub fn serve<S: Store, D: Disk, L: Link>(
     shelf: &mut Shelf<S, D>,
     link: &mut L,
-    frames: u32,
-    idle: u32,
+    frames: u64,
+    idle: u64,
 ) -> ServeEnd
     ensures run { Served result frames idle (L.turns link.old) (L.turns link.new) (L.given link.old) (L.given link.new) (L.taken link.old) (L.taken link.new)
         (slots_of S.state D.state shelf.old.targets) (slots_of S.state D.state shelf.new.targets) }

@@ -10,7 +10,7 @@ pub enum Plan {
     Answer,
 
     /// The first link is served, until `frames` frames came or `idle` consecutive turns were quiet.
-    Serve { frames: u32, idle: u32 },
+    Serve { frames: u64, idle: u64 },
 }
 
 /// How the frames ended.

@@ -2,10 +2,10 @@
 ghost use Rattle.std.specs.Prelude.{◌≡◌, ◌≤◌, ◌<◌, List, Result, length, true};
 ghost use Rattle.aoe_base.specs.Faults.{Blamed};
 ghost use Rattle.aoe_base.specs.declared.failure.Failed.{Failed};
-ghost use Rattle.aoe_serve.specs.Exporting.{AtFirst, HasRun, SyncsEach, first_failed, first_of, is_served};
+ghost use Rattle.aoe_serve.specs.Exporting.{AtFirst, HasRun, RanSlots, SyncsEach, first_failed, first_of, is_served};
 ghost use Rattle.aoe_serve.specs.Slots.{slots_of};
 
-use crate::{AnswerEnd, Plan, RunEnd, ServeEnd, answer, serve};
+use crate::{AnswerEnd, Exported, Plan, RunEnd, ServeEnd, answer, serve};
 use aoe_base::Failed;
 use aoe_disk::Disk;
 use aoe_io::{Link, Sink, Source};
@@ -64,4 +64,37 @@ pub(crate) fn run<T: Store, D: Disk, S: Source, K: Sink, L: Link>(
         Plan::Answer => RunEnd::Answered(answer(shelf, source, sink)),
         Plan::Serve { frames, idle } => RunEnd::Served(serve(shelf, &mut links[0], frames, idle)),
     }
+}
+
+/// Runs the plan over the slots of a shelf, whatever their stores are, and then syncs each store in
+/// order, however the run ended.
+///
+/// It is what [`export`](crate::export) does between mounting files and giving them back, for stores
+/// of another kind. The shelf keeps its slots.
+pub fn run_slots<T: Store, D: Disk, S: Source, K: Sink, L: Link>(
+    shelf: &mut Shelf<T, D>,
+    plan: Plan,
+    source: &mut S,
+    sink: &mut K,
+    links: &mut [L],
+) -> Exported
+    requires { is_served plan ≡ true → 0 < length links.old }
+    ensures ran { RanSlots record { left = S.left; held = K.held; turns = L.turns; given = L.given; taken = L.taken } plan result
+        record { source = source.old; sink = sink.old; links = links.old } record { source = source.new; sink = sink.new; links = links.new }
+        (slots_of T.state D.state shelf.old.targets) (slots_of T.state D.state shelf.new.targets) }
+    ensures count { length shelf.new.targets ≡ length shelf.old.targets }
+    ensures rest { shelf.new ≡ record shelf.old { targets = shelf.new.targets } }
+    ensures source_count { S.faults source.old ≤ S.faults source.new }
+    ensures sink_count { K.faults sink.old ≤ K.faults sink.new }
+    ensures link_count { AtFirst (λ a b. L.faults a ≤ L.faults b) links.old links.new }
+    ensures source_blame { Blamed (result.end ≡ RunEnd.Answered AnswerEnd.SourceFault)
+        (S.faults source.old) (S.faults source.new) }
+    ensures sink_blame { Blamed (result.end ≡ RunEnd.Answered AnswerEnd.SinkFault)
+        (K.faults sink.old) (K.faults sink.new) }
+    ensures link_blame { AtFirst (λ a b. Blamed (result.end ≡ RunEnd.Served ServeEnd.LinkFault)
+        (L.faults a) (L.faults b)) links.old links.new }
+{
+    let end = run(shelf, plan, source, sink, links);
+    let unsynced = sync_each(shelf);
+    Exported { end, unsynced }
 }

@@ -38,6 +38,14 @@ fn body_of(turn: u8, string: u8) -> [u8; 3584] {
     body
 }
 
+/// A body of format 2 with the mark and a config string of one byte.
+fn marked_body(turn: u8, mark: u8, string: u8) -> [u8; 3584] {
+    let mut body = body_of(turn, mark);
+    body[4] = 2;
+    body[11] = string;
+    body
+}
+
 /// Writes a body, and says whether that was Ok.
 fn write_body(disk: &mut MemDisk, slot: u64, body: &[u8; 3584]) -> bool {
     let at = if slot == 0 { 1 } else { 9 };
@@ -118,6 +126,75 @@ fn finds_the_later_of_two_slots(rt: HostRuntime) -> Result<(), Fail> {
     ];
     for (is_open, first, second, wanted) in &cases {
         assert!(rt; finds(rt.alloc(), *is_open, *first, *second, wanted)?);
+    }
+    Ok(())
+}
+
+/// The number of the format that a mounting finds, the first byte of the config string and the mark.
+fn found_format(disk: MemDisk) -> Option<(u8, Option<u8>, bool)> {
+    match Keep::mount(disk) {
+        Ok(keep) => {
+            let lists = keep.lists();
+            let string = lists.config.as_slice().first().copied();
+            Some((keep.format(), string, lists.read_only))
+        }
+        Err(_) => None,
+    }
+}
+
+/// Whether a body in the first slot alone is found so.
+fn reads(
+    alloc: Global,
+    body: &[u8; 3584],
+    wanted: &Option<(u8, Option<u8>, bool)>,
+) -> Result<bool, Fail> {
+    let mut disk = MemDisk::new(alloc, 16)?;
+    let is_open = open_slot(&mut disk, 0, body);
+    Ok(found_format(disk) == *wanted && is_open)
+}
+
+#[test]
+fn reads_both_formats(rt: HostRuntime) -> Result<(), Fail> {
+    let cases = [
+        (body_of(0, b'x'), Some((1, Some(b'x'), false))),
+        // What is a mark in format 2 is the first byte of the string in format 1.
+        (body_of(0, 1), Some((1, Some(1), false))),
+        (marked_body(0, 0, b'x'), Some((2, Some(b'x'), false))),
+        (marked_body(0, 1, b'x'), Some((2, Some(b'x'), true))),
+        (marked_body(0, 2, b'x'), None),
+    ];
+    for (body, wanted) in &cases {
+        assert!(rt; reads(rt.alloc(), body, wanted)?);
+    }
+    Ok(())
+}
+
+/// What a mounting finds after a loss of power in the `k`-th call of an upgrade.
+fn left_by_upgrade(alloc: Global, k: u32, how: Loss) -> Result<Option<(u8, Option<u8>, bool)>, Fail>
+    requires { 0 < k }
+{
+    let mut disk = MemDisk::new(alloc, 16)?;
+    let _ = open_slot(&mut disk, 0, &body_of(0, b'x'));
+    let _ = disk.sync();
+    match Keep::mount(disk) {
+        Ok(mut keep) => {
+            keep.arm(Arm::Stop(k));
+            let _ = keep.upgrade();
+            Ok(found_format(keep.close().crash(how)))
+        }
+        Err(_) => Err(Fail::from("a keep of format 1")),
+    }
+}
+
+#[test]
+fn an_upgrade_loses_nothing_at_any_call(rt: HostRuntime) -> Result<(), Fail> {
+    for k in 1..8u32 {
+        for how in [Loss::Keep, Loss::Old] {
+            let is_written = k == 7 || k == 6 && how == Loss::Keep;
+            let format = if is_written { 2 } else { 1 };
+            let left = left_by_upgrade(rt.alloc(), k, how)?;
+            assert!(rt; left == Some((format, Some(b'x'), false)));
+        }
     }
     Ok(())
 }

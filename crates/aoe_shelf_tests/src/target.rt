@@ -328,10 +328,10 @@ fn config_strings(rt: HostRuntime) -> Result<(), Fail> {
     Ok(())
 }
 
-/// An edit that adds 64 stations, of which A is the first.
+/// An edit that adds 180 stations, of which A is the first.
 fn full_list() -> Frame {
-    let mut edit = joined(&[&[0, 1, 0, 64, 0, 1], &A]);
-    for last in 0x10..0x4f {
+    let mut edit = joined(&[&[0, 1, 0, 180, 0, 1], &A]);
+    for last in 0x10..0xc3 {
         let _ = edit.try_extend_from_slice(&[0, 1, 2, 0, 0, 0, 0, last]);
     }
     edit
@@ -356,7 +356,7 @@ fn an_edit_that_does_not_fit(rt: HostRuntime) -> Result<(), Fail> {
         )
     );
     let masks = &target.lists().masks;
-    assert!(rt; masks.len() == 64 && masks.contains(&Mac([2, 0, 0, 0, 0, 0x10])));
+    assert!(rt; masks.len() == 180 && masks.contains(&Mac([2, 0, 0, 0, 0, 0x10])));
     Ok(())
 }
 

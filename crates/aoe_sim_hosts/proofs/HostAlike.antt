@@ -100,5 +100,5 @@ alike s host h x is time = record {
   life = is.life;
   room = is.room;
   clock = time;
-  abouts = is.devices ∙ sym (abouts-of host.ports s.life (clock h) 0 (commands_of host h) host.devices);
+  abouts = is.devices ∙ sym (abouts-of host.ports s.life.requests.0 (clock h) 0 (commands_of host h) host.devices);
 }

@@ -1,5 +1,6 @@
 -- An entry that says nothing of a host leaves what the history says of it.
 use Rattle.std.proofs.Common.{ℕ, ◌≡◌, true, List, ◌∷◌, Some, refl}
+use Rattle.aoe_base.specs.declared.counted.Lifetimes.{Lifetimes}
 use Rattle.aoe_net.specs.Network.{fresh_bytes, numbered, SentFrame}
 use Rattle.aoe_history.specs.declared.entry.Entry.{Entry}
 use Rattle.aoe_history.specs.declared.entry.Entry.TheVariants.{Submitted, Sent, Injected, Arrived, Took, Done, Ticked}
@@ -19,12 +20,12 @@ pub record Leaves (host : HostSetup) (h n : List Entry) : Type 0 where
   pub log : log_of host n ≡ log_of host h
   pub submissions : (c : ℕ) → submission host n c ≡ submission host h c
   pub response : last_response host n ≡ last_response host h
-  pub arrives : (life k : ℕ) (f : List ℕ) → arriving life h k ≡ Some f → arriving life n k ≡ Some f
+  pub arrives : (life : Lifetimes) (k : ℕ) (f : List ℕ) → arriving life h k ≡ Some f → arriving life n k ≡ Some f
 
 -- ---- frames that can be handed over
 
 -- a frame more leaves those that are there
-arrives-later : (h n : List Entry) (g : SentFrame) → frames n ≡ g ∷ frames h → clock n ≡ clock h → (life k : ℕ) (f : List ℕ) → arriving life h k ≡ Some f
+arrives-later : (h n : List Entry) (g : SentFrame) → frames n ≡ g ∷ frames h → clock n ≡ clock h → (life : Lifetimes) (k : ℕ) (f : List ℕ) → arriving life h k ≡ Some f
     → arriving life n k ≡ Some f
 arrives-later h n g more time life k f e =
     let x = some-then (fresh_bytes (network life h) (clock h)) (numbered (frames h) k) f e in
@@ -63,7 +64,7 @@ module _ (host : HostSetup) (h : List Entry) where
   response-left (Took name number stale) away = rw (not-true _ away)
   response-left _ away = refl
 
-  arrives-left : (e : Entry) → is_apart host e ≡ true → (life k : ℕ) (f : List ℕ) → arriving life h k ≡ Some f → arriving life (e ∷ h) k ≡ Some f
+  arrives-left : (e : Entry) → is_apart host e ≡ true → (life : Lifetimes) (k : ℕ) (f : List ℕ) → arriving life h k ≡ Some f → arriving life (e ∷ h) k ≡ Some f
   arrives-left (Sent name t number bytes) away = arrives-later h (Sent name t number bytes ∷ h) (record { bytes = bytes; birth = clock h }) refl refl
   arrives-left (Injected number bytes) away = arrives-later h (Injected number bytes ∷ h) (record { bytes = bytes; birth = clock h }) refl refl
   arrives-left (Arrived dev frame (Replied effect number bytes)) away =

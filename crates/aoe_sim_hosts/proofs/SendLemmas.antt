@@ -12,6 +12,7 @@ use Rattle.aoe_base.specs.Addresses.{IsDistinct}
 use Rattle.aoe_frame.specs.declared.header.Header.{Header}
 use Rattle.aoe_frame.specs.Header.{fields, header_bytes}
 use Rattle.aoe_base.proofs.MacLemmas.{six-is}
+use Rattle.aoe_base.specs.declared.counted.Lifetimes.{Lifetimes}
 use Rattle.aoe_initiator.specs.declared.device.Attached.{Attached}
 use Rattle.aoe_initiator.specs.declared.op.Op.{Op}
 use Rattle.aoe_initiator.specs.declared.step.Sent as step
@@ -164,7 +165,7 @@ module _ {s : Setup} {host : HostSetup} {name : ArrayVec ℕ} {h m : List Entry}
       )
 
   -- there is no room for one frame more
-  pub sends-full : (life : ℕ) → IsFull (network life m) f → MeetsFull s (SendsSome name h) m
+  pub sends-full : (life : Lifetimes) → IsFull (network life m) f → MeetsFull s (SendsSome name h) m
   sends-full life full = record { entry = entry; called_for = sends; may_come = may-come; bytes = f; brings = refl; full = full }
 
 -- nothing more may be sent

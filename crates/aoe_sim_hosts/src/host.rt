@@ -15,7 +15,7 @@ ghost use Rattle.aoe_base.specs.Addresses.{IsDistinct};
 ghost use Rattle.aoe_history.specs.Run.{is_plain};
 
 use crate::copies::op_copy;
-use aoe_base::{DeviceNo, FrameNo, Millis, NoMemory, Ports, TargetId, Ticket, copy_of};
+use aoe_base::{DeviceNo, FrameNo, Lifetimes, Millis, NoMemory, Ports, TargetId, Ticket, copy_of};
 use aoe_history::{Boxed, Entry, Run};
 use aoe_initiator::{Initiator, Op, SubmitRefusal, Taken, held_law};
 use aoe_script::Name;
@@ -82,24 +82,26 @@ fn entry_of(
 }
 
 impl NamedHost {
-    /// A host with these ports, attached to no device. A frame can arrive as long as `life` after
-    /// it was sent, at most `room` commands fly or rest, and a command is given up after `dead`.
+    /// A host with these ports, attached to no device. A frame can arrive as long after it was sent
+    /// as `life` has it for its kind, at most `room` commands fly or rest, and a command is given up
+    /// after `dead`.
     pub fn new(
         alloc: Global,
         name: Name,
         ports: &Ports,
-        life: Millis,
+        life: Lifetimes,
         room: u32,
         dead: Millis,
     ) -> Result<NamedHost, NoMemory>
         requires port { 0 < length ports.now.items }
         requires differ { IsDistinct ports.now.items }
-        requires life { life.0 ≤ 600000 }
+        requires requests { life.requests.0 ≤ 600000 }
+        requires responses { life.responses.0 ≤ 600000 }
         requires some_room { 0 < room }
         requires room { room ≤ 16384 }
         requires dead { 0 < dead.0 }
         ensures value { IfOk result
-            (λ x. x ≡ record { name = name; core = new_host ports.now.items life.0 room dead.0 }) }
+            (λ x. x ≡ record { name = name; core = new_host ports.now.items life room dead.0 }) }
         ensures matches { IfOk result (λ x. Matches [] x.core) }
     {
         let core = Initiator::new(alloc, ports, life, room, dead)?;
@@ -128,7 +130,7 @@ impl NamedHost {
         requires allowed { attach_refusal dev remotes.now.items self.old.core.devices ≡ None }
         ensures ok { OnOk result (self.new ≡ record self.old {
           core = with_device self.old.core
-              (new_device self.old.core.ports dev remotes.now.items total max self.old.core.life);
+              (new_device self.old.core.ports dev remotes.now.items total max self.old.core.life.requests.0);
         }) }
         ensures matches { OnOk result ((log : List LogEvent) → Matches log self.old.core
             → Matches log self.new.core) }

@@ -1,6 +1,6 @@
 -- What a setup line says in which nothing is wrong behind those before it, kind by kind.
 use Rattle.std.proofs.Common.{ℕ, ◌<◌, ◌≤◌, ◌≡◌, Bool, true, false, List, length, take, Option, Some, None, refl, count_by, arith}
-use Rattle.std.specs.Prelude.{slice_get}
+use Rattle.std.specs.Prelude.{slice_get, unwrap_or}
 use Rattle.std.specs.List.{list_any}
 use Rattle.std.proofs.lemmas.Bool.Decides.{nat_tests}
 use Rattle.std.proofs.lemmas.Option.{MatchOption-at_some}
@@ -55,15 +55,22 @@ pub record GoodAttach (before : List Line) (host shelf : ArrayVec ℕ) (minor : 
   pub host_there : list_any (is_host_named host) before ≡ true
   pub slot_there : list_any (is_slot shelf minor) before ≡ true
 
+-- lifetimes that a line can have: its first number, and its second where it has one
+pub record GoodLife (first : ℕ) (second : Option ℕ) : Type 0 where
+  pub requests : first ≤ 600000
+  pub responses : unwrap_or second first ≤ 600000
+
 good-ports : (ports : ArrayVec Mac) → are_ports ports ≡ true → ArePorts ports.items
 unfolding are_ports
 good-ports ports e =
     let t : (1 ≤ length ports.items) × (length ports.items ≤ 4) × (all_unique ports.items ≡ true) = grind (arith, nat_tests) in
     record { some = t.0; few = t.1; distinct = all-distinct ports.items t.2 }
 
-good-life : (before : List Line) (ms : ℕ) → setup_why before false (Life ms) ≡ None → ms ≤ 600000
+good-life : (before : List Line) (requests : ℕ) (responses : Option ℕ) → setup_why before false (Life requests responses) ≡ None
+    → GoodLife requests responses
 unfolding setup_why
-good-life before ms e = grind (arith, nat_tests)
+good-life before requests None e = let low : requests ≤ 600000 = grind (arith, nat_tests) in record { requests = low; responses = low }
+good-life before requests (Some responses) e = record { requests = grind (arith, nat_tests); responses = grind (arith, nat_tests) }
 
 good-shelf : (before : List Line) (name : ArrayVec ℕ) (major : ℕ) (ports : ArrayVec Mac) (mtu : ℕ)
     → setup_why before false (Shelf name major ports mtu) ≡ None → GoodShelf before name major ports mtu
@@ -88,7 +95,7 @@ good-attach before host shelf minor e = grind (arith, nat_tests)
 -- ---- all lines
 
 pub record AreGood (lines : List Line) : Type 0 where
-  pub life : (k ms : ℕ) → slice_get lines k ≡ Some (Life ms) → ms ≤ 600000
+  pub life : (k requests : ℕ) (responses : Option ℕ) → slice_get lines k ≡ Some (Life requests responses) → GoodLife requests responses
   pub shelf : (k : ℕ) (name : ArrayVec ℕ) (major : ℕ) (ports : ArrayVec Mac) (mtu : ℕ) → slice_get lines k ≡ Some (Shelf name major ports mtu)
       → GoodShelf (take k lines) name major ports mtu
   pub slot : (k : ℕ) (shelf : ArrayVec ℕ) (minor sectors : ℕ) (room : Option ℕ) → slice_get lines k ≡ Some (Slot shelf minor sectors room)
@@ -99,7 +106,7 @@ pub record AreGood (lines : List Line) : Type 0 where
 
 pub are-good : (script : ScriptLines) → IsScript script → AreGood script.setups
 are-good script is = record {
-  life = λ k ms e. good-life _ ms (why k e);
+  life = λ k requests responses e. good-life _ requests responses (why k e);
   shelf = λ k name major ports mtu e. good-shelf _ name major ports mtu (why k e);
   slot = λ k shelf minor sectors room e. good-slot _ shelf minor sectors room (why k e);
   host = λ k name ports room dead e. good-host _ name ports room dead (why k e);

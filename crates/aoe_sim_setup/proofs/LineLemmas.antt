@@ -30,7 +30,7 @@ held-at ports port e =
     record { at = p.at; there = p.there ∙ ap Some (same-address p.x port p.holds) }
 
 pub port-in : (port : Mac) (line : Line) → has_port port line ≡ holds (addresses_in line) port
-port-in port (Life ms) = refl
+port-in port (Life requests responses) = refl
 port-in port _ = refl
 
 -- ---- lines by their places

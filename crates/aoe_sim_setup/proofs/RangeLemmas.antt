@@ -4,15 +4,17 @@ use Rattle.std.specs.Prelude.{slice_get, is_some, option_and_then, unwrap_or}
 use Rattle.std.specs.List.{find}
 use Rattle.std.proofs.lemmas.Bool.Decides.{nat_tests}
 use Rattle.arrayvec.specs.ArrayVec.{ArrayVec}
+use Rattle.aoe_base.specs.declared.counted.Lifetimes.{Lifetimes}
 use Rattle.aoe_initiator.specs.declared.device.Attached.{Attached}
+use Rattle.aoe_initiator.specs.Defaults.{default_dead, default_life, default_room}
 use Rattle.aoe_initiator.specs.HostLaw.{same_id}
 use Rattle.aoe_history.specs.Setup.{HostSetup}
 use Rattle.aoe_script.specs.declared.setup.Setup.{Setup as Line}
 use Rattle.aoe_script.specs.declared.setup.Setup.TheVariants.{Life, Host}
 use Rattle.aoe_script.specs.Rules.{is_cache, is_host as is_host_line, is_limit}
-use Rattle.aoe_sim_setup.specs.Layout.{host_in, default_dead, default_life, default_room, life_in, setup_of}
+use Rattle.aoe_sim_setup.specs.Layout.{host_in, life_in, setup_of}
 use Rattle.aoe_sim_setup.specs.Stations.{HasRanges, IsCache, IsDevice, IsHost, IsSlot}
-use Rattle.aoe_sim_setup.proofs.GoodLines.{within, AreGood}
+use Rattle.aoe_sim_setup.proofs.GoodLines.{within, AreGood, GoodLife}
 use Rattle.aoe_sim_setup.proofs.HostLemmas.{device-from, devices-apart, host-at, host-from, DeviceFrom, HostFrom}
 use Rattle.aoe_sim_setup.proofs.LineLemmas.{slot_in, SlotLine}
 use Rattle.aoe_sim_setup.proofs.ListLemmas.{apart-by, few-filtered}
@@ -37,11 +39,15 @@ is-cache (Some room) e = within 1 65536 room e
 
 -- ---- the first line that says how long frames live
 
-life-by : (lines : List Line) → ((k ms : ℕ) → slice_get lines k ≡ Some (Life ms) → ms ≤ 600000)
-    → unwrap_or (option_and_then life_in (find (λ line. is_some (life_in line)) lines)) default_life ≤ 600000
-life-by [] few = omega arith
-life-by (Life ms ∷ lines) few = few 0 ms refl
-life-by (_ ∷ lines) few = life-by lines (λ k ms e. few (suc k) ms e)
+record ShortLife (life : Lifetimes) : Type 0 where
+  requests : life.requests.0 ≤ 600000
+  responses : life.responses.0 ≤ 600000
+
+life-by : (lines : List Line) → ((k requests : ℕ) (responses : Option ℕ) → slice_get lines k ≡ Some (Life requests responses) → GoodLife requests responses)
+    → ShortLife (unwrap_or (option_and_then life_in (find (λ line. is_some (life_in line)) lines)) default_life)
+life-by [] few = record { requests = omega arith; responses = omega arith }
+life-by (Life requests responses ∷ lines) few = let g = few 0 requests responses refl in record { requests = g.requests; responses = g.responses }
+life-by (_ ∷ lines) few = life-by lines (λ k requests responses e. few (suc k) requests responses e)
 
 module _ (lines : List Line) (good : AreGood lines) where
   -- the ranges of a slot by its two lines
@@ -85,7 +91,8 @@ module _ (lines : List Line) (good : AreGood lines) where
 
   pub has-ranges : HasRanges (setup_of lines)
   has-ranges = record {
-    life = life-by lines good.life;
+    requests = (life-by lines good.life).requests;
+    responses = (life-by lines good.life).responses;
     few_hosts = few-hosts;
     hosts = λ i host e. is-host host (host-from lines i host e);
     slots = λ i slot e. let x = slot-from lines good slot (record { at = i; there = e }) in rw (← x.slot_is) (line-ranges x.line).0;

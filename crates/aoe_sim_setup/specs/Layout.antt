@@ -3,7 +3,9 @@ use Rattle.std.specs.Prelude.{ℕ, List, [], Option, Some, None, option_map, opt
 use Rattle.std.specs.List.{filter_map, find, flat_map}
 use Rattle.arrayvec.specs.ArrayVec.{ArrayVec}
 use Rattle.aoe_base.specs.declared.address.Mac.{Mac}
+use Rattle.aoe_base.specs.declared.counted.Lifetimes.{Lifetimes}
 use Rattle.aoe_initiator.specs.declared.device.Attached.{Attached}
+use Rattle.aoe_initiator.specs.Defaults.{default_dead, default_life, default_room}
 use Rattle.aoe_target.specs.Mounted.{station_of}
 use Rattle.aoe_history.specs.Groups.{Station}
 use Rattle.aoe_history.specs.Groups.Station.{Shelf as ShelfStation, Host as HostStation}
@@ -12,19 +14,9 @@ use Rattle.aoe_script.specs.declared.setup.Setup.{Setup as Line}
 use Rattle.aoe_script.specs.declared.setup.Setup.TheVariants.{Life, Shelf, Slot, Host, Attach}
 use Rattle.aoe_script.specs.Rules.{is_shelf_named, is_slot, same}
 
--- how long a frame can be handed over, where no line says it
-abbrev pub default_life : ℕ
-default_life = 2000
-
--- how many commands of a host fly or rest, and after how many milliseconds one is given up, where its line doesn't say it
-abbrev pub default_room : ℕ
-default_room = 4096
-
-abbrev pub default_dead : ℕ
-default_dead = 180000
-
-abbrev pub life_in : Line → Option ℕ
-life_in (Life ms) = Some ms
+-- how long frames can be handed over, where a line says it: responses as long as requests, where it says no other number
+abbrev pub life_in : Line → Option Lifetimes
+life_in (Life requests responses) = Some (record { requests = record { 0 = requests }; responses = record { 0 = unwrap_or responses requests } })
 life_in line = None
 
 -- a slot of the shelf with this number, these ports and this mtu; its store has a cache where its line gives a room

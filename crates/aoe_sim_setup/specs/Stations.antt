@@ -79,7 +79,8 @@ pub record IsSlot (slot : SlotSetup) : Type 0 where
   pub cache : IsCache slot.cache
 
 pub record HasRanges (s : Setup) : Type 0 where
-  pub life : s.life ≤ 600000
+  pub requests : s.life.requests.0 ≤ 600000
+  pub responses : s.life.responses.0 ≤ 600000
   pub few_hosts : length s.hosts ≤ 16
   pub hosts : (i : ℕ) (host : HostSetup) → slice_get s.hosts i ≡ Some host → IsHost host
   pub slots : (i : ℕ) (slot : SlotSetup) → slice_get s.slots i ≡ Some slot → IsSlot slot

@@ -5,6 +5,7 @@ use Rattle.std.proofs.lemmas.List.{drop_all, set-get_or}
 use Rattle.std.proofs.lemmas.Option.{gets, slice_get-get_or, slice_get_within}
 use Rattle.std.specs.Prelude.{slice_get, IsSomeAnd}
 use Rattle.aoe_base.specs.declared.address.TargetId.{TargetId}
+use Rattle.aoe_base.specs.declared.counted.Lifetimes.{Lifetimes}
 use Rattle.aoe_disk.specs.declared.loss.Loss.{Loss}
 use Rattle.aoe_net.specs.Network.{fresh_bytes, numbered}
 use Rattle.aoe_shelf.specs.Slot.{ChangesAt}
@@ -34,7 +35,7 @@ use Rattle.aoe_initiator.proofs.ListLemmas.{get-there as there}
 -- THE FRAME
 
 -- a frame can be handed over after another frame came to a shelf
-still-arriving : (life : ℕ) (h : List Entry) (number : ℕ) (f : List ℕ) (dev : TargetId) (frame : ℕ) (fate : Fate) → arriving life h number ≡ Some f
+still-arriving : (life : Lifetimes) (h : List Entry) (number : ℕ) (f : List ℕ) (dev : TargetId) (frame : ℕ) (fate : Fate) → arriving life h number ≡ Some f
     → arriving life (Arrived dev frame fate ∷ h) number ≡ Some f
 still-arriving life h number f dev frame (Replied effect n bytes) e =
     let found = some-then (fresh_bytes (network life h) (clock h)) (numbered (frames h) number) f e in
@@ -129,7 +130,7 @@ module _ {i : ℕ} {f : List ℕ} {w : Heard} {out : List ℕ} {x y : MemoryRack
     comes (Some how) is = is-cut how (sym is)
 
     -- or its reply is the next frame, for which there is no room
-    no-room : (life : ℕ) (o : Option Loss) (v : Heard) → o ≡ stop_at armed w → w ≡ v → IsReplyFull o v (network life h) out
+    no-room : (life : Lifetimes) (o : Option Loss) (v : Heard) → o ≡ stop_at armed w → w ≡ v → IsReplyFull o v (network life h) out
         → MeetsFull s (ArriveAtSome number f slots (drop i slots) h) h
     no-room life None (heard.Replied e) is same full =
         let fate : Fate = Replied e (next_number h) out in
@@ -151,7 +152,7 @@ module _ {i : ℕ} {f : List ℕ} {w : Heard} {out : List ℕ} {x y : MemoryRack
       let name : dev ≡ slot.0.station.id = rw (z.change.found, (served slot.0 slot.1).station) at z.name in
       rw (e, name) (comes slot.0 slot.1 stop z.is)
 
-  pub turn-full : (life : ℕ) → IsReplyFull stop w (network life h) out → MeetsFull s (ArriveAtSome number f slots (drop i slots) h) h
+  pub turn-full : (life : Lifetimes) → IsReplyFull stop w (network life h) out → MeetsFull s (ArriveAtSome number f slots (drop i slots) h) h
   turn-full life full = let slot = slot-here in no-room slot.0 slot.1 life stop w z.is refl full
 
 -- ONE SLOT AFTER THE OTHER

@@ -142,6 +142,9 @@ left_store how _ _ l n station first z cache under agrees = absurd (grind arith)
 pub lost_sectors : (how : Loss) (a b : AnyStore Memory) → LosesStore how a b → (any_state state_of b).sectors ≡ (any_state state_of a).sectors
 lost_sectors how a b l = grind arith
 
+lost_unarmed : (how : Loss) (a b : AnyStore Memory) → LosesStore how a b → IsStoreDue None b
+lost_unarmed how a b l = grind arith
+
 -- A TARGET
 
 -- a disk that is mounted while no call of it is to fail
@@ -159,7 +162,7 @@ module _ {how : Loss} {a b : Target} (r : Restarts how a b) where
 
   -- no call of its disks is to fail
   pub store_unarmed : IsStoreDue None b.store
-  store_unarmed = grind (arith, r.store)
+  store_unarmed = lost_unarmed how a.store b.store r.store
 
   pub keep_unarmed : option_map number_of b.keep.disk.arming ≡ None
   keep_unarmed = mounted_unarmed r.disk b.keep.disk b.keep.lists r.mounted (rw r.keep.rest)

@@ -18,8 +18,10 @@ use Rattle.aoe_disk.specs.State.{sector, BothTell}
 use Rattle.aoe_disk.specs.declared.loss.Loss.{Loss}
 use Rattle.aoe_disk.proofs.Pieces.{is_loose-replicate}
 use Rattle.aoe_keep.specs.Found.{found, is_open}
-use Rattle.aoe_keep.specs.Keep.{HasMounted, Kept}
-use Rattle.aoe_lists.specs.Settings.{empty_settings}
+use Rattle.aoe_keep.specs.Keep.{HasMounted, IsRefused, Kept}
+use Rattle.aoe_keep.specs.declared.refusal.MountRefusal.{MountRefusal}
+use Rattle.aoe_keep.specs.declared.refusal.MountRefusal.TheVariants.{BadKeep, Failed, TooSmall}
+use Rattle.aoe_lists.specs.Settings.{empty_settings, Settings}
 use Rattle.aoe_shelf.specs.Shelf.{has_minor, refusal_of}
 use Rattle.aoe_target.specs.Device as target
 use Rattle.aoe_target.specs.Mounted.{station_of}
@@ -131,6 +133,13 @@ module _ (n : ℕ) (station : Station) (store : Memory) (is : store ≡ fresh (r
         settled = λ s low. zeros_within.known s low;
       } in
       (refl, OnTrue_from _ _ (λ whole. below))
+
+-- a disk that has room, on which lists stand and of which no call fails is mounted
+pub never_refused : (disk left : Memory) (e : MountRefusal) (lists : Settings) → 16 ≤ length disk.loose → found disk.bytes ≡ Ok lists → disk.arming ≡ None
+    → IsRefused state_of disk e left → ⊥
+never_refused disk left (TooSmall sectors) lists room is unarmed r = omega (arith, room, r.0, r.1)
+never_refused disk left Failed lists room is unarmed r = grind (arith, r.2.run.schedule.due)
+never_refused disk left (BadKeep k) lists room is unarmed r = cc (is, r.1.0)
 
 -- A NEW SLOT
 

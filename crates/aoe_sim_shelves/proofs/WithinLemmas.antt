@@ -1,11 +1,13 @@
 -- What is known of a device of so many sectors, and what a frame leaves of it.
-use Rattle.std.proofs.Common.{◌≡◌, ◌≤◌, ◌+◌, ℕ, Bool, if◌then◌else◌, List, refl, ◌∙◌, arith}
+use Rattle.std.proofs.Common.{◌≡◌, ◌≤◌, ◌+◌, ℕ, Bool, true, false, Ok, Err, if◌then◌else◌, List, refl, ◌∙◌, arith}
 use Rattle.std.proofs.lemmas.Bool.Decides.{nat_tests}
+use Rattle.aoe_base.specs.declared.refusal.AoeError.TheVariants.{BadArgument}
 use Rattle.aoe_base.specs.declared.sectors.Span.{Span}
 use Rattle.aoe_ata.specs.Decision.{answer_of, decision}
 use Rattle.aoe_ata.specs.declared.command.AtaCommand.{AtaCommand}
 use Rattle.aoe_ata.specs.declared.decision.AtaAnswer.{AtaAnswer}
 use Rattle.aoe_ata.specs.declared.decision.AtaAnswer.TheVariants.{Give, Put}
+use Rattle.aoe_ata.specs.declared.decision.AtaDecision.{AtaDecision}
 use Rattle.aoe_lists.specs.Settings.{Settings}
 use Rattle.aoe_target.specs.declared.heard.Effect.TheVariants as effect
 use Rattle.aoe_target.specs.declared.station.Station.{Station}
@@ -13,7 +15,7 @@ use Rattle.aoe_target.specs.declared.verdict.Verdict.{Verdict}
 use Rattle.aoe_target.specs.declared.verdict.Verdict.TheVariants as verdict
 use Rattle.aoe_target.specs.Law.{after_ata, cut, replied, Fate}
 use Rattle.aoe_target.specs.Sectors.{spoils, Same, Sectors}
-use Rattle.aoe_target.specs.Verdict.{ata_verdict, decided, is_heard, judged}
+use Rattle.aoe_target.specs.Verdict.{as_marked, ata_verdict, decided, is_heard, judged}
 use Rattle.aoe_target.specs.Verdict as judge
 use Rattle.aoe_sim_shelves.specs.Rack.{SameWithin}
 
@@ -64,9 +66,19 @@ Ranged n v = Unit {0}
 answer_end : (n : ℕ) (c : AtaCommand) → InEnd n (answer_of n c)
 answer_end n c = grind (arith, nat_tests)
 
-decided_end : (n max : ℕ) (args : List ℕ) → Ranged n (decided (decision n max args))
+marked_end : (n : ℕ) (read_only : Bool) (a : AtaAnswer) → InEnd n a → InEnd n (as_marked read_only a)
+marked_end n true (Put span) e = tt
+marked_end n true (Give span) e = e
+marked_end n false a e = e
+marked_end n true _ e = tt
+
+decided_if : (n : ℕ) (read_only b : Bool) (d : AtaDecision) → InEnd n d.answer → Ranged n (decided read_only (if b then Ok d else Err BadArgument))
+decided_if n read_only true d e = marked_end n read_only d.answer e
+decided_if n read_only false d e = tt
+
+decided_end : (n max : ℕ) (read_only : Bool) (args : List ℕ) → Ranged n (decided read_only (decision n max args))
 unfolding decision
-decided_end n max args = grind (arith, answer_end)
+decided_end n max read_only args = decided_if n read_only _ _ (answer_end n _)
 
 either : (n : ℕ) (b : Bool) (x y : Verdict) → Ranged n x → Ranged n y → Ranged n (if b then x else y)
 either n b x y p q = grind arith

@@ -4,10 +4,10 @@ ghost use Rattle.aoe_initiator.specs.Op.{CanSubmit};
 ghost use Rattle.aoe_base.specs.Addresses.{IsDistinct};
 ghost use Rattle.aoe_script.specs.Classes.{is_name};
 
-use aoe_base::{FrameNo, Mac, Millis, NoMemory, Ports, Span, TargetId};
+use aoe_base::{FrameNo, Mac, NoMemory, Ports, Span, TargetId};
 use aoe_frame::Frame;
 use aoe_history::{Entry, History, Run};
-use aoe_initiator::{Op, Outcome, SubmitRefusal};
+use aoe_initiator::{DEAD, LIFETIMES, Op, Outcome, SubmitRefusal};
 use aoe_net::NetRefusal;
 use aoe_script::Name;
 use aoe_sim_hosts::NamedHost;
@@ -49,7 +49,7 @@ fn attached(alloc: Global) -> Result<NamedHost, NoMemory>
         (position (λ d. same_id d.about.id DEVICE) x.core.devices) ≡ true) }
     ensures tickets { IfOk result (λ x. x.core.last_ticket ≡ 0) }
 {
-    let mut host = NamedHost::new(alloc, name(), &one(A), Millis(2000), 4, Millis(180_000))?;
+    let mut host = NamedHost::new(alloc, name(), &one(A), LIFETIMES, 4, DEAD)?;
     host.attach(DEVICE, &one(SHELF), 16, 2)?;
     Ok(host)
 }
@@ -167,7 +167,7 @@ enum Course {
 /// Whether a new host does so.
 fn does(alloc: Global, course: Course) -> Result<bool, Fail> {
     let mut host = attached(alloc)?;
-    let mut run = Run::new(alloc, Millis(2000));
+    let mut run = Run::new(alloc, LIFETIMES);
     match course {
         Course::EndsOnce => ends_once(&mut host, &mut run),
         Course::RefusesEmpty => refuses_empty(&mut host, &mut run),

@@ -1,7 +1,7 @@
 ghost use Rattle.std.specs.Prelude.{◌≤◌, length};
 
 use crate::checks::holds;
-use aoe_base::{FrameNo, Millis};
+use aoe_base::{FrameNo, Lifetimes, Millis};
 use aoe_net::{Net, NetRefusal};
 use std::test::Fail;
 
@@ -19,18 +19,29 @@ fn hands_over(net: &Net, number: u32, now: u64, frame: Option<&[u8]>) -> bool {
     net.fetch(FrameNo(number), Millis(now)) == frame
 }
 
+/// The lifetimes: responses live shorter.
+const LIFE: Lifetimes = Lifetimes {
+    requests: Millis(2000),
+    responses: Millis(500),
+};
+
+/// As short as a response can be: version 1, and its flag.
+const RESPONSE: [u8; 15] = [0, 0, 0, 0, 0, 0, 0, 0, 0, 0, 0, 0, 0, 0, 0x18];
+
 #[test]
-fn hands_over_within_the_lifetime(rt: HostRuntime) {
-    let mut net = Net::new(rt.alloc(), Millis(2000));
-    let first = sends(&mut net, 5, b"first", 1);
-    let second = sends(&mut net, 7, b"", 2);
-    assert!(rt; first && second && net.count() == 2 && net.total_bytes() == 5);
+fn hands_over_within_the_lifetimes(rt: HostRuntime) {
+    let mut net = Net::new(rt.alloc(), LIFE);
+    let first = sends(&mut net, 5, &RESPONSE[..14], 1);
+    let second = sends(&mut net, 7, &RESPONSE, 2);
+    assert!(rt; first && second && net.count() == 2 && net.total_bytes() == 29);
     // The number, the time, and what comes.
-    let cases: [(u32, u64, Option<&[u8]>); 6] = [
-        (1, 5, Some(b"first")),
-        (1, 2005, Some(b"first")),
+    let cases: [(u32, u64, Option<&[u8]>); 8] = [
+        (1, 5, Some(&RESPONSE[..14])),
+        (1, 2005, Some(&RESPONSE[..14])),
         (1, 2006, None),
-        (2, 2006, Some(b"")),
+        (2, 7, Some(&RESPONSE)),
+        (2, 507, Some(&RESPONSE)),
+        (2, 508, None),
         (0, 7, None),
         (3, 7, None),
     ];

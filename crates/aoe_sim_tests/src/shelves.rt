@@ -1,9 +1,10 @@
 ghost use Rattle.std.specs.Prelude.{◌≡◌, length, IfOk};
 
-use aoe_base::{BROADCAST, FrameNo, Mac, Millis, NoMemory, Ports, TargetId};
+use aoe_base::{BROADCAST, FrameNo, Mac, NoMemory, Ports, TargetId};
 use aoe_disk::Loss;
 use aoe_frame::Frame;
 use aoe_history::{Entry, Fate, History, Run};
+use aoe_initiator::LIFETIMES;
 use aoe_script::Which;
 use aoe_sim_shelves::MemoryRack;
 use aoe_target::Effect;
@@ -147,7 +148,7 @@ enum Course {
 /// Whether a new shelf does so.
 fn does(alloc: Global, course: Course) -> Result<bool, Fail> {
     let mut rack = shelf_of_two(alloc)?;
-    let mut run = Run::new(alloc, Millis(2000));
+    let mut run = Run::new(alloc, LIFETIMES);
     match course {
         Course::Answers => answers(&mut rack, &mut run),
         Course::StopsOnce => stops_once(&mut rack, &mut run),

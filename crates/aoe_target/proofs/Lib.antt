@@ -1,6 +1,7 @@
 mod AddressNumbers
 pub mod DeviceLemmas
 pub mod LawLemmas
+pub mod OneReply
 mod PieceLemmas
 mod PortLemmas
 mod ReceiveLemmas

@@ -1,5 +1,6 @@
 pub mod Verdict
 pub mod Reply
+pub mod Front
 pub mod Sectors
 pub mod Device
 pub mod Law

@@ -1,11 +1,13 @@
 -- What a target does with a frame: the first check that applies decides (AoEr11, "Common AoE header" and the four commands).
-use Rattle.std.specs.Prelude.{ℕ, ◌^◌, ◌<◌, Bool, ◌&&◌, ◌||◌, ◌==◌, not, List, drop, nat_lt, Option, Some, None, Result, Ok, Err, if◌then◌else◌, is_some}
+use Rattle.std.specs.Prelude.{ℕ, ◌^◌, ◌<◌, Bool, true, ◌&&◌, ◌||◌, ◌==◌, not, List, drop, nat_lt, Option, Some, None, Result, Ok, Err, if◌then◌else◌, is_some}
 use Rattle.aoe_base.specs.declared.address.Mac.{Mac}
 use Rattle.aoe_frame.specs.Header.{head, fields}
 use Rattle.aoe_frame.specs.declared.header.Header.{Header}
 use Rattle.aoe_base.specs.declared.refusal.AoeError.{AoeError}
 use Rattle.aoe_base.specs.declared.refusal.AoeError.TheVariants.{UnrecognizedCommand, UnsupportedVersion, TargetIsReserved}
 use Rattle.aoe_base.specs.Addresses.{broadcast, holds, same_address}
+use Rattle.aoe_ata.specs.declared.decision.AtaAnswer.{AtaAnswer}
+use Rattle.aoe_ata.specs.declared.decision.AtaAnswer.TheVariants.{Abort, Put}
 use Rattle.aoe_ata.specs.declared.decision.AtaDecision.{AtaDecision}
 use Rattle.aoe_ata.specs.Decision.{decision, CanServe}
 use Rattle.aoe_lists.specs.declared.config.Facts.{Facts}
@@ -27,16 +29,21 @@ is_heard station h = (holds station.ports.items h.dst || same_address h.dst broa
     && (h.id.major == station.id.major || h.id.major == 65535)
     && (h.id.minor == station.id.minor || h.id.minor == 255)
 
+-- a write within a read-only device is aborted (ATA/ATAPI Command Set, "WRITE SECTOR(S)": ABRT); all else is done there as elsewhere
+abbrev pub as_marked : Bool → AtaAnswer → AtaAnswer
+as_marked true (Put span) = Abort
+as_marked read_only answer = answer
+
 -- the registers are taken, or there is an error
-abbrev pub decided : Result AtaDecision AoeError → Verdict
-decided (Ok d) = Ata d
-decided (Err error) = Refused error
+abbrev pub decided : Bool → Result AtaDecision AoeError → Verdict
+decided read_only (Ok d) = Ata (record d { answer = as_marked read_only d.answer })
+decided read_only (Err error) = Refused error
 
 -- an ATA command: its source may be kept out by the reserve list, before its arguments are looked at
 abbrev pub ata_verdict : Station → Settings → Mac → List ℕ → Verdict
 ata_verdict station lists source args =
     if not (may_use lists source) then Refused TargetIsReserved
-    else decided (decision station.sectors station.max args)
+    else decided lists.read_only (decision station.sectors station.max args)
 
 -- the part of the lists that a command is about
 abbrev pub list_command_of : ℕ → Option ListCommand

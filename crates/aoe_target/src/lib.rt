@@ -9,6 +9,8 @@
 //!
 //! The contract of `receive` is one line of the shelf law, which stands in specs/Law.antt.
 //!
+//! [`judging`] has what a target judges by, for those who have only the frames of a wire.
+//!
 //! A target takes no memory. It remembers no request, so that a frame that comes twice is done
 //! twice, and it makes no failed call of a disk again: the failure is its reply. It knows no other
 //! target of its shelf (`aoe_shelf`), and syncs only for a flush, for a change of the lists, or by
@@ -17,6 +19,7 @@
 
 mod ata;
 mod heard;
+pub mod judging;
 mod reply;
 mod scratch;
 mod station;

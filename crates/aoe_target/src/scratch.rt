@@ -7,7 +7,7 @@ use aoe_lists::{Args, Lists};
 /// The lists that a request makes, and the arguments of its reply. What they hold between two
 /// requests doesn't matter.
 #[derive(Drop)]
-pub(crate) struct Scratch {
+pub struct Scratch {
     pub next: Lists,
     pub args: Args,
 }

@@ -4,11 +4,11 @@ ghost use Rattle.std.specs.Prelude.{◌≡◌, ◌≤◌, IfSome, drop, is_some,
 ghost use Rattle.aoe_frame.specs.Header.{fields, head};
 ghost use Rattle.aoe_lists.specs.Settings.{admits, may_use};
 ghost use Rattle.aoe_lists.specs.Step.{step_with};
-ghost use Rattle.aoe_target.specs.Verdict.{ata_verdict, judged, list_command_of, list_step, CanAct};
+ghost use Rattle.aoe_target.specs.Verdict.{as_marked, ata_verdict, judged, list_command_of, list_step, CanAct};
 
 use crate::Station;
 use crate::scratch::Scratch;
-use aoe_ata::{AtaDecision, decide};
+use aoe_ata::{AtaAnswer, AtaDecision, decide};
 use aoe_base::{AoeError, Mac};
 use aoe_frame::{HEADER_LEN, HeaderView};
 use aoe_lists::{
@@ -93,6 +93,17 @@ fn is_served(lists: &Lists, header: &HeaderView<'_>) -> bool
     serves_all(lists) || may_use(lists, header.src())
 }
 
+/// What is answered by a device that may be read-only, which aborts a write within it.
+#[inline(always)]
+fn unless_read_only(read_only: bool, answer: AtaAnswer) -> AtaAnswer
+    ensures { result ≡ as_marked read_only answer }
+{
+    match answer {
+        AtaAnswer::Put(_) if read_only => AtaAnswer::Abort,
+        _ => answer,
+    }
+}
+
 /// What a target does with an ATA command.
 #[inline(always)]
 fn judge_ata(station: &Station, lists: &Lists, header: &HeaderView<'_>, args: &[u8]) -> Verdict
@@ -103,7 +114,10 @@ fn judge_ata(station: &Station, lists: &Lists, header: &HeaderView<'_>, args: &[
         return Verdict::Refused(AoeError::TargetIsReserved);
     }
     match decide(station.sectors, station.max, args) {
-        Ok(decision) => Verdict::Ata(decision),
+        Ok(AtaDecision { args, answer }) => Verdict::Ata(AtaDecision {
+            args,
+            answer: unless_read_only(lists.read_only, answer),
+        }),
         Err(error) => Verdict::Refused(error),
     }
 }

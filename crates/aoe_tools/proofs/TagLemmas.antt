@@ -182,7 +182,7 @@ module _ (host : Host) (log : List Event) (m : Matches log host) (tags : HasTags
       at false s gives =
           let c = s.command in
           let none : c.sends ≡ None =
-          stage-unsent c.sends c.done (and_parts (unsent (stage c.sends c.done)) (not (list_any (λ earlier. keeps_back host.life host.clock earlier (as_entered c)) (entered_at c.device.0 (commands log)))) s.clear).0 in
+          stage-unsent c.sends c.done (and_parts (unsent (stage c.sends c.done)) (not (list_any (λ earlier. keeps_back host.life.requests.0 host.clock earlier (as_entered c)) (entered_at c.device.0 (commands log)))) s.clear).0 in
           let next = next-tag sent.tag (omega (arith, few-tags, few)) gives.1 in
           let first = tags-first sent.ticket sent.tag (record { 0 = clock log }) sent.path timeouts (commands log) c s.there s.ticket none next tags in
           (omega (arith, next), omega (arith, first.1, few, few-commands 0 host.last_ticket (commands log) (omega arith) m.tickets m.last), rw gives.0 first.0)

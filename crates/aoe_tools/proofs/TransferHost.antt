@@ -129,14 +129,14 @@ next-active host log sent m next = at sent.again next
     at false s =
         let c = s.command in
         let none : c.sends ≡ None =
-        stage-unsent c.sends c.done (and_parts (unsent (stage c.sends c.done)) (not (list_any (λ earlier. keeps_back host.life host.clock earlier (as_entered c)) (entered_at c.device.0 (commands log)))) s.clear).0 in
+        stage-unsent c.sends c.done (and_parts (unsent (stage c.sends c.done)) (not (list_any (λ earlier. keeps_back host.life.requests.0 host.clock earlier (as_entered c)) (entered_at c.device.0 (commands log)))) s.clear).0 in
         active-sent log sent.ticket sent.tag sent.path c s.there s.ticket (ap (active_by (clock log) c.done) none)
 
 -- where nothing is active nothing may be sent
 pub none-active : (host : Host) (log : List Event) → Matches log host → active log ≡ 0 → IsQuiet host (commands log)
 none-active host log m none = record {
   nothing_due = due (commands log) (rw (← m.time) at idle);
-  nothing_clear = inr (All-weaker (λ c. is_active (clock log) c ≡ false) (λ c. is_clear_at host.life host.clock (commands log) c ≡ false) unclear (commands log) idle);
+  nothing_clear = inr (All-weaker (λ c. is_active (clock log) c ≡ false) (λ c. is_clear_at host.life.requests.0 host.clock (commands log) c ≡ false) unclear (commands log) idle);
 }
   where
     idle : All (λ c. is_active (clock log) c ≡ false) (commands log)
@@ -153,10 +153,10 @@ none-active host log m none = record {
         by None is rest = rest
         by (Some x) is rest = All-cons P x (sent_of cs) (due-active host.clock c x is ∙ All-head (λ y. is_active host.clock y ≡ false) c cs all) rest
 
-    unclear : (c : HostCommand) → is_active (clock log) c ≡ false → is_clear_at host.life host.clock (commands log) c ≡ false
+    unclear : (c : HostCommand) → is_active (clock log) c ≡ false → is_clear_at host.life.requests.0 host.clock (commands log) c ≡ false
     unclear c is = by c.sends refl
       where
-        by : (o : Option Sending) → c.sends ≡ o → is_clear_at host.life host.clock (commands log) c ≡ false
+        by : (o : Option Sending) → c.sends ≡ o → is_clear_at host.life.requests.0 host.clock (commands log) c ≡ false
         by None e = absurd (let active = rw e at is in cc)
         by (Some s) e = elim (cases_Bool c.done) [ inl done ↦ rw (e, done) | inr open_yet ↦ rw (e, open_yet) ]
 

@@ -1,5 +1,5 @@
 -- What a run of each tool is, over a link and a clock that tell what they gave.
-use Rattle.std.specs.Prelude.{ℕ, List, Option, Some, Result}
+use Rattle.std.specs.Prelude.{ℕ, ◌≡◌, List, [], Option, Some, Result}
 use Rattle.arrayvec.specs.ArrayVec.{ArrayVec}
 use Rattle.aoe_base.specs.Addresses.{broadcast}
 use Rattle.aoe_base.specs.declared.address.Mac.{Mac}
@@ -14,7 +14,7 @@ use Rattle.aoe_tools.specs.Discovery.{Discovers, finding_question, finding_reque
 use Rattle.aoe_tools.specs.One.{AsksOne, edits_by}
 use Rattle.aoe_tools.specs.Stat.{Stats}
 use Rattle.aoe_tools.specs.TransferAsks.{LinkState}
-use Rattle.aoe_tools.specs.TransferCopies.{Copies, Puts, TakesRead, read_by, read_of}
+use Rattle.aoe_tools.specs.TransferCopies.{Copies, Puts, TakesRead, end_of, read_by, read_of, write_of}
 use Rattle.aoe_tools.specs.TransferInput.{Inputs}
 use Rattle.aoe_tools.specs.declared.course.Course.{Course}
 use Rattle.aoe_tools.specs.declared.end.CopyRefusal.{CopyRefusal}
@@ -99,3 +99,8 @@ RunsGet result ask id at count t held held' = (copied : Result Course ToolRefusa
 abbrev pub RunsPut : Result Unit CopyRefusal → Ask → TargetId → ℕ → Told → Option (List ℕ) → Option (List ℕ) → Type 0
 RunsPut result ask id at t left left' = (input : Result (List ℕ) CopyRefusal)
     × Inputs input left left' × Puts input result ask id at t.least (before t) (after t) t.answers t.answers'
+
+-- the device was flushed (ATA, FLUSH CACHE): what a write of no sectors ends with
+abbrev pub RunsFlush : Result Unit ToolRefusal → TargetId → Ask → Told → Type 0
+RunsFlush result id ask t = (flushed : Result Course ToolRefusal)
+    × Copies flushed ask id (write_of 0 []) t.least (before t) (after t) t.answers t.answers' × (result ≡ end_of flushed)

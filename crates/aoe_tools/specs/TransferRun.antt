@@ -11,6 +11,7 @@ use Rattle.aoe_initiator.specs.declared.response.Answer.{Answer}
 use Rattle.aoe_initiator.specs.declared.step.Sent.{Sent}
 use Rattle.aoe_base.specs.declared.address.Mac.{Mac}
 use Rattle.aoe_base.specs.declared.address.TargetId.{TargetId}
+use Rattle.aoe_initiator.specs.Defaults.{default_dead, default_life, most_room}
 use Rattle.aoe_initiator.specs.Host.{new_device, new_host, with_device, Host, IsSame, Matches}
 use Rattle.aoe_initiator.specs.HostLaw.{answer_to, ended as after_ends, CameOn, GaveUpInTurn, IsFrameOf, IsNext, IsOnNextPath, IsQuiet}
 use Rattle.aoe_initiator.specs.HostLog.{clock, commands, sent_of, Event, HostCommand}
@@ -234,10 +235,11 @@ pub record IsFit (host : Host) (c : Course) : Type 0 where
   pub few : host.last_ticket + left c ≤ 32769
   pub tickets : AreUpTo host.last_ticket c.block.parts
 
--- a host with this one port that is attached to a device at one port, and did nothing yet: a frame can arrive for two seconds, and a
--- command is given up after three minutes
+-- a host with this one port that is attached to a device at one port, and did nothing yet: it has the lifetimes and the patience of any
+-- host, and the most room
 abbrev pub host_of : Mac → TargetId → Device → Host
-host_of port id d = with_device (new_host (port ∷ []) 2000 16384 180000) (new_device (port ∷ []) id (d.port ∷ []) d.total d.max 2000)
+host_of port id d = with_device (new_host (port ∷ []) default_life most_room default_dead)
+    (new_device (port ∷ []) id (d.port ∷ []) d.total d.max default_life.requests.0)
 
 -- the answers of the clock are those of the turns, the last of which may have broken off
 abbrev pub nows_of : List Round → List ℕ

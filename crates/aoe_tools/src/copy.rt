@@ -1,11 +1,11 @@
-//! The tools that copy sectors out of a device, and into it.
+//! The tools that copy sectors out of a device, and into it, and the one that flushes it.
 ghost use Rattle.std.specs.Prelude.{◌≡◌, ◌≢◌, ◌≤◌, ◌<◌, ◌%◌, ◌^◌, Err, IfErr, IfOk, length, true};
 ghost use Rattle.aoe_base.specs.Faults.{Blamed};
 ghost use Rattle.aoe_base.specs.declared.address.Mac.{Mac};
 ghost use Rattle.aoe_base.specs.declared.address.TargetId.{TargetId};
 ghost use Rattle.aoe_tools.specs.declared.course.Course.{Course};
 ghost use Rattle.aoe_tools.specs.declared.end.ToolRefusal.{ToolRefusal as Refused};
-ghost use Rattle.aoe_tools.specs.Runs.{RunsGet, RunsPut, told};
+ghost use Rattle.aoe_tools.specs.Runs.{RunsFlush, RunsGet, RunsPut, told};
 ghost use Rattle.aoe_tools.specs.TransferCopies.{end_of, first_phase, read_by, read_of, write_of, Copies, IsFresh, MayRun, NotBegun, Puts, TakesRead};
 ghost use Rattle.aoe_tools.specs.TransferInput.{Inputs};
 ghost use Rattle.aoe_tools.specs.TransferRun.{host_of, IsFit};
@@ -251,5 +251,34 @@ pub fn put<L: Link, C: Clock, S: Source>(
     match write_all(alloc, ask, id, at, sectors, link, clock) {
         Ok(_) => Ok(()),
         Err(refusal) => Err(CopyRefusal::Tool(refusal)),
+    }
+}
+
+/// Flushes a device, so that what was written to it and acknowledged before lasts a loss of power of
+/// its shelf (ATA, FLUSH CACHE).
+pub fn flush<L: Link, C: Clock>(
+    alloc: Global,
+    ask: &Ask,
+    id: TargetId,
+    link: &mut L,
+    clock: &mut C,
+) -> Result<(), ToolRefusal>
+    ensures run { RunsFlush result id ask.now
+        (told C.least C.answers L.turns L.given L.taken clock.old clock.new link.old link.new) }
+    ensures count { L.faults link.old ≤ L.faults link.new }
+    ensures link { Blamed (result ≡ Err ToolRefusal.LinkFault) (L.faults link.old)
+        (L.faults link.new) }
+{
+    match write_all(
+        alloc,
+        ask,
+        id,
+        0,
+        Blob::from_vec(Vec::new(alloc)),
+        link,
+        clock,
+    ) {
+        Ok(_) => Ok(()),
+        Err(refusal) => Err(refusal),
     }
 }

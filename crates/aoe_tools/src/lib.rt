@@ -7,13 +7,13 @@
 //! - [`cfg`], [`mask`] and [`reserve`] read or change the config string and the lists of one
 //!   device, and give the arguments of its response.
 //! - [`get`] reads sectors and gives them to a sink once all have come. [`put`] reads a source to
-//!   its end, writes that to sectors, and flushes.
+//!   its end, writes that to sectors, and flushes; [`flush`] does the last alone.
 //! - [`print_found`], [`print_stat`], [`print_config`], [`print_masks`] and [`print_reserves`] then
 //!   make the text of an answer. A refusal has the exit status and the text of the program (`code`,
 //!   `text`).
 //!
-//! A request is sent before its turns 1, 11, 21 and so on, and each turn listens once. `get` and
-//! `put` ask so for the device; then a host (`aoe_initiator`) sends the commands of a block
+//! A request is sent before its turns 1, 11, 21 and so on, and each turn listens once. `get`, `put`
+//! and `flush` ask so for the device; then a host (`aoe_initiator`) sends the commands of a block
 //! (`aoe_block`), up to 64 at a time over one path, and repeats them by the clock.
 //!
 //! A tool keeps nothing from one call to the next. It opens no socket and doesn't wait by itself: a
@@ -39,7 +39,7 @@ mod transfer;
 mod visiting;
 
 pub use cases::wrong_copies;
-pub use copy::{get, put};
+pub use copy::{flush, get, put};
 pub use end::{CopyRefusal, Refusal, ToolRefusal};
 pub use finding::discover;
 pub use found::{Found, Seen, State};

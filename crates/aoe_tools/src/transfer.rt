@@ -14,18 +14,9 @@ use crate::lookup::Device;
 use aoe_base::{DeviceNo, Failed, Mac, Millis, NoMemory, Ports, TargetId};
 use aoe_block::ticket_law;
 use aoe_frame::Frame;
-use aoe_initiator::{Initiator, Taken};
+use aoe_initiator::{DEAD, Initiator, LIFETIMES, MOST_ROOM, Taken};
 use aoe_io::{Clock, Got, Link};
 use std::alloc::Global;
-
-/// How long a frame can arrive after it was sent.
-const LIFE: Millis = Millis(2000);
-
-/// The most commands that fly or rest.
-const ROOM: u32 = 16_384;
-
-/// How long a command flies at most.
-const DEAD: Millis = Millis(180_000);
 
 /// The most commands of a transfer: one for each of 32,768 sectors, and a flush. Each is sent once
 /// in a turn at most.
@@ -79,7 +70,7 @@ impl Transfer {
         ensures host { IfOk result (λ t. t.host ≡ host_of port id device.now) }
         ensures matches { IfOk result (λ t. Matches [] t.host) }
     {
-        let mut host = Initiator::new(alloc, &one_port(port), LIFE, ROOM, DEAD)?;
+        let mut host = Initiator::new(alloc, &one_port(port), LIFETIMES, MOST_ROOM, DEAD)?;
         match host.attach(id, &one_port(device.port), device.total, device.max) {
             Ok(_) => Ok(Transfer { host, course }),
             Err(_) => Err(NoMemory),

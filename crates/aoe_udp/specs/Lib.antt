@@ -1,3 +1,3 @@
 pub mod Addresses
 pub mod Errors
-pub mod Frames
+pub mod Vxlan

@@ -10,13 +10,20 @@ use arrayvec::ArrayVec;
 pub const MAX_VLANS: usize = 64;
 
 /// Of which VLANs a port is, by their numbers, 1 to 4094.
-#[derive(Debug, Drop)]
+#[derive(Debug, Drop, PartialEq, Eq)]
 pub enum PortKind {
     /// One VLAN, whose frames have no tag here, or one with number 0.
     Access(u16),
 
     /// Several VLANs, whose frames have the tag of theirs.
     Trunk(ArrayVec<u16, MAX_VLANS>),
+}
+
+impl Default for PortKind {
+    /// A port of VLAN 1, the default VLAN (IEEE 802.1Q, "Reserved VID values").
+    fn default() -> PortKind {
+        PortKind::Access(1)
+    }
 }
 
 impl PortKind {

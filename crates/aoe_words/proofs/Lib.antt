@@ -1,4 +1,5 @@
 mod AppLemmas
+mod LinkLemmas
 mod ListedLemmas
 mod ParsedLemmas
 mod PlaceLemmas
@@ -6,3 +7,4 @@ mod PlainAnswer
 mod PlainLemmas
 mod PortLemmas
 mod RangeLemmas
+mod SwitchLemmas

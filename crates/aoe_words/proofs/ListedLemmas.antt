@@ -13,8 +13,11 @@ module _ {T : Type 0} (read : Text → Option T) (words : List (Bor Text)) (n : 
   stands = (omega (arith, within, length-map words (λ word. word.now)), is ∙ sym (get_or-map (λ word. word.now) words n default text within))
 
   -- the word spells nothing
+  pub none_given : None ≡ read text → None ≡ each read (map (λ word. word.now) words)
+  none_given e = none_at read (map (λ word. word.now) words) n xs h text stands e
+
   pub none_listed : None ≡ read text → None ≡ listed read (map (λ word. word.now) words)
-  none_listed e = go (is_list (length (map (λ word. word.now) words))) (none_at read (map (λ word. word.now) words) n xs h text stands e)
+  none_listed e = go (is_list (length (map (λ word. word.now) words))) (none_given e)
     where
       go : (b : Bool) → None ≡ each read (map (λ word. word.now) words) → None ≡ cond b (each read (map (λ word. word.now) words)) None
       go true none = none

@@ -1,4 +1,4 @@
--- A list of ports, read part by part.
+-- A list of parts of a text, of ports or of other things, read one by one.
 use Rattle.std.proofs.Common.{◌≡◌, ◌∙◌, ◌+◌, ◌<◌, ◌≤◌, ◌==◌, ℕ, suc, Bool, true, false, cond, List, [], ◌∷◌, ◌++◌, length, get_or, drop, Option, Some, None, nat_le, refl, sym, ap, arith}
 use Rattle.std.specs.Prelude.{option_and_then, option_map, IfSome, if◌then◌else◌}
 use Rattle.std.specs.List.{list_all, slice_split}
@@ -11,30 +11,33 @@ use Rattle.aoe_base.specs.Names.{mac_of}
 use Rattle.aoe_base.specs.Addresses.{all_unique, is_individual}
 use Rattle.aoe_base.proofs.EachLemmas.{AreRead, one_more, each_read}
 use Rattle.aoe_base.specs.Texts.{each}
-use Rattle.aoe_words.specs.Values.{port_of, up_to_four}
+use Rattle.aoe_words.specs.Values.{port_of, up_to}
 use Rattle.aoe_words.specs.Words.{ArePorts}
 
--- more than four
-too_many : (texts : List Text) (n : ℕ) (ports : List Mac) → AreRead port_of texts n ports → 4 < n → None ≡ up_to_four (each port_of texts)
-too_many texts n ports h lt = go (each port_of (drop n texts)) ∙ sym (ap up_to_four h.same)
+-- more than so many
+too_many : {T : Type 0} (read : Text → Option T) (most : ℕ) (texts : List Text) (n : ℕ) (xs : List T) → AreRead read texts n xs → most < n
+    → None ≡ up_to most (each read texts)
+too_many {T} read most texts n xs h lt = go (each read (drop n texts)) ∙ sym (ap (up_to most) h.same)
   where
-    go : (o : Option (List Mac)) → None ≡ up_to_four (option_map (λ rest. ports ++ rest) o)
+    go : (o : Option (List T)) → None ≡ up_to most (option_map (λ rest. xs ++ rest) o)
     go None = refl
     go (Some rest) =
-        let long : 4 < length (ports ++ rest) = omega (arith, length-append ports rest, h.as_many) in
-        let test : nat_le (length (ports ++ rest)) 4 ≡ false = grind (arith, nat_tests) in
+        let long : most < length (xs ++ rest) = omega (arith, length-append xs rest, h.as_many, lt) in
+        let test : nat_le (length (xs ++ rest)) most ≡ false = grind (arith, nat_tests) in
         rw test refl
 
-pub fifth : (texts : List Text) (n : ℕ) (ports : List Mac) (h : AreRead port_of texts n ports) (part : Text) → (n < length texts) × (part ≡ get_or texts n part)
-    → (port : Mac) → Some port ≡ port_of part → length ports ≡ 4 → None ≡ up_to_four (each port_of texts)
-fifth texts n ports h part at port e full = too_many texts (n + 1) (ports ++ port ∷ []) (one_more port_of texts n ports h part at port e) (omega (arith, h.as_many))
+-- as many as there can be, and one more
+pub one_too_many : {T : Type 0} (read : Text → Option T) (most : ℕ) (texts : List Text) (n : ℕ) (xs : List T) (h : AreRead read texts n xs) (part : Text)
+    → (n < length texts) × (part ≡ get_or texts n part) → (x : T) → Some x ≡ read part → length xs ≡ most → None ≡ up_to most (each read texts)
+one_too_many read most texts n xs h part at x e full =
+    too_many read most texts (n + 1) (xs ++ x ∷ []) (one_more read texts n xs h part at x e) (omega (arith, h.as_many, full))
 
 -- all parts
-pub all_read : (texts : List Text) (n : ℕ) (ports : List Mac) → AreRead port_of texts n ports → n ≡ length texts → length ports ≤ 4
-    → Some ports ≡ up_to_four (each port_of texts)
-all_read texts n ports h end few =
-    let test : nat_le (length ports) 4 ≡ true = grind (arith, nat_tests) in
-    rw (each_read port_of texts n ports h end, test) refl
+pub all_read : {T : Type 0} (read : Text → Option T) (most : ℕ) (texts : List Text) (n : ℕ) (xs : List T) → AreRead read texts n xs → n ≡ length texts
+    → length xs ≤ most → Some xs ≡ up_to most (each read texts)
+all_read read most texts n xs h end few =
+    let test : nat_le (length xs) most ≡ true = grind (arith, nat_tests) in
+    rw (each_read read texts n xs h end, test) refl
 
 -- each is the address of a single station, and there are as many as parts
 pub individual_ports : (texts : List Text) → IfSome (each port_of texts) (λ ports. (list_all is_individual ports ≡ true) × (length ports ≡ length texts))
@@ -56,7 +59,7 @@ individual_ports (text ∷ texts) = go (mac_of text) (each port_of texts) (indiv
     go (Some mac) o h = with_port (is_individual mac) mac refl o h
 
 -- at most four of which none stands twice are the addresses of a station's ports
-pub are_ports : (text : Text) (ports : List Mac) → Some ports ≡ up_to_four (each port_of (slice_split (λ c. c == 44) text)) → all_unique ports ≡ true
+pub are_ports : (text : Text) (ports : List Mac) → Some ports ≡ up_to 4 (each port_of (slice_split (λ c. c == 44) text)) → all_unique ports ≡ true
     → ArePorts ports
 are_ports text ports e unique = go (each port_of (slice_split (λ c. c == 44) text)) (individual_ports (slice_split (λ c. c == 44) text)) e
   where
@@ -76,6 +79,6 @@ are_ports text ports e unique = go (each port_of (slice_split (λ c. c == 44) te
         }
 
     go : (o : Option (List Mac)) → IfSome o (λ found. (list_all is_individual found ≡ true) × (length found ≡ length (slice_split (λ c. c == 44) text)))
-        → Some ports ≡ up_to_four o → ArePorts ports
+        → Some ports ≡ up_to 4 o → ArePorts ports
     go None h s = cc
     go (Some found) h s = checked (nat_le (length found) 4) found refl h s

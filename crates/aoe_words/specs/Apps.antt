@@ -5,7 +5,7 @@ use Rattle.clap.specs.Words.{App, Rule, Text, new_app, new_rule, with_rule, with
 use Rattle.clap.specs.declared.builder.ArgAction.{ArgAction}
 use Rattle.clap.specs.declared.builder.ArgAction.TheVariants.{Set, Append}
 use Rattle.aoe_words.specs.declared.app.Place.{Place}
-use Rattle.aoe_words.specs.declared.app.Place.TheVariants.{Needed, Several, Allowed, AllowedSeveral, Demanded, Optional}
+use Rattle.aoe_words.specs.declared.app.Place.TheVariants.{Needed, Several, Allowed, AllowedSeveral, Optional}
 
 -- a word that has to stand there
 abbrev pub needed : Text → Rule
@@ -14,10 +14,6 @@ needed id = record (new_rule id) { required = true; action = Some Set }
 -- words of which one has to stand there
 abbrev pub several : Text → Rule
 several id = record (new_rule id) { required = true; action = Some Append }
-
--- an option that has to be given
-abbrev pub demanded : Text → Rule
-demanded name = record (new_rule name) { long = Some name; required = true; action = Some Set }
 
 -- an option that may be given
 abbrev pub optional : Text → Rule
@@ -48,8 +44,12 @@ abbrev pub serve_front : App
 serve_front = with_rule (with_rule (bare (codes "serve")) (needed (codes "shelf"))) (several (codes "files"))
 
 -- with the ends of a link
+abbrev pub with_ends : App → App
+with_ends app = with_rule (with_rule app (optional (codes "local"))) (optional (codes "peers"))
+
+-- with its VXLAN too, or its tap file
 abbrev pub with_link : App → App
-with_link app = with_rule (with_rule app (demanded (codes "local"))) (demanded (codes "peers"))
+with_link app = with_rule (with_rule (with_ends app) (optional (codes "vxlan"))) (optional (codes "tap"))
 
 -- serve with the options on its addresses
 abbrev pub serve_ports : App
@@ -61,7 +61,15 @@ serve_slots = with_rule (with_rule serve_ports (optional (codes "mtu"))) (option
 
 -- with all its options
 abbrev pub serve_app : App
-serve_app = with_rule (with_rule serve_slots (optional (codes "frames"))) (optional (codes "idle"))
+serve_app = with_rule (with_rule (with_rule serve_slots (optional (codes "frames"))) (optional (codes "idle"))) (optional (codes "stop"))
+
+-- mirror SHELF SLOT FILE FILE MARK KEEP
+abbrev pub mirror_front : App
+mirror_front = with_rule (with_rule (with_rule (bare (codes "mirror")) (needed (codes "shelf"))) (needed (codes "slot"))) (several (codes "files"))
+
+-- with its options
+abbrev pub mirror_app : App
+mirror_app = with_rule (with_rule mirror_front (optional (codes "port"))) (optional (codes "mtu"))
 
 -- replay, with nothing behind it
 abbrev pub replay_app : App
@@ -75,9 +83,17 @@ soak_app = with_rule (with_rule (bare (codes "soak")) (needed (codes "seed"))) (
 abbrev pub live_front : App
 live_front = with_rule (with_rule (bare (codes "live")) (needed (codes "sectors"))) (needed (codes "count"))
 
--- with its options
+-- with its two ends
+abbrev pub live_ends : App
+live_ends = with_rule (with_rule (with_rule live_front (optional (codes "one"))) (optional (codes "two"))) (optional (codes "vxlan"))
+
+-- with all its options
 abbrev pub live_app : App
-live_app = with_rule (with_rule (with_rule live_front (demanded (codes "one"))) (demanded (codes "two"))) (optional (codes "turns"))
+live_app = with_rule (with_rule (with_rule live_ends (optional (codes "one-tap"))) (optional (codes "two-tap"))) (optional (codes "turns"))
+
+-- switch PORT PORT ..
+abbrev pub switch_app : App
+switch_app = with_rule (bare (codes "switch")) (several (codes "ports"))
 
 -- with the options of a tool
 abbrev pub with_tool_options : App → App
@@ -90,6 +106,10 @@ plain_tool name = with_tool_options (bare name)
 -- a tool that has DEV ACTION and one more
 abbrev pub list_tool : Text → Rule → App
 list_tool name rule = with_tool_options (with_rule (with_rule (with_rule (bare name) (needed (codes "dev"))) (needed (codes "action"))) rule)
+
+-- flush DEV
+abbrev pub flush_app : App
+flush_app = with_tool_options (with_rule (bare (codes "flush")) (needed (codes "dev")))
 
 -- get DEV AT COUNT and put DEV AT
 abbrev pub sector_tool : Text → App
@@ -111,13 +131,17 @@ top =
 abbrev pub file_commands : App
 file_commands = with_subcommand (with_subcommand top answer_app.top) serve_app.top
 
+-- with the one over a mirror
+abbrev pub mirror_commands : App
+mirror_commands = with_subcommand file_commands mirror_app.top
+
 -- with those over scripts
 abbrev pub script_commands : App
-script_commands = with_subcommand (with_subcommand file_commands replay_app.top) soak_app.top
+script_commands = with_subcommand (with_subcommand mirror_commands replay_app.top) soak_app.top
 
--- with the one over two links
+-- with the one over two links, and the one between ports
 abbrev pub run_commands : App
-run_commands = with_subcommand script_commands live_app.top
+run_commands = with_subcommand (with_subcommand script_commands live_app.top) switch_app.top
 
 -- with the tools that list devices
 abbrev pub listing_commands : App
@@ -134,9 +158,13 @@ mask_commands =
 abbrev pub list_commands : App
 list_commands = with_subcommand mask_commands (list_tool (codes "reserve") (allowed_several (codes "macs"))).top
 
+-- with flush
+abbrev pub device_commands : App
+device_commands = with_subcommand list_commands flush_app.top
+
 -- all commands
 unfoldable pub aoe_app : App
-aoe_app = with_subcommand (with_subcommand list_commands get_app.top) put_app.top
+aoe_app = with_subcommand (with_subcommand device_commands get_app.top) put_app.top
 
 -- ---- the same, as the code tells clap
 
@@ -149,7 +177,6 @@ rule name Needed = needed name
 rule name Several = several name
 rule name Allowed = allowed name
 rule name AllowedSeveral = allowed_several name
-rule name Demanded = demanded name
 rule name Optional = optional name
 
 -- an argument's name and its place, and a command's name and its arguments

@@ -13,6 +13,7 @@ use Rattle.aoe_base.specs.Texts.{each}
 use Rattle.aoe_words.specs.Values.{given, given_or, link, number_within, port_of, tool_port}
 use Rattle.aoe_words.specs.declared.command.Asking.{Asking}
 use Rattle.aoe_words.specs.declared.command.Cfg.{Cfg as Cfgs}
+use Rattle.aoe_words.specs.declared.command.Flush.{Flush as Flushes}
 use Rattle.aoe_words.specs.declared.command.Get.{Get as Gets}
 use Rattle.aoe_words.specs.declared.command.Put.{Put as Puts}
 use Rattle.aoe_words.specs.declared.command.Mask.{Mask as Masks}
@@ -115,6 +116,12 @@ reserve_of rows =
     record { asking = asking; id = id; rcmd = reservation.0; list = record { items = reservation.1 } })
     (given (codes "action") (λ action. reservation_of action (all_of (codes "macs") rows)) rows)) (device rows)) (asking_of 50 rows)
 
+-- ---- flush DEV
+
+-- it listens for 5000 turns where nothing is said of it
+unfoldable pub flush_of : List Row → Option Flushes
+flush_of rows = option_and_then (λ asking. option_map (λ id. record { asking = asking; id = id }) (device rows)) (asking_of 5000 rows)
+
 -- ---- get DEV AT COUNT and put DEV AT
 
 -- AT: a sector of 48 bits
@@ -161,6 +168,10 @@ pub record CanReserve (reserve : Reserves) : Type 0 where
   pub device : IsDevice reserve.id
   pub command : reserve.rcmd ≤ 2
   pub few : length reserve.list.items ≤ 64
+
+pub record CanFlush (flush : Flushes) : Type 0 where
+  pub asking : CanAsk flush.asking
+  pub device : IsDevice flush.id
 
 pub record CanGet (get : Gets) : Type 0 where
   pub asking : CanAsk get.asking

@@ -1,5 +1,5 @@
 -- What the words of a command line spell.
-use Rattle.std.specs.Prelude.{ℕ, ◌*◌, ◌/◌, ◌%◌, ◌≡◌, ◌≤◌, Bool, true, not, ◌&&◌, ◌==◌, List, [], ◌∷◌, length, nat_lt, nat_le, slice_index, Option, Some, None, if◌then◌else◌, option_and_then, option_map, unwrap_or, codes}
+use Rattle.std.specs.Prelude.{ℕ, ◌*◌, ◌/◌, ◌%◌, ◌≡◌, ◌≤◌, Bool, true, not, ◌&&◌, ◌==◌, List, [], ◌∷◌, length, nat_lt, nat_le, slice_index, Option, Some, None, if◌then◌else◌, option_and_then, option_map, unwrap_or, codes, IfSome}
 use Rattle.std.specs.List.{list_all}
 use Rattle.std.specs.Option.{option_map_or}
 use Rattle.std.specs.Str.{bytes_eq}
@@ -11,17 +11,20 @@ use Rattle.aoe_base.specs.declared.address.Mac.{Mac}
 use Rattle.aoe_base.specs.declared.address.TargetId.{TargetId}
 use Rattle.aoe_base.specs.Addresses.{all_unique, is_individual}
 use Rattle.aoe_words.specs.Apps.{aoe_app}
-use Rattle.aoe_words.specs.Values.{default_port, given, given_or, link, number_within, port_of, ports_of}
-use Rattle.aoe_words.specs.Tools.{CanAsk, CanCfg, CanMask, CanReserve, CanGet, CanPut, asking_of, cfg_of, mask_of, reserve_of, get_of, put_of}
+use Rattle.aoe_words.specs.Values.{default_port, given, given_or, link, number_within, port_of, ports_of, two_ends}
+use Rattle.aoe_words.specs.Switching.{CanSwitch, kinds_of}
+use Rattle.aoe_words.specs.Tools.{CanAsk, CanCfg, CanMask, CanReserve, CanFlush, CanGet, CanPut, asking_of, cfg_of, mask_of, reserve_of, flush_of, get_of, put_of}
 use Rattle.aoe_words.specs.declared.command.Answer.{Answer as Answers}
 use Rattle.aoe_words.specs.declared.command.Serve.{Serve as Serves}
+use Rattle.aoe_words.specs.declared.command.Mirror.{Mirror as Mirrors}
 use Rattle.aoe_words.specs.declared.command.Soak.{Soak as Soaks}
 use Rattle.aoe_words.specs.declared.command.Live.{Live as Lives}
+use Rattle.aoe_words.specs.declared.command.Switch.{Switch as Switches}
 use Rattle.aoe_words.specs.declared.command.PortWords.{PortWords}
 use Rattle.aoe_words.specs.declared.command.Command.{Command}
-use Rattle.aoe_words.specs.declared.command.Command.TheVariants.{Answer, Serve, Replay, Soak, Live, Ask, Get, Put}
+use Rattle.aoe_words.specs.declared.command.Command.TheVariants.{Answer, Serve, Mirror, Replay, Soak, Live, Switch, Ask, Get, Put}
 use Rattle.aoe_words.specs.declared.command.Tool.{Tool}
-use Rattle.aoe_words.specs.declared.command.Tool.TheVariants.{Discover, Stat, Cfg, Mask, Reserve}
+use Rattle.aoe_words.specs.declared.command.Tool.TheVariants.{Discover, Stat, Cfg, Mask, Reserve, Flush}
 
 -- ---- words
 
@@ -75,13 +78,20 @@ answer_of rows =
 abbrev pub has_slots : List Row → Bool
 has_slots rows = length (files rows) % 2 == 0 && nat_le 2 (length (files rows)) && nat_le (length (files rows)) 32
 
+-- how many frames are taken; as many as come where nothing is said of it
+abbrev pub frames_of : List Row → Option (Option ℕ)
+frames_of = given_or (codes "frames") (λ text. option_map Some (number_within 1 4294967295 text)) None
+
+-- how many quiet turns end the run: 3000 where nothing is said of it; where 0 is said none do
+abbrev pub idle_of : List Row → Option (Option ℕ)
+idle_of rows = option_map (λ turns. if turns == 0 then None else Some turns) (given_or (codes "idle") (number_within 0 1000000) 3000 rows)
+
 -- the shelf of serve with its addresses, of so many slots
 unfoldable pub serve_with : ℕ → List Row → Option Serves
 serve_with slots rows =
     option_and_then (λ shelf. option_and_then (λ ports. option_and_then (λ mtu. option_and_then (λ cache. option_and_then (λ frames. option_map (λ idle.
     record { shelf = shelf; slots = slots; ports = record { items = ports }; mtu = mtu; cache = cache; frames = frames; idle = idle })
-    (given_or (codes "idle") (number_within 1 1000000) 3000 rows)) (given_or (codes "frames") (number_within 1 4294967295) 4294967295 rows))
-    (cache_of rows)) (mtu_of rows)) (given_or (codes "ports") ports_of (default_port ∷ []) rows)) (shelf_of rows)
+    (idle_of rows)) (frames_of rows)) (cache_of rows)) (mtu_of rows)) (given_or (codes "ports") ports_of (default_port ∷ []) rows)) (shelf_of rows)
 
 -- with the ends of its link
 unfoldable pub serve_of : List Row → Option Serves
@@ -89,16 +99,19 @@ serve_of rows =
     if not (has_slots rows) then None else
     option_and_then (λ link. serve_with (length (files rows) / 2) rows) (link rows)
 
+-- mirror SHELF SLOT FILE FILE MARK KEEP
+unfoldable pub mirror_of : List Row → Option Mirrors
+mirror_of rows =
+    if not (length (files rows) == 4) then None else
+    option_and_then (λ major. option_and_then (λ minor. option_and_then (λ port. option_map (λ mtu.
+    record { id = record { major = major; minor = minor }; port = port; mtu = mtu })
+    (mtu_of rows)) (given_or (codes "port") port_of default_port rows)) (slot_of rows)) (shelf_of rows)
+
 -- soak SEED N
 unfoldable pub soak_of : List Row → Option Soaks
 soak_of rows =
     option_and_then (λ seed. option_map (λ count. record { seed = seed; count = count })
     (given (codes "count") (number_within 1 16000) rows)) (given (codes "seed") (λ text. number_of text 65535) rows)
-
--- the two ends of live: the other end is the peer of each
-abbrev pub two_ends : List Row → Option (PortWords × PortWords)
-two_ends rows = option_and_then (λ one. option_map (λ two. (record { local = one; peers = two }, record { local = two; peers = one }))
-    (first_of (codes "two") rows)) (first_of (codes "one") rows)
 
 -- live SECTORS N
 unfoldable pub live_of : List Row → Option Lives
@@ -108,6 +121,11 @@ live_of rows =
     (given_or (codes "turns") (number_within 1 1000000) 5000 rows)) (given (codes "count") (number_within 1 10000) rows))
     (given (codes "sectors") (number_within 1 65536) rows)) (two_ends rows)
 
+-- switch PORT PORT ..
+unfoldable pub switch_of : List Row → Option Switches
+switch_of rows =
+    option_and_then (λ words. option_map (λ kinds. record { ports = record { items = kinds } }) (kinds_of words)) (all_of (codes "ports") rows)
+
 -- the tool of this name, of those that read and edit what a device keeps
 unfoldable pub list_tool_of : Text → List Row → Option Tool
 list_tool_of name rows =
@@ -116,11 +134,12 @@ list_tool_of name rows =
     else if bytes_eq name (codes "reserve") then option_map Reserve (reserve_of rows)
     else None
 
--- the tool of this name; discover and stat listen for 50 turns where nothing is said of it
+-- the tool of this name; discover and stat listen for 50 turns where nothing is said of it, and flush for 5000
 unfoldable pub tool_of : Text → List Row → Option Tool
 tool_of name rows =
     if bytes_eq name (codes "discover") then option_map Discover (asking_of 50 rows)
     else if bytes_eq name (codes "stat") then option_map Stat (asking_of 50 rows)
+    else if bytes_eq name (codes "flush") then option_map Flush (flush_of rows)
     else list_tool_of name rows
 
 -- the command of this name, of those that ask a network
@@ -135,9 +154,11 @@ unfoldable pub command_of : Text → List Row → Option Command
 command_of name rows =
     if bytes_eq name (codes "answer") then option_map Answer (answer_of rows)
     else if bytes_eq name (codes "serve") then option_map Serve (serve_of rows)
+    else if bytes_eq name (codes "mirror") then option_map Mirror (mirror_of rows)
     else if bytes_eq name (codes "replay") then Some Replay
     else if bytes_eq name (codes "soak") then option_map Soak (soak_of rows)
     else if bytes_eq name (codes "live") then option_map Live (live_of rows)
+    else if bytes_eq name (codes "switch") then option_map Switch (switch_of rows)
     else asked_of name rows
 
 -- the command that the words spell with what clap found for it, or nothing
@@ -152,9 +173,11 @@ command words = option_map (λ p. p.0) (spelled words)
 abbrev pub files_of : Command → List Row → List Text
 files_of (Answer answer) rows = files rows
 files_of (Serve serve) rows = files rows
+files_of (Mirror mirror) rows = files rows
 files_of Replay rows = []
 files_of (Soak soak) rows = []
 files_of (Live live) rows = []
+files_of (Switch asked) rows = []
 files_of (Ask tool) rows = []
 files_of (Get get) rows = []
 files_of (Put put) rows = []
@@ -162,7 +185,23 @@ files_of (Put put) rows = []
 abbrev pub file_names : List Text → List Text
 file_names words = option_map_or (λ p. files_of p.0 p.1) (spelled words) []
 
--- the ends of its links: of one that it has, and of two
+-- the file whose coming ends the run, where one is named
+abbrev pub stop_in : Command → List Row → Option Text
+stop_in (Answer answer) rows = None
+stop_in (Serve serve) rows = first_of (codes "stop") rows
+stop_in (Mirror asked) rows = None
+stop_in Replay rows = None
+stop_in (Soak soak) rows = None
+stop_in (Live live) rows = None
+stop_in (Switch asked) rows = None
+stop_in (Ask tool) rows = None
+stop_in (Get get) rows = None
+stop_in (Put put) rows = None
+
+abbrev pub stop_name : List Text → Option Text
+stop_name words = option_and_then (λ p. stop_in p.0 p.1) (spelled words)
+
+-- what names its links: the one that it has, and two
 abbrev pub one_link : List Row → List PortWords
 one_link rows = option_map_or (λ ends. ends ∷ []) (link rows) []
 
@@ -172,9 +211,11 @@ two_links rows = option_map_or (λ ends. ends.0 ∷ ends.1 ∷ []) (two_ends row
 abbrev pub links_of : Command → List Row → List PortWords
 links_of (Answer answer) rows = []
 links_of (Serve serve) rows = one_link rows
+links_of (Mirror mirror) rows = []
 links_of Replay rows = []
 links_of (Soak soak) rows = []
 links_of (Live live) rows = two_links rows
+links_of (Switch asked) rows = []
 links_of (Ask tool) rows = one_link rows
 links_of (Get get) rows = one_link rows
 links_of (Put put) rows = one_link rows
@@ -206,8 +247,15 @@ pub record CanServe (serve : Serves) : Type 0 where
   pub ports : ArePorts serve.ports.items
   pub mtu : (1500 ≤ serve.mtu) × (serve.mtu ≤ 9000)
   pub cache : serve.cache ≤ 65536
-  pub frames : 1 ≤ serve.frames
-  pub idle : (1 ≤ serve.idle) × (serve.idle ≤ 1000000)
+  pub frames : IfSome serve.frames (λ frames. 1 ≤ frames)
+  pub idle : IfSome serve.idle (λ turns. (1 ≤ turns) × (turns ≤ 1000000))
+
+-- what `mirror` asks for is possible
+pub record CanMirror (mirror : Mirrors) : Type 0 where
+  pub shelf : mirror.id.major ≤ 65534
+  pub slot : mirror.id.minor ≤ 254
+  pub port : is_individual mirror.port ≡ true
+  pub mtu : (1500 ≤ mirror.mtu) × (mirror.mtu ≤ 9000)
 
 -- what `soak` asks for is possible
 pub record CanSoak (soak : Soaks) : Type 0 where
@@ -227,13 +275,16 @@ CanRun (Stat asking) = CanAsk asking
 CanRun (Cfg cfg) = CanCfg cfg
 CanRun (Mask mask) = CanMask mask
 CanRun (Reserve reserve) = CanReserve reserve
+CanRun (Flush flush) = CanFlush flush
 
 abbrev pub IsInRange : Command → Type 0
 IsInRange (Answer answer) = CanAnswer answer
 IsInRange (Serve serve) = CanServe serve
+IsInRange (Mirror mirror) = CanMirror mirror
 IsInRange Replay = Unit
 IsInRange (Soak soak) = CanSoak soak
 IsInRange (Live live) = CanLive live
+IsInRange (Switch asked) = CanSwitch asked
 IsInRange (Ask tool) = CanRun tool
 IsInRange (Get get) = CanGet get
 IsInRange (Put put) = CanPut put
@@ -242,9 +293,11 @@ IsInRange (Put put) = CanPut put
 abbrev pub file_count : Command → ℕ
 file_count (Answer answer) = 2
 file_count (Serve serve) = 2 * serve.slots
+file_count (Mirror mirror) = 4
 file_count Replay = 0
 file_count (Soak soak) = 0
 file_count (Live live) = 0
+file_count (Switch asked) = 0
 file_count (Ask tool) = 0
 file_count (Get get) = 0
 file_count (Put put) = 0
@@ -252,9 +305,11 @@ file_count (Put put) = 0
 abbrev pub link_count : Command → ℕ
 link_count (Answer answer) = 0
 link_count (Serve serve) = 1
+link_count (Mirror mirror) = 0
 link_count Replay = 0
 link_count (Soak soak) = 0
 link_count (Live live) = 2
+link_count (Switch asked) = 0
 link_count (Ask tool) = 1
 link_count (Get get) = 1
 link_count (Put put) = 1

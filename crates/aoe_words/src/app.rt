@@ -22,14 +22,11 @@ enum Place {
     /// Words that may stand there.
     AllowedSeveral,
 
-    /// An option that has to be given.
-    Demanded,
-
     /// An option that may be given.
     Optional,
 }
 
-use Place::{Allowed, AllowedSeveral, Demanded, Needed, Optional, Several};
+use Place::{Allowed, AllowedSeveral, Needed, Optional, Several};
 
 /// An argument's name and its place.
 type Argument = (&'static str, Place);
@@ -65,10 +62,16 @@ const AT: Argument = ("at", Needed);
 const COUNT: Argument = ("count", Needed);
 
 /// The own end of a link.
-const LOCAL: Argument = ("local", Demanded);
+const LOCAL: Argument = ("local", Optional);
 
 /// The other ends of a link.
-const PEERS: Argument = ("peers", Demanded);
+const PEERS: Argument = ("peers", Optional);
+
+/// The number of a VXLAN.
+const VXLAN: Argument = ("vxlan", Optional);
+
+/// A tap file, in place of the ends of a link.
+const TAP: Argument = ("tap", Optional);
 
 /// The address of a port.
 const PORT: Argument = ("port", Optional);
@@ -84,7 +87,7 @@ const TURNS: Argument = ("turns", Optional);
 
 /// All commands. A function that names a `const` is proved with its whole value, and one that names
 /// a `static` isn't.
-static FORMS: [Form; 12] = [
+static FORMS: [Form; 15] = [
     (
         "answer",
         &[SHELF, ("slot", Needed), FILES, PORT, MTU, CACHE],
@@ -96,13 +99,17 @@ static FORMS: [Form; 12] = [
             FILES,
             LOCAL,
             PEERS,
+            VXLAN,
+            TAP,
             ("ports", Optional),
             MTU,
             CACHE,
             ("frames", Optional),
             ("idle", Optional),
+            ("stop", Optional),
         ],
     ),
+    ("mirror", &[SHELF, ("slot", Needed), FILES, PORT, MTU]),
     ("replay", &[]),
     ("soak", &[("seed", Needed), COUNT]),
     (
@@ -110,18 +117,35 @@ static FORMS: [Form; 12] = [
         &[
             ("sectors", Needed),
             COUNT,
-            ("one", Demanded),
-            ("two", Demanded),
+            ("one", Optional),
+            ("two", Optional),
+            VXLAN,
+            ("one-tap", Optional),
+            ("two-tap", Optional),
             TURNS,
         ],
     ),
-    ("discover", &[LOCAL, PEERS, PORT, TURNS]),
-    ("stat", &[LOCAL, PEERS, PORT, TURNS]),
-    ("cfg", &[DEV, ACTION, TEXT, LOCAL, PEERS, PORT, TURNS]),
-    ("mask", &[DEV, ACTION, DIRS, LOCAL, PEERS, PORT, TURNS]),
-    ("reserve", &[DEV, ACTION, MACS, LOCAL, PEERS, PORT, TURNS]),
-    ("get", &[DEV, AT, COUNT, LOCAL, PEERS, PORT, TURNS]),
-    ("put", &[DEV, AT, LOCAL, PEERS, PORT, TURNS]),
+    ("switch", &[("ports", Several)]),
+    ("discover", &[LOCAL, PEERS, VXLAN, TAP, PORT, TURNS]),
+    ("stat", &[LOCAL, PEERS, VXLAN, TAP, PORT, TURNS]),
+    (
+        "cfg",
+        &[DEV, ACTION, TEXT, LOCAL, PEERS, VXLAN, TAP, PORT, TURNS],
+    ),
+    (
+        "mask",
+        &[DEV, ACTION, DIRS, LOCAL, PEERS, VXLAN, TAP, PORT, TURNS],
+    ),
+    (
+        "reserve",
+        &[DEV, ACTION, MACS, LOCAL, PEERS, VXLAN, TAP, PORT, TURNS],
+    ),
+    ("flush", &[DEV, LOCAL, PEERS, VXLAN, TAP, PORT, TURNS]),
+    (
+        "get",
+        &[DEV, AT, COUNT, LOCAL, PEERS, VXLAN, TAP, PORT, TURNS],
+    ),
+    ("put", &[DEV, AT, LOCAL, PEERS, VXLAN, TAP, PORT, TURNS]),
 ];
 
 /// Words by their place.
@@ -151,7 +175,6 @@ fn arg<'a>(alloc: Global, argument: Argument) -> Arg<'a>
         Several => word(alloc, name, ArgAction::Append).required(true),
         Allowed => word(alloc, name, ArgAction::Set),
         AllowedSeveral => word(alloc, name, ArgAction::Append),
-        Demanded => optional(alloc, name).required(true),
         Optional => optional(alloc, name),
     }
 }

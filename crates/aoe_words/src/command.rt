@@ -1,6 +1,7 @@
 //! What arguments can spell.
 use aoe_base::{Blob, Mac, Ports, TargetId};
 use aoe_lists::{Dir, MAX_CONFIG, MAX_DIRS};
+use aoe_vlan::{MAX_PORTS, PortKind};
 use arrayvec::ArrayVec;
 
 /// What `answer SHELF SLOT FILE KEEP` asks for: to answer the frames of a stream as one target.
@@ -37,11 +38,25 @@ pub struct Serve {
     /// How many sectors each slot buffers before they are written to its file; 0 for none.
     pub cache: u32,
 
-    /// How many frames are taken before the run ends.
-    pub frames: u32,
+    /// How many frames are taken before the run ends; `None` where it goes on whatever came.
+    pub frames: Option<u32>,
 
-    /// How many turns without a frame, one behind the other, end the run.
-    pub idle: u32,
+    /// How many turns without a frame, one behind the other, end the run; `None` where none do.
+    pub idle: Option<u32>,
+}
+
+/// What `mirror SHELF SLOT FILE FILE MARK KEEP` asks for: to answer the frames of a stream as one
+/// target over two files.
+#[derive(Clone, Copy, Debug, PartialEq, Eq)]
+pub struct Mirror {
+    /// The target's name.
+    pub id: TargetId,
+
+    /// The address of its shelf.
+    pub port: Mac,
+
+    /// The greatest length of what an Ethernet frame carries.
+    pub mtu: u32,
 }
 
 /// What `soak SEED N` asks for: to run the script of `count` commands that a number picks, and to
@@ -67,6 +82,17 @@ pub struct Live {
 
     /// How many turns that end no command, one behind the other, end the run.
     pub turns: u32,
+}
+
+/// The kinds of a switch's ports, which count from 0.
+pub type PortKinds = ArrayVec<PortKind, MAX_PORTS>;
+
+/// What `switch PORT PORT ..` asks for: to carry the frames of a stream between ports, and to keep
+/// their VLANs apart.
+#[derive(Debug, Drop, PartialEq, Eq)]
+pub struct Switch {
+    /// Of which VLANs each port is: 2 to 16 ports, of 64 VLANs at most.
+    pub ports: PortKinds,
 }
 
 /// Who asks, and how long it listens: what every tool is told.
@@ -121,6 +147,15 @@ pub struct Reserve {
     pub list: ArrayVec<Mac, MAX_DIRS>,
 }
 
+/// What `flush DEV` asks for: to make lasting what a device acknowledged.
+#[derive(Clone, Copy, Debug, PartialEq, Eq)]
+pub struct Flush {
+    pub asking: Asking,
+
+    /// The device.
+    pub id: TargetId,
+}
+
 /// What `get DEV AT COUNT` asks for: to read sectors of a device.
 #[derive(Clone, Copy, Debug, PartialEq, Eq)]
 pub struct Get {
@@ -160,6 +195,7 @@ pub enum Tool {
     Cfg(Cfg),
     Mask(Mask),
     Reserve(Reserve),
+    Flush(Flush),
 }
 
 /// What the arguments of a command line ask for.
@@ -167,21 +203,32 @@ pub enum Tool {
 pub enum Command {
     Answer(Answer),
     Serve(Serve),
+    Mirror(Mirror),
 
     /// What `replay` asks for: to run the script that the source spells, and to print its history.
     Replay,
 
     Soak(Soak),
     Live(Live),
+    Switch(Switch),
     Ask(Tool),
     Get(Get),
     Put(Put),
 }
 
-/// The texts that name the ends of a link, as they stand on the command line: its own address, and
-/// those of its peers.
+/// What names a link, as it stands on the command line.
 #[derive(Debug, Drop)]
-pub struct PortWords {
-    pub local: Blob,
-    pub peers: Blob,
+pub enum PortWords {
+    /// The texts of its own address and those of its peers, and the number of its VXLAN, where it has
+    /// one.
+    Udp {
+        local: Blob,
+        peers: Blob,
+        vxlan: Option<u32>,
+    },
+
+    /// The name of a tap file.
+    Tap {
+        file: Blob,
+    },
 }

@@ -1,7 +1,8 @@
 //! The command line: what its arguments spell, or that they spell nothing.
 //!
 //! [`read_words`] gives the [`Command`] that the arguments spell. [`files_of`] and [`ports_of`]
-//! give what a program has to open for it, in the order in which it is named.
+//! give what a program has to open for it, in the order in which it is named, and [`stop_of`] the
+//! file whose coming ends the run.
 //!
 //! The first argument is the command. An argument that begins with a hyphen is an option of it,
 //! `--name value` or `--name=value`; options may stand anywhere behind the command. Which argument
@@ -14,15 +15,18 @@
 mod app;
 mod command;
 mod law;
+mod link;
 mod lists;
 mod ports;
 mod read;
+mod switch;
 mod tools;
 mod values;
 mod word;
 
 pub use command::{
-    Answer, Asking, Cfg, Command, Get, Live, Mask, PortWords, Put, Reserve, Serve, Soak, Tool,
+    Answer, Asking, Cfg, Command, Flush, Get, Live, Mask, Mirror, PortKinds, PortWords, Put,
+    Reserve, Serve, Soak, Switch, Tool,
 };
 pub use law::plain_words_law;
-pub use read::{files_of, ports_of, read_words};
+pub use read::{files_of, ports_of, read_words, stop_of};

@@ -2,7 +2,7 @@
 ghost use Rattle.std.specs.Prelude.{◌≡◌, ◌==◌, option_map, true, IfSome};
 ghost use Rattle.std.specs.List.{slice_split};
 ghost use Rattle.aoe_base.specs.Texts.{each};
-ghost use Rattle.aoe_words.specs.Values.{port_of, ports_of, up_to_four};
+ghost use Rattle.aoe_words.specs.Values.{port_of, ports_of, up_to};
 ghost use Rattle.aoe_words.specs.Words.{ArePorts};
 ghost use Rattle.aoe_base.specs.Addresses.{all_unique, is_individual};
 
@@ -20,7 +20,7 @@ pub(crate) fn read_port(text: &[u8]) -> Option<Mac>
 /// The addresses of ports that the parts of a text spell, where they are four at most.
 fn each_port(text: &[u8]) -> Option<Ports>
     ensures { option_map (λ ports. ports.items) result
-        ≡ up_to_four (each port_of (slice_split (λ c. c == 44) text.now)) }
+        ≡ up_to 4 (each port_of (slice_split (λ c. c == 44) text.now)) }
 {
     let mut ports = Ports::new();
     'parts: for part in text.split(|byte| *byte == b',') {

@@ -3,24 +3,29 @@ ghost use Rattle.std.specs.Prelude.{◌≡◌, ◌≢◌, ◌≤◌, length, fal
 ghost use Rattle.std.specs.List.{list_all};
 ghost use Rattle.clap.specs.Values.{kind_of};
 ghost use Rattle.clap.specs.Words.{found_of, rows_of};
-ghost use Rattle.aoe_words.specs.Words.{CanRun, CanServe, Fits, IsInRange, answer_of, asked_of, command, command_of, file_count, file_names, files_of, is_word, link_count, links_of, list_tool_of, live_of, parsed, port_words, serve_of, serve_with, soak_of, spelled, tool_of, two_ends};
+ghost use Rattle.aoe_words.specs.Words.{CanRun, CanServe, Fits, IsInRange, answer_of, asked_of, command, command_of, file_count, file_names, files_of, idle_of, is_word, link_count, links_of, list_tool_of, live_of, mirror_of, parsed, port_words, serve_of, serve_with, soak_of, spelled, stop_in, stop_name, switch_of, tool_of};
 ghost use Rattle.aoe_words.specs.Values.{link};
 
 use crate::app::matches;
-use crate::tools::{cfg_of, get_of, mask_of, plain_of, put_of, reserve_of};
+use crate::link::{all_links, link, two_ends};
+use crate::switch::read_kinds;
+use crate::tools::{cfg_of, flush_of, get_of, mask_of, plain_of, put_of, reserve_of};
 use crate::values::{
-    DEFAULT_PORT, NumberOption, link, number, number_from, number_or, port_or_default,
+    DEFAULT_PORT, NumberOption, number, number_from, number_if_given, number_or, port_or_default,
     ports_or_default, text, texts,
 };
 use crate::word::is_word;
-use crate::{Answer, Command, Live, PortWords, Serve, Soak, Tool};
-use aoe_base::{Blob, LAST_MAJOR, LAST_MINOR, NoMemory, TargetId};
+use crate::{Answer, Command, Live, Mirror, PortWords, Serve, Soak, Switch, Tool};
+use aoe_base::{LAST_MAJOR, LAST_MINOR, NoMemory, TargetId};
 use clap::ArgMatches;
 use clap::error::{Error, ErrorKind};
 use std::alloc::Global;
 
 /// How many files `answer` works on.
 const ANSWER_FILES: usize = 2;
+
+/// How many files `mirror` works on: two sides, what says which of them leads, and a keep.
+const MIRROR_FILES: usize = 4;
 
 /// The most files that `serve` works on.
 const MOST_FILES: usize = 32;
@@ -39,16 +44,9 @@ const CACHE: NumberOption = NumberOption {
     default: 0,
 };
 
-/// How many frames `serve` takes.
-const FRAMES: NumberOption = NumberOption {
-    least: 1,
-    most: u32::MAX,
-    default: u32::MAX,
-};
-
-/// How many turns without a frame end `serve`.
+/// How many turns without a frame end `serve`, where 0 says that none do.
 const IDLE: NumberOption = NumberOption {
-    least: 1,
+    least: 0,
     most: 1_000_000,
     default: 3000,
 };
@@ -139,6 +137,15 @@ fn answer_of(found: &ArgMatches) -> Option<Command>
     }))
 }
 
+/// How many turns without a frame end `serve`.
+fn idle_of(found: &ArgMatches) -> Option<Option<u32>>
+    ensures value { result ≡ idle_of (rows_of (found_of found.now)) }
+    ensures bounds { IfSome result (λ idle. IfSome idle (λ n. (1 ≤ n) × (n ≤ 1000000))) }
+{
+    let turns = number_or(found, "idle", &IDLE)?;
+    Some(if turns == 0 { None } else { Some(turns) })
+}
+
 /// What the arguments of `serve` ask for, of so many slots.
 #[tactic(auto, unfolding(crate::specs::Words::serve_with))]
 fn serve_with(found: &ArgMatches, slots: u8) -> Option<Serve>
@@ -153,8 +160,8 @@ fn serve_with(found: &ArgMatches, slots: u8) -> Option<Serve>
         ports: ports_or_default(found, "ports")?,
         mtu: number_or(found, "mtu", &MTU)?,
         cache: number_or(found, "cache", &CACHE)?,
-        frames: number_or(found, "frames", &FRAMES)?,
-        idle: number_or(found, "idle", &IDLE)?,
+        frames: number_if_given(found, "frames", 1, u32::MAX)?,
+        idle: idle_of(found)?,
     })
 }
 
@@ -168,8 +175,27 @@ fn serve_of(found: &ArgMatches) -> Option<Command>
     if files % 2 != 0 || files < 2 || files > MOST_FILES {
         return None;
     }
-    let _ends = link(found)?;
+    let _link = link(found)?;
     Some(Command::Serve(serve_with(found, (files / 2) as u8)?))
+}
+
+/// What the arguments of `mirror` ask for.
+#[tactic(auto, unfolding(crate::specs::Words::mirror_of))]
+fn mirror_of(found: &ArgMatches) -> Option<Command>
+    ensures value { result ≡ option_map Command.Mirror (mirror_of (rows_of (found_of found.now))) }
+    ensures fits { IfSome result (Fits (rows_of (found_of found.now))) }
+{
+    if texts(found, "files")?.len() != MIRROR_FILES {
+        return None;
+    }
+    Some(Command::Mirror(Mirror {
+        id: TargetId {
+            major: number(found, "shelf", LAST_MAJOR)? as u16,
+            minor: number(found, "slot", LAST_MINOR)? as u8,
+        },
+        port: port_or_default(found, "port", DEFAULT_PORT)?,
+        mtu: number_or(found, "mtu", &MTU)?,
+    }))
 }
 
 /// What the arguments of `soak` ask for.
@@ -184,12 +210,15 @@ fn soak_of(found: &ArgMatches) -> Option<Command>
     }))
 }
 
-/// The texts of the two ends of `live`.
-fn two_ends<'a>(found: &ArgMatches<'a>) -> Option<(&'a str, &'a str)>
-    ensures { option_map (λ ends. (record { local = ends.0.now; peers = ends.1.now }, record { local = ends.1.now; peers = ends.0.now })) result
-        ≡ two_ends (rows_of (found_of found.now)) }
+/// What the arguments of `switch` ask for.
+#[tactic(auto, unfolding(crate::specs::Words::switch_of))]
+fn switch_of(found: &ArgMatches) -> Option<Command>
+    ensures value { result ≡ option_map Command.Switch (switch_of (rows_of (found_of found.now))) }
+    ensures fits { IfSome result (Fits (rows_of (found_of found.now))) }
 {
-    Some((text(found, "one")?, text(found, "two")?))
+    Some(Command::Switch(Switch {
+        ports: read_kinds(texts(found, "ports")?)?,
+    }))
 }
 
 /// What the arguments of `live` ask for.
@@ -232,6 +261,7 @@ fn tool_of(name: &str, found: &ArgMatches) -> Option<Tool>
     match name {
         "discover" => Some(Tool::Discover(plain_of(found)?)),
         "stat" => Some(Tool::Stat(plain_of(found)?)),
+        "flush" => flush_of(found),
         _ => list_tool_of(name, found),
     }
 }
@@ -259,9 +289,11 @@ fn command_of(name: &str, found: &ArgMatches) -> Option<Command>
     match name {
         "answer" => answer_of(found),
         "serve" => serve_of(found),
+        "mirror" => mirror_of(found),
         "replay" => Some(Command::Replay),
         "soak" => soak_of(found),
         "live" => live_of(found),
+        "switch" => switch_of(found),
         _ => asked_of(name, found),
     }
 }
@@ -318,7 +350,10 @@ fn files_in(alloc: Global, found: &Found) -> Result<Vec<String>, NoMemory>
         ≡ files_of found.now.command (rows_of (found_of found.now.matches))) }
 {
     match found.command {
-        Command::Answer(_) | Command::Serve(_) => match texts(&found.matches, "files") {
+        Command::Answer(_) | Command::Serve(_) | Command::Mirror(_) => match texts(
+            &found.matches,
+            "files",
+        ) {
             Some(texts) => copies(alloc, texts),
             None => Ok(Vec::new(alloc)),
         },
@@ -326,7 +361,7 @@ fn files_in(alloc: Global, found: &Found) -> Result<Vec<String>, NoMemory>
     }
 }
 
-/// The names of the files that `answer` or `serve` works on, in their order; none for the other
+/// The names of the files that `answer`, `serve` or `mirror` works on, in their order; none for the other
 /// commands and where the arguments spell no command.
 pub fn files_of(alloc: Global, words: &[String]) -> Result<Vec<String>, NoMemory>
     ensures { IfOk result (λ names. map string_bytes names.items
@@ -338,49 +373,57 @@ pub fn files_of(alloc: Global, words: &[String]) -> Result<Vec<String>, NoMemory
     }
 }
 
-/// The texts of a link.
-fn port_words(alloc: Global, local: &str, peers: &str) -> Result<PortWords, NoMemory>
-    ensures { IfOk result (λ link. link ≡ record { local = local.now; peers = peers.now }) }
-{
-    Ok(PortWords {
-        local: Blob::of(alloc, local.as_bytes())?,
-        peers: Blob::of(alloc, peers.as_bytes())?,
-    })
-}
-
-/// The texts of links, each its own end and its peers.
-fn all_links(alloc: Global, ends: &[(&str, &str)]) -> Result<Vec<PortWords>, NoMemory>
-    ensures { IfOk result (λ links. links.items
-        ≡ map (λ end. record { local = end.0.now; peers = end.1.now }) ends.now) }
-{
-    let mut links = Vec::new(alloc);
-    'ends: for (local, peers) in ends {
-        links.push(port_words(alloc, local, peers)?)?;
-    }
-    Ok(links)
-}
-
-/// The ends of the links that a command works on.
+/// What names the links that a command works on.
 fn links_in(alloc: Global, found: &Found) -> Result<Vec<PortWords>, NoMemory>
     ensures { IfOk result (λ links. links.items
         ≡ links_of found.now.command (rows_of (found_of found.now.matches))) }
 {
     match found.command {
-        Command::Answer(_) | Command::Replay | Command::Soak(_) => Ok(Vec::new(alloc)),
+        Command::Answer(_)
+        | Command::Mirror(_)
+        | Command::Replay
+        | Command::Soak(_)
+        | Command::Switch(_) => Ok(Vec::new(alloc)),
         Command::Live(_) => match two_ends(&found.matches) {
-            Some((one, two)) => all_links(alloc, &[(one, two), (two, one)]),
+            Some((one, two)) => all_links(alloc, &[one, two]),
             None => Ok(Vec::new(alloc)),
         },
         Command::Serve(_) | Command::Ask(_) | Command::Get(_) | Command::Put(_) => match link(
             &found.matches,
         ) {
-            Some((local, peers)) => all_links(alloc, &[(local, peers)]),
+            Some(link) => all_links(alloc, &[link]),
             None => Ok(Vec::new(alloc)),
         },
     }
 }
 
-/// The ends of the links that the command works on: one for `serve` and for each tool, two for
+/// The name of the file whose coming ends the run of a command.
+fn stop_in<'a>(found: &Found<'a>) -> Option<&'a str>
+    ensures { option_map (λ name. name.now) result
+        ≡ stop_in found.now.command (rows_of (found_of found.now.matches)) }
+{
+    match found.command {
+        Command::Serve(_) => text(&found.matches, "stop"),
+        _ => None,
+    }
+}
+
+/// The name of the file whose coming ends the run: what `--stop` of `serve` gives, where it stands;
+/// none for the other commands and where the arguments spell no command.
+pub fn stop_of(alloc: Global, words: &[String]) -> Result<Option<String>, NoMemory>
+    ensures { IfOk result (λ name. option_map string_bytes name
+        ≡ stop_name (map string_bytes words.now)) }
+{
+    let Some(found) = spelled(alloc, words)? else {
+        return Ok(None);
+    };
+    match stop_in(&found) {
+        Some(name) => Ok(Some(String::from_str(alloc, name)?)),
+        None => Ok(None),
+    }
+}
+
+/// What names the links that the command works on: one for `serve` and for each tool, two for
 /// `live`, none for the other commands and where the arguments spell no command.
 pub fn ports_of(alloc: Global, words: &[String]) -> Result<Vec<PortWords>, NoMemory>
     ensures { IfOk result (λ links. links.items ≡ port_words (map string_bytes words.now)) }

@@ -1,15 +1,16 @@
 //! What the arguments of the tools spell.
 ghost use Rattle.std.specs.Prelude.{◌≡◌, ◌≤◌, ◌<◌, ◌^◌, option_map, IfSome, IsSome};
 ghost use Rattle.clap.specs.Words.{found_of, rows_of};
-ghost use Rattle.aoe_words.specs.Tools.{CanAsk, CanGet, CanPut, IsDevice, asking_of, ccmd_alone, ccmd_with_text, cfg_of, device, get_of, mask_of, put_of, rcmd_alone, rcmd_with_list, reserve_of, sector};
+ghost use Rattle.aoe_words.specs.Tools.{CanAsk, CanGet, CanPut, IsDevice, asking_of, ccmd_alone, ccmd_with_text, cfg_of, device, flush_of, get_of, mask_of, put_of, rcmd_alone, rcmd_with_list, reserve_of, sector};
 ghost use Rattle.aoe_words.specs.Values.{link};
 ghost use Rattle.aoe_words.specs.Words.{CanRun};
 
+use crate::link::link;
 use crate::lists::{read_dirs, read_macs, read_text};
 use crate::values::{
-    NumberOption, TOOL_PORT, link, number, number_from, number_or, port_or_default, text, texts,
+    NumberOption, TOOL_PORT, number, number_from, number_or, port_or_default, text, texts,
 };
-use crate::{Asking, Cfg, Get, Mask, Put, Reserve, Tool};
+use crate::{Asking, Cfg, Flush, Get, Mask, Put, Reserve, Tool};
 use aoe_base::{TargetId, device_law, read_device};
 use arrayvec::ArrayVec;
 use clap::ArgMatches;
@@ -17,7 +18,7 @@ use clap::ArgMatches;
 /// How many turns a tool listens where nothing is said of it.
 const TOOL_TURNS: u32 = 50;
 
-/// How many turns `get` and `put` listen where nothing is said of it.
+/// How many turns `flush`, `get` and `put` listen where nothing is said of it.
 const SECTOR_TURNS: u32 = 5000;
 
 /// The last sector that a command can name: it has 48 bits (AoEr11, "ATA command").
@@ -26,7 +27,7 @@ const LAST_SECTOR: u64 = 0xffff_ffff_ffff;
 /// The most sectors that `get` reads.
 const MOST_SECTORS: u32 = 32768;
 
-/// Who asks, where the ends of the link are named; `turns` is how long where nothing is said of it.
+/// Who asks, where the link is named; `turns` is how long where nothing is said of it.
 #[tactic(auto, unfolding(crate::specs::Tools::asking_of))]
 fn asking_of(found: &ArgMatches, turns: u32) -> Option<Asking>
     requires { (1 ≤ turns) × (turns ≤ 1000000) }
@@ -34,7 +35,7 @@ fn asking_of(found: &ArgMatches, turns: u32) -> Option<Asking>
     ensures range { IfSome result CanAsk }
     ensures link { IfSome result (λ asking. IsSome (link (rows_of (found_of found.now)))) }
 {
-    let _ends = link(found)?;
+    let _link = link(found)?;
     let option = NumberOption {
         least: 1,
         most: 1_000_000,
@@ -173,6 +174,19 @@ pub(crate) fn reserve_of(found: &ArgMatches) -> Option<Tool>
         id,
         rcmd,
         list,
+    }))
+}
+
+/// What the arguments of `flush` ask for.
+#[tactic(auto, unfolding(crate::specs::Tools::flush_of))]
+pub(crate) fn flush_of(found: &ArgMatches) -> Option<Tool>
+    ensures value { result ≡ option_map Tool.Flush (flush_of (rows_of (found_of found.now))) }
+    ensures range { IfSome result CanRun }
+    ensures link { IfSome result (λ tool. IsSome (link (rows_of (found_of found.now)))) }
+{
+    Some(Tool::Flush(Flush {
+        asking: asking_of(found, SECTOR_TURNS)?,
+        id: device_of(found)?,
     }))
 }
 

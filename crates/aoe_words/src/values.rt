@@ -1,9 +1,9 @@
 //! The values of words and options, as clap found them.
-ghost use Rattle.std.specs.Prelude.{◌≡◌, ◌≤◌, [], ◌∷◌, map, option_map, true, IfSome};
+ghost use Rattle.std.specs.Prelude.{◌≡◌, ◌≤◌, [], ◌∷◌, map, option_map, true, IfSome, None, Some};
 ghost use Rattle.clap.specs.Words.{all_of, first_of, found_of, rows_of};
 ghost use Rattle.aoe_base.specs.Decimal.{number_of};
 ghost use Rattle.aoe_base.specs.Addresses.{is_individual};
-ghost use Rattle.aoe_words.specs.Values.{default_port, given, given_or, link, number_within, port_of, ports_of};
+ghost use Rattle.aoe_words.specs.Values.{default_port, given, given_or, number_within, port_of, ports_of};
 ghost use Rattle.aoe_words.specs.Words.{ArePorts};
 
 use crate::ports::{read_port, read_ports};
@@ -40,14 +40,6 @@ pub(crate) fn texts<'b, 'a>(found: &'b ArgMatches<'a>, id: &str) -> Option<&'b [
     found.get_strs(id)
 }
 
-/// The texts of the ends of a link: its own, and its peers.
-pub(crate) fn link<'a>(found: &ArgMatches<'a>) -> Option<(&'a str, &'a str)>
-    ensures { option_map (λ ends. record { local = ends.0.now; peers = ends.1.now }) result
-        ≡ link (rows_of (found_of found.now)) }
-{
-    Some((text(found, "local")?, text(found, "peers")?))
-}
-
 /// The number up to `most` that a word spells.
 pub(crate) fn number(found: &ArgMatches, id: &str, most: u64) -> Option<u64>
     ensures value { result ≡ given id.now (λ text. number_of text most)
@@ -58,7 +50,7 @@ pub(crate) fn number(found: &ArgMatches, id: &str, most: u64) -> Option<u64>
 }
 
 /// The number from `least` to `most` that a text spells.
-fn number_within(text: &[u8], least: u32, most: u32) -> Option<u32>
+pub(crate) fn number_within(text: &[u8], least: u32, most: u32) -> Option<u32>
     ensures value { result ≡ number_within least most text.now }
     ensures bounds { IfSome result (λ n. (least ≤ n) × (n ≤ most)) }
 {
@@ -87,6 +79,24 @@ pub(crate) fn number_or(found: &ArgMatches, id: &str, option: &NumberOption) -> 
     match text(found, id) {
         Some(text) => number_within(text.as_bytes(), option.least, option.most),
         None => Some(option.default),
+    }
+}
+
+/// The number of an option that needn't be given.
+pub(crate) fn number_if_given(
+    found: &ArgMatches,
+    id: &str,
+    least: u32,
+    most: u32,
+) -> Option<Option<u32>>
+    ensures value { result
+        ≡ given_or id.now (λ text. option_map Some (number_within least most text)) None
+        (rows_of (found_of found.now)) }
+    ensures bounds { IfSome result (λ number. IfSome number (λ n. (least ≤ n) × (n ≤ most))) }
+{
+    match text(found, id) {
+        Some(text) => Some(Some(number_within(text.as_bytes(), least, most)?)),
+        None => Some(None),
     }
 }
 

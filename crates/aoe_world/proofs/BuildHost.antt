@@ -9,6 +9,7 @@ use Rattle.std.proofs.lemmas.Option.{slice_get_within}
 use Rattle.std.proofs.lemmas.List.{length-map, take_all}
 use Rattle.arrayvec.specs.ArrayVec.{ArrayVec}
 use Rattle.aoe_base.specs.declared.address.Mac.{Mac}
+use Rattle.aoe_base.specs.declared.counted.Lifetimes.{Lifetimes}
 use Rattle.aoe_history.specs.Setup.{host_called, HostSetup, IsSetup}
 use Rattle.aoe_sim_hosts.proofs.AddressLemmas.{host-addresses, remote-addresses}
 use Rattle.aoe_sim_hosts.proofs.Apart.{settled-new}
@@ -18,8 +19,9 @@ use Rattle.aoe_initiator.specs.declared.device.Device.{Device}
 use Rattle.aoe_initiator.specs.Host.{new_host, Matches}
 use Rattle.aoe_initiator.specs.HostLaw.{has_id, same_id}
 use Rattle.aoe_initiator.specs.HostLog.{Event}
-use Rattle.aoe_sim_setup.specs.Layout.{attached_to, default_dead, default_room, devices_of, host_in, host_of, setup_of}
-use Rattle.aoe_sim_setup.specs.Stations.{IsDevice, IsHost as HasWords}
+use Rattle.aoe_initiator.specs.Defaults.{default_dead, default_room}
+use Rattle.aoe_sim_setup.specs.Layout.{attached_to, devices_of, host_in, host_of, setup_of}
+use Rattle.aoe_sim_setup.specs.Stations.{HasRanges, IsDevice, IsHost as HasWords}
 use Rattle.aoe_sim_setup.proofs.GoodLines.{are-good}
 use Rattle.aoe_sim_setup.proofs.HostLemmas.{has-hosts}
 use Rattle.aoe_sim_setup.proofs.ListLemmas.{contains-at, filtered-at}
@@ -35,8 +37,8 @@ use Rattle.aoe_world.specs.Build.{CanAttach}
 -- ---- numbers
 
 module _ {script : ScriptLines} (is : IsScript script) where
-  pub life-few : (setup_of script.setups).life ≤ 600000
-  life-few = (has-ranges script.setups (are-good script is)).life
+  pub ranges : HasRanges (setup_of script.setups)
+  ranges = has-ranges script.setups (are-good script is)
 
   pub shelf-words : {shelf : ArrayVec ℕ} {major : ℕ} {ports : ArrayVec Mac} {mtu : ℕ}
       → find (is_shelf_named shelf) script.setups ≡ Some (Shelf shelf major ports mtu) → (major ≤ 65534) × (1500 ≤ mtu) × (mtu ≤ 9000)
@@ -51,16 +53,16 @@ module _ {script : ScriptLines} (is : IsScript script) where
 abbrev pub known_of : NamedHost → List Attached
 known_of x = map (λ (d : Device). d.about) x.core.devices
 
-pub record HostSoFar (lines : List Line) (name : ArrayVec ℕ) (ports : ArrayVec Mac) (life room dead n : ℕ) (x : NamedHost) : Type 0 where
+pub record HostSoFar (lines : List Line) (name : ArrayVec ℕ) (ports : ArrayVec Mac) (life : Lifetimes) (room dead n : ℕ) (x : NamedHost) : Type 0 where
   pub rest : x ≡ record { name = name; core = record (new_host ports.items life room dead) { devices = x.core.devices } }
   pub devices : known_of x ≡ filter_map (attached_to lines name) (take n lines)
   pub matches : Matches [] x.core
 
-pub host-begun : {lines : List Line} {name : ArrayVec ℕ} {ports : ArrayVec Mac} {life room dead : ℕ} {x : NamedHost}
+pub host-begun : {lines : List Line} {name : ArrayVec ℕ} {ports : ArrayVec Mac} {life : Lifetimes} {room dead : ℕ} {x : NamedHost}
     → x ≡ record { name = name; core = new_host ports.items life room dead } → Matches [] x.core → HostSoFar lines name ports life room dead 0 x
 host-begun e matches = record { rest = rw e; devices = rw e; matches = matches }
 
-module _ {lines : List Line} {name : ArrayVec ℕ} {ports : ArrayVec Mac} {life room dead n : ℕ} {line : Line} {x : NamedHost}
+module _ {lines : List Line} {name : ArrayVec ℕ} {ports : ArrayVec Mac} {life : Lifetimes} {room dead n : ℕ} {line : Line} {x : NamedHost}
     (at : slice_get lines n ≡ Some line) (k : HostSoFar lines name ports life room dead n x) where
   pub host-more : {y : NamedHost} {known : Option Attached} → known ≡ attached_to lines name line → known_of y ≡ known_of x ++ option_to_list known
       → y ≡ record x { core = record x.core { devices = y.core.devices } } → ((log : List Event) → Matches log x.core → Matches log y.core)
@@ -117,7 +119,7 @@ module _ {script : ScriptLines} {name : ArrayVec ℕ} {ports : ArrayVec Mac} {ro
   pub words-of : HasWords (host_of script.setups name ports.items room dead)
   words-of =
       let p = filtered-at (host_in script.setups) script.setups at (Host name ports room dead) (host_of script.setups name ports.items room dead) there refl in
-      (has-ranges script.setups (are-good script is)).hosts p.at _ p.there
+      (ranges is).hosts p.at _ p.there
 
   pub host-built : {n : ℕ} {x : NamedHost} → length script.setups ≤ n
       → HostSoFar script.setups name ports (setup_of script.setups).life (unwrap_or room default_room) (unwrap_or dead default_dead) n x
@@ -153,7 +155,7 @@ module _ {script : ScriptLines} {name : ArrayVec ℕ} {ports : ArrayVec Mac} {ro
       }
 
   -- the device of the next line can be attached
-  pub device-can : {n life r t : ℕ} {line : Line} {x : NamedHost} → slice_get script.setups n ≡ Some line → HostSoFar script.setups name ports life r t n x
+  pub device-can : {n r t : ℕ} {life : Lifetimes} {line : Line} {x : NamedHost} → slice_get script.setups n ≡ Some line → HostSoFar script.setups name ports life r t n x
       → (known : Option Attached) → known ≡ attached_to script.setups name line → IfSome known (λ d. CanAttach d x.core.devices)
   device-can here k known known-is =
       if-some known (λ d e. host-can here k (host_of script.setups name ports.items room dead) d words-of is.few_setups (sym known-is ∙ e))

@@ -40,9 +40,9 @@ module _ {lines : List Line} {n : ℕ} {line : Line} {sim : Sim} {places : List 
     places_are = rw (grown-none placed lines n line here no-place) k.places_are;
   }
 
-  pub built-past : ((x : ℕ) × (line ≡ Life x)) ⊎ (((x : ArrayVec ℕ) × (y : ℕ) × (z : ℕ) × (w : Option ℕ) × (line ≡ Slot x y z w))
+  pub built-past : ((x : ℕ) × (y : Option ℕ) × (line ≡ Life x y)) ⊎ (((x : ArrayVec ℕ) × (y : ℕ) × (z : ℕ) × (w : Option ℕ) × (line ≡ Slot x y z w))
       ⊎ ((x : ArrayVec ℕ) × (y : ArrayVec ℕ) × (z : ℕ) × (line ≡ Attach x y z))) → IsBuilt lines (n + 1) sim places
-  built-past (inl (x, e)) = built-on (rw e) (rw e) (rw e)
+  built-past (inl (x, y, e)) = built-on (rw e) (rw e) (rw e)
   built-past (inr (inl (x, y, z, w, e))) = built-on (rw e) (rw e) (rw e)
   built-past (inr (inr (x, y, z, e))) = built-on (rw e) (rw e) (rw e)
 

@@ -2,6 +2,7 @@
 use Rattle.std.proofs.Common.{ℕ, suc, ◌≡◌, ◌≤◌, Bool, true, List, [], ◌∷◌, length, Option, Some, arith}
 use Rattle.std.specs.Option.{option_and_then}
 use Rattle.std.proofs.lemmas.Bool.{ne_eqb}
+use Rattle.aoe_base.specs.declared.counted.Lifetimes.{Lifetimes}
 use Rattle.aoe_net.specs.Network.{fresh_bytes, numbered, SentFrame}
 use Rattle.aoe_history.specs.declared.entry.Entry.{Entry}
 use Rattle.aoe_history.specs.declared.entry.Entry.TheVariants.{Sent, Injected, Arrived, Ticked}
@@ -32,7 +33,7 @@ fresh-more : (g : SentFrame → Option (List ℕ)) (x : SentFrame) (fs : List Se
     → option_and_then g (numbered fs number) ≡ Some f → option_and_then g (numbered (x ∷ fs) number) ≡ Some f
 fresh-more g x fs number f e = let y = some-then g (numbered fs number) f e in rw (numbered-more x fs number (number-within fs number y.0 y.1)) e
 
-module _ (life number : ℕ) (f : List ℕ) where
+module _ (life : Lifetimes) (number : ℕ) (f : List ℕ) where
   more : (h : List Entry) (bytes : List ℕ) → arriving life h number ≡ Some f
       → option_and_then (fresh_bytes (network life h) (clock h)) (numbered (record { bytes = bytes; birth = clock h } ∷ frames h) number) ≡ Some f
   more h bytes x = fresh-more (fresh_bytes (network life h) (clock h)) _ (frames h) number f x

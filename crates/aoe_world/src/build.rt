@@ -18,25 +18,16 @@ ghost use Rattle.aoe_world.specs.World.{IsStaged};
 use crate::act::At;
 use crate::place::Place;
 use crate::sim::Sim;
-use aoe_base::{Millis, NoMemory, Ports, TargetId, copy_of};
+use aoe_base::{Lifetimes, Millis, NoMemory, Ports, TargetId, copy_of};
 use aoe_frame::Frame;
 use aoe_history::Run;
-use aoe_initiator::Attached;
+use aoe_initiator::{Attached, DEAD, LIFETIMES, ROOM};
 use aoe_script::{Name, Script, Setup};
 use aoe_sim_hosts::NamedHost;
 use aoe_sim_setup::layout_law;
 use aoe_sim_shelves::MemoryRack;
 use aoe_target::max_sectors;
 use std::alloc::Global;
-
-/// How long a frame can be handed over where no line says it, in milliseconds.
-const LIFE: u64 = 2000;
-
-/// How many commands of a host fly or rest where its line doesn't say it.
-const ROOM: u64 = 4096;
-
-/// After how many milliseconds a command is given up where its host's line doesn't say it.
-const DEAD: u64 = 180_000;
 
 /// The words of a shelf line behind its name.
 #[derive(Drop)]
@@ -70,26 +61,32 @@ fn same(a: &Name, b: &Name) -> bool
     a.as_slice() == b.as_slice()
 }
 
-/// How long a frame can be handed over, where the line says it.
-fn life_in(line: &Setup) -> Option<u64>
+/// How long frames can be handed over, where the line says it.
+fn life_in(line: &Setup) -> Option<Lifetimes>
     ensures { result ≡ life_in line.now }
 {
     match line {
-        Setup::Life { ms } => Some(*ms),
+        Setup::Life {
+            requests,
+            responses,
+        } => Some(Lifetimes {
+            requests: Millis(*requests),
+            responses: Millis(responses.unwrap_or(*requests)),
+        }),
         _ => None,
     }
 }
 
-/// How long a frame can be handed over.
-fn life_of(script: &Script) -> Millis
-    ensures { result.0 ≡ (setup_of script.now.setups).life }
+/// How long frames can be handed over.
+fn life_of(script: &Script) -> Lifetimes
+    ensures { result ≡ (setup_of script.now.setups).life }
 {
     'lines: for i in 0..script.setups() {
-        if let Some(ms) = life_in(script.setup(i)) {
-            return Millis(ms);
+        if let Some(life) = life_in(script.setup(i)) {
+            return life;
         }
     }
-    Millis(LIFE)
+    LIFETIMES
 }
 
 /// What a line says of the shelf with a name.
@@ -244,8 +241,8 @@ fn build_host(alloc: Global, script: &Script, line: HostLine) -> Result<NamedHos
 {
     let count = script.setups();
     let life = life_of(script);
-    let room = line.room.unwrap_or(ROOM) as u32;
-    let dead = Millis(line.dead.unwrap_or(DEAD));
+    let room = line.room.unwrap_or(u64::from(ROOM)) as u32;
+    let dead = Millis(line.dead.unwrap_or(DEAD.0));
     let mut host = NamedHost::new(alloc, copy_of(&line.name), &line.ports, life, room, dead)?;
     'lines: for i in 0..count {
         attach(&mut host, attached_to(script, &line.name, script.setup(i)))?;

@@ -4,6 +4,8 @@ use Rattle.std.proofs.lemmas.Bool.{cases_order, eq-eqb}
 use Rattle.std.proofs.lemmas.Bool.Decides.{nat_tests}
 use Rattle.aoe_base.specs.declared.sectors.Span.{Span}
 use Rattle.aoe_base.specs.Spans.{overlap}
+use Rattle.aoe_base.specs.declared.counted.Lifetimes.{Lifetimes}
+use Rattle.aoe_frame.specs.Header.{is_response}
 use Rattle.aoe_hold.specs.declared.command.Command.{Command}
 use Rattle.aoe_hold.specs.declared.command.Stage.TheVariants.{Unsent}
 use Rattle.aoe_hold.specs.Commands.{conflict, has_effect, rests_on_effects}
@@ -19,7 +21,7 @@ use Rattle.aoe_history.specs.CommandView.{in_conflict, is_active, sends_of, was_
 use Rattle.aoe_history.specs.Frames.{arriving, frames}
 use Rattle.aoe_history.specs.Setup.{device_no, HostSetup, SlotSetup}
 use Rattle.aoe_history.proofs.hosts.BaseLemmas.{Base}
-use Rattle.aoe_history.proofs.FrameLemmas.{birth_of, arrives}
+use Rattle.aoe_history.proofs.FrameLemmas.{birth_of, arrives, request-life}
 use Rattle.aoe_history.proofs.hosts.GoneLemmas.{AreGone}
 use Rattle.aoe_history.proofs.hosts.SentLemmas.{ids-same}
 use Rattle.aoe_history.proofs.LogicLemmas.{not-both}
@@ -53,7 +55,7 @@ conflicts host {slot} h d c p q e =
 
 -- UNDER WAY
 
-module _ (life : ℕ) (host : HostSetup) (h : List Entry) (b : Base life host h) (g : AreGone life host h) where
+module _ (life : Lifetimes) (host : HostSetup) (h : List Entry) (b : Base life host h) (g : AreGone life host h) where
   -- an earlier command in conflict is done once a later one was sent, and over where it has effects and the later one rests on them
   module _ {slot : SlotSetup} (d c : ℕ) {x y : Sending} {a l : Op} (p : sends_of host h c ≡ Some x) (q : sends_of host h d ≡ Some y) (lt : d < c)
       (asks : AsksAt slot (submission host h d) a) (later : AsksAt slot (submission host h c) l) (clash : op_clash a l ≡ true) where
@@ -101,12 +103,12 @@ module _ (life : ℕ) (host : HostSetup) (h : List Entry) (b : Base life host h)
       ]
 
 -- a frame of a host that can arrive is of a command that is under way
-pub arriving-active : (life : ℕ) (host : HostSetup) (h : List Entry) (number : ℕ) (frame : SentFrame)
-    → numbered (frames h) number ≡ Some frame → arriving life h number ≡ Some frame.bytes → (x : IsSentFor host h frame)
+pub arriving-active : (life : Lifetimes) (host : HostSetup) (h : List Entry) (number : ℕ) (frame : SentFrame)
+    → is_response frame.bytes ≡ false → numbered (frames h) number ≡ Some frame → arriving life h number ≡ Some frame.bytes → (x : IsSentFor host h frame)
     → is_active life host h x.ticket x.sending ≡ true
-arriving-active life host h number frame e fresh x =
+arriving-active life host h number frame asks e fresh x =
     let a = arrives life h number frame.bytes fresh in
     let born : birth_of h number ≡ frame.birth = rw e in
-    let le = a.fresh in
+    let le = rw (request-life life frame.bytes asks) at a.fresh in
     let time = x.time in
     grind (arith, nat_tests)

@@ -52,7 +52,7 @@ module _ (s : Setup) (host : HostSetup) (mine : IsNamed s host) (ok : IsSetup s)
   askable : (h : List Entry) (c : ℕ) (dev : TargetId) (op : Op) → IsSubmitted s host h c dev op → IsAskable host (record { dev = dev; op = op })
   askable h c dev op x =
       let a = get-there host.devices x.device (placed-inside _ host.devices x.device x.attached) in
-      let d = some-mapped _ _ a.0 (about-at host.ports s.life (clock h) 0 (commands_of host h) host.devices x.device ∙ a.1) in
+      let d = some-mapped _ _ a.0 (about-at host.ports s.life.requests.0 (clock h) 0 (commands_of host h) host.devices x.device ∙ a.1) in
       let free : op_refusal a.0 op ≡ None = (let taken = rw (d.1, d.2) at x.taken in grind arith) in
       let at : IsAttachedTo s a.0 = ok.attached host a.0 there (Contains-get host.devices x.device a.0 a.1) in
       let slot = found _ s.slots at.slot at.there in
@@ -110,7 +110,7 @@ data-is f op at bytes id remote local tag e can some fits is =
 module _ (s : Setup) (host : HostSetup) (h : List Entry) (run : HasHost s host h) (slot : SlotSetup) (there : Contains s.slots slot) where
   pub understood : (frame : SentFrame) (lists : Settings) (d : AtaDecision) → (sent : IsSentFor host h frame)
       → verdict slot.station lists frame.bytes ≡ Ata d → (x : Submission)
-      → submission host h sent.ticket ≡ Some x → IsUnderstood slot x frame.bytes d.answer
+      → submission host h sent.ticket ≡ Some x → IsUnderstood slot lists.read_only x frame.bytes d.answer
   understood frame lists d sent v x is =
       let mine = (host-there s run.name host run.called).0 in
       let k = asked-of s host h run sent.ticket x is in

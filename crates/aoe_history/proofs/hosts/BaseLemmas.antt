@@ -2,6 +2,7 @@
 use Rattle.std.proofs.Common.{ℕ, ◌-◌, ◌<◌, ◌≤◌, ◌≡◌, ◌⊎◌, inl, inr, nat_lt, Bool, true, not, ◌&&◌, List, ◌∷◌, Option, Some, is_some, sym, ap, ◌∙◌, arith}
 use Rattle.std.proofs.lemmas.Bool.Decides.{nat_tests}
 use Rattle.arrayvec.specs.ArrayVec.{ArrayVec}
+use Rattle.aoe_base.specs.declared.counted.Lifetimes.{Lifetimes}
 use Rattle.aoe_base.specs.declared.counted.Millis.{Millis}
 use Rattle.aoe_base.specs.declared.counted.PathNo.{PathNo}
 use Rattle.aoe_frame.specs.Header.{fields}
@@ -15,7 +16,7 @@ use Rattle.aoe_history.specs.Setup.{is_called, HostSetup}
 use Rattle.aoe_history.proofs.hosts.ReadyLemmas.{MayBeSent}
 use Rattle.aoe_history.proofs.LogicLemmas.{own-number}
 
-pub record Base (life : ℕ) (host : HostSetup) (h : List Entry) : Type 0 where
+pub record Base (life : Lifetimes) (host : HostSetup) (h : List Entry) : Type 0 where
   pub bounds : (c : ℕ) (x : Sending) → sends_of host h c ≡ Some x → (0 < c) × (c ≤ tickets host h)
   pub last : (c : ℕ) (x : Sending) → sends_of host h c ≡ Some x → x.last.0 ≤ clock h
   pub done : (c : ℕ) → was_done host h c ≡ true → is_some (sends_of host h c) ≡ true
@@ -39,7 +40,7 @@ pub live-by : (rest now later last : ℕ) (done done2 : Bool) → now ≤ later 
     → not (done2 && nat_lt rest (later - last)) ≡ true → not (done && nat_lt rest (now - last)) ≡ true
 live-by rest now later last done done2 le d e = grind (arith, nat_tests)
 
-pub keeps-base : {life : ℕ} {host : HostSetup} {h n : List Entry} → Keeps host h n → Base life host h → Base life host n
+pub keeps-base : {life : Lifetimes} {host : HostSetup} {h n : List Entry} → Keeps host h n → Base life host h → Base life host n
 keeps-base {life} {host} {h} {n} k b = record {
   bounds = λ c x e. grind (arith, k.sends c, b.bounds c x);
   last = λ c x e. grind (arith, k.sends c, b.last c x);
@@ -64,7 +65,7 @@ more-tag tag now path t x o e = rw e
 pub sent-last : (host : HostSetup) (h : List Entry) (c : ℕ) (f : List ℕ) (d : ℕ) → (more host h c f d).last.0 ≡ clock h
 sent-last host h c f d = ap (λ (m : Millis). m.0) (more-last _ _ _ _ (sends_of host h d))
 
-module _ (life : ℕ) (host : HostSetup) (h : List Entry) (name : ArrayVec ℕ) (c number : ℕ) (f : List ℕ)
+module _ (life : Lifetimes) (host : HostSetup) (h : List Entry) (name : ArrayVec ℕ) (c number : ℕ) (f : List ℕ)
     (mine : is_called host name ≡ true) (r : MayBeSent life host h c f) (reads : (fields f).tag ≡ r.tag) where
   abbrev pub after : List Entry
   after = Sent name c number f ∷ h

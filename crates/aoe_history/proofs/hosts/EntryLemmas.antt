@@ -5,6 +5,7 @@ use Rattle.std.proofs.lemmas.Slice.Eq.{bytes_eq-Decides}
 use Rattle.std.proofs.lemmas.Bool.Decides.{nat_tests}
 use Rattle.arrayvec.specs.ArrayVec.{ArrayVec}
 use Rattle.aoe_base.specs.declared.address.TargetId.{TargetId}
+use Rattle.aoe_base.specs.declared.counted.Lifetimes.{Lifetimes}
 use Rattle.aoe_frame.specs.Header.{fields}
 use Rattle.aoe_initiator.specs.declared.op.Op.{Op}
 use Rattle.aoe_initiator.specs.declared.outcome.Outcome.{Outcome}
@@ -72,7 +73,7 @@ AreSentFor host h fs = (k : ℕ) (f : SentFrame) → numbered fs k ≡ Some f �
 pub numbered-cases : (g : SentFrame) (fs : List SentFrame) (k : ℕ) (f : SentFrame) → numbered (g ∷ fs) k ≡ Some f → (g ≡ f) ⊎ (numbered fs k ≡ Some f)
 numbered-cases g fs k f e = grind arith
 
-pub keeps-frames : {life : ℕ} {host : HostSetup} {h n : List Entry} (fs : List SentFrame) → Keeps host h n
+pub keeps-frames : {life : Lifetimes} {host : HostSetup} {h n : List Entry} (fs : List SentFrame) → Keeps host h n
     → Base life host h → AreSentFor host h fs → AreSentFor host n fs
 keeps-frames fs k b all number f e from = let x = all number f e from in record {
   ticket = x.ticket;
@@ -87,7 +88,7 @@ pub foreign-frame : (host : HostSetup) (h : List Entry) (g : SentFrame) (fs : Li
     → (reading.is_from host g.bytes ≡ true → ⊥) → AreSentFor host h fs → AreSentFor host h (g ∷ fs)
 foreign-frame host h g fs foreign all number f e from = grind (arith, numbered-cases g fs number f e, all number f)
 
-module _ (life : ℕ) (host : HostSetup) (h : List Entry) (name : ArrayVec ℕ) (c number : ℕ) (f : List ℕ)
+module _ (life : Lifetimes) (host : HostSetup) (h : List Entry) (name : ArrayVec ℕ) (c number : ℕ) (f : List ℕ)
     (mine : is_called host name ≡ true) (r : MayBeSent life host h c f) (reads : (fields f).tag ≡ r.tag) where
   still-sent : Base life host h → (g : SentFrame) → IsSentFor host h g → IsSentFor host (Sent name c number f ∷ h) g
   still-sent b g x = elim (cases_Bool (is_called host name && nat_eq c x.ticket)) [

@@ -2,6 +2,7 @@
 use Rattle.std.proofs.Common.{ℕ, zero, suc, ◌<◌, ◌≤◌, ◌≡◌, ◌≢◌, ◌⊎◌, inl, inr, Bool, true, false, List, [], ◌∷◌, Some, None, ap, ◌∙◌, arith, Contains}
 use Rattle.std.proofs.lemmas.Bool.{and_parts, cases_lt, eqb-false}
 use Rattle.std.proofs.lemmas.List.Elements.{Contains-append_left, Contains-push}
+use Rattle.aoe_base.specs.declared.counted.Lifetimes.{Lifetimes}
 use Rattle.aoe_flight.specs.Outstanding.{has_tag}
 use Rattle.aoe_hold.specs.Commands.{is_unsent}
 use Rattle.aoe_initiator.specs.declared.step.Sent as step
@@ -20,10 +21,10 @@ use Rattle.std.specs.Option.{option_map}
 use Rattle.aoe_initiator.proofs.ListLemmas.{Contains-filter, Contains-map}
 
 -- a command is sent for the first time
-pub record IsFirstSend (life : ℕ) (host : HostSetup) (h : List Entry) (c tag : ℕ) : Type 0 where
+pub record IsFirstSend (life : Lifetimes) (host : HostSetup) (h : List Entry) (c tag : ℕ) : Type 0 where
   pub unsent : sends_of host h c ≡ None
   pub free : (d : ℕ) (y : Sending) → 0 < d → d ≤ tickets host h → sends_of host h d ≡ Some y → is_live life host h d y ≡ true → y.tag ≢ tag
-  pub past : (d : ℕ) → 0 < d → d < c → in_conflict host h d c ≡ true → IsPast life (clock h) (as_entered (view host h d)) (as_entered (view host h c))
+  pub past : (d : ℕ) → 0 < d → d < c → in_conflict host h d c ≡ true → IsPast life.requests.0 (clock h) (as_entered (view host h d)) (as_entered (view host h c))
 
 -- a command that flies is sent again
 pub record IsRepeatSend (host : HostSetup) (h : List Entry) (c tag : ℕ) : Type 0 where
@@ -32,7 +33,7 @@ pub record IsRepeatSend (host : HostSetup) (h : List Entry) (c tag : ℕ) : Type
   pub flying : was_done host h c ≡ false
   pub same : before.tag ≡ tag
 
-pub record MayBeSent (life : ℕ) (host : HostSetup) (h : List Entry) (c : ℕ) (f : List ℕ) : Type 0 where
+pub record MayBeSent (life : Lifetimes) (host : HostSetup) (h : List Entry) (c : ℕ) (f : List ℕ) : Type 0 where
   pub tag : ℕ
   pub above : 0 < c
   pub submitted : c ≤ tickets host h
@@ -69,7 +70,7 @@ send-by s host h c sent false k ticket may =
       free = λ d y above le sends alive. eqb-false _ _ (none-of (has_tag sent.tag) _ (outstanding (view host h d) y) may.free (Contains-filter _ _ _
           (filtered as_sent _ (view host h d) _ (view-there host h d k above le) (ap (option_map (outstanding (view host h d))) sends)) alive));
       past = λ d above lt co. let parts = and_parts _ _ co in
-          clear-past s.life (clock h) _ (view host h c) (view host h d) clear (view-there host h d k above (omega arith)) parts.0 lt parts.1;
+          clear-past s.life.requests.0 (clock h) _ (view host h c) (view host h d) clear (view-there host h d k above (omega arith)) parts.0 lt parts.1;
     })
 
 pub ready : (s : Setup) (host : HostSetup) (h : List Entry) (c number : ℕ) (f : List ℕ) → Known host h

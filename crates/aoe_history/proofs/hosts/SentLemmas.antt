@@ -1,5 +1,5 @@
 -- What a host sends: the request of a command that is next, with its tag.
-use Rattle.std.proofs.Common.{ℕ, zero, suc, ◌+◌, ◌<◌, ◌≡◌, inl, inr, Bool, true, List, [], ◌∷◌, Some, refl, ap, ◌∙◌, arith, Contains}
+use Rattle.std.proofs.Common.{ℕ, zero, suc, ◌+◌, ◌<◌, ◌≡◌, inl, inr, Bool, true, false, List, [], ◌∷◌, Some, refl, ap, ◌∙◌, arith, Contains}
 use Rattle.std.specs.Prelude.{slice_get}
 use Rattle.std.specs.List.{find}
 use Rattle.std.specs.Option.{option_map}
@@ -11,7 +11,8 @@ use Rattle.aoe_base.specs.declared.counted.DeviceNo.{DeviceNo}
 use Rattle.aoe_base.specs.declared.counted.PathNo.{PathNo}
 use Rattle.aoe_base.specs.Addresses.{holds}
 use Rattle.aoe_base.proofs.AddressLemmas.{holds-at}
-use Rattle.aoe_frame.specs.Header.{fields, Fits}
+use Rattle.aoe_frame.proofs.HeaderLemmas.{kind-read}
+use Rattle.aoe_frame.specs.Header.{fields, head, is_response, Fits}
 use Rattle.aoe_initiator.specs.declared.device.Attached.{Attached}
 use Rattle.aoe_initiator.specs.declared.device.Device.{Device}
 use Rattle.aoe_initiator.specs.declared.op.Op.{Op}
@@ -79,6 +80,9 @@ module _ (s : Setup) (host : HostSetup) (device : DeviceNo) (op : Op) (tag : ℕ
         major = omega arith;
         tag = r.fits;
       }
+
+  pub request-kind : is_response f ≡ false
+  request-kind = kind-read f _ (ap head r.is ∙ request-head _ _ _ _ _ request-fits)
 
   pub request-header : fields f ≡ request_header op r.about.id r.remote r.local tag
   request-header = ap fields r.is ∙ fields-are _ _ (request-head _ _ _ _ _ request-fits)

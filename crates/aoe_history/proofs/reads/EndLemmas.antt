@@ -1,12 +1,13 @@
 -- A response that ends a command says what is so.
-use Rattle.std.proofs.Common.{ℕ, ◌+◌, ◌-◌, ◌*◌, ◌≤◌, ◌≡◌, nat_lt, Bool, true, false, not, ◌&&◌, List, drop, Some, refl, sym, subst, ap, ◌∙◌, arith, Contains}
+use Rattle.std.proofs.Common.{ℕ, ◌+◌, ◌-◌, ◌≤◌, ◌≡◌, nat_lt, Bool, true, false, not, ◌&&◌, List, drop, Some, refl, sym, subst, ap, ◌∙◌, arith, Contains}
 use Rattle.std.specs.Prelude.{slice_get}
 use Rattle.std.proofs.lemmas.Bool.Decides.{nat_tests}
 use Rattle.arrayvec.specs.ArrayVec.{ArrayVec}
 use Rattle.aoe_base.specs.declared.address.Mac.{Mac}
 use Rattle.aoe_base.specs.Addresses.{holds}
 use Rattle.aoe_frame.specs.declared.header.Header.{Header}
-use Rattle.aoe_frame.specs.Header.{fields, head}
+use Rattle.aoe_frame.specs.Header.{fields, head, is_response}
+use Rattle.aoe_frame.proofs.HeaderLemmas.{kind-read}
 use Rattle.aoe_initiator.specs.declared.device.Attached.{Attached}
 use Rattle.aoe_initiator.specs.declared.device.Device.{Device}
 use Rattle.aoe_initiator.specs.declared.op.Op.{Op}
@@ -15,7 +16,7 @@ use Rattle.aoe_initiator.specs.declared.response.Answer.{Answer}
 use Rattle.aoe_initiator.specs.Host.{Host}
 use Rattle.aoe_initiator.specs.HostLaw.{answer_to}
 use Rattle.aoe_initiator.specs.HostLog.{HostCommand, Sending}
-use Rattle.aoe_initiator.specs.Response.{answer, outcome_of}
+use Rattle.aoe_initiator.specs.Response.{answer, has_flag, outcome_of}
 use Rattle.aoe_initiator.proofs.ListLemmas.{Contains-get}
 use Rattle.aoe_history.specs.declared.entry.Entry.{Entry}
 use Rattle.aoe_history.specs.Commands.{commands_of, host_after, submission}
@@ -24,7 +25,7 @@ use Rattle.aoe_history.specs.Frames.{clock, frames}
 use Rattle.aoe_history.specs.HostLaw.{IsAnswered}
 use Rattle.aoe_history.specs.Lawful.{HasHost}
 use Rattle.aoe_history.specs.Setup.{HostSetup, Setup, SlotSetup}
-use Rattle.aoe_history.proofs.FrameLemmas.{arrives}
+use Rattle.aoe_history.proofs.FrameLemmas.{arrives, response-life}
 use Rattle.aoe_history.proofs.LogicLemmas.{some-then}
 use Rattle.aoe_history.proofs.hosts.AskedLemmas.{asked-of, ids-same}
 use Rattle.aoe_history.proofs.hosts.CommandLemmas.{viewed}
@@ -61,8 +62,16 @@ pub record Truth (host : HostSetup) (slot : SlotSetup) (h : List Entry) (s c : �
   pub answers_it : answer op (fields bytes) (drop 24 bytes) ≡ Some a
   pub says : SaysOf host slot h s c op a bytes
 
-still-live : (life now birth last : ℕ) (done : Bool) → now ≤ birth + life → birth ≤ last + life → not (done && nat_lt (2 * life) (now - last)) ≡ true
-still-live life now birth last done le lt = grind (arith, nat_tests)
+answer-is-response : (host : Host) (c : HostCommand) (f : List ℕ) (a : Answer) → answer_to host c f ≡ Some a → is_response f ≡ true
+answer-is-response host c f a e =
+    let x = some-then _ (head f) a e in
+    let flag : has_flag x.0.flags 0x8 ≡ true = grind (arith, nat_tests) in
+    kind-read f x.0 x.1 ∙ flag
+
+-- a response came within its lifetime after a request, and that within its own after the last send
+still-live : (requests responses now birth last : ℕ) (done : Bool) → now ≤ birth + responses → birth ≤ last + requests
+    → not (done && nat_lt (requests + responses) (now - last)) ≡ true
+still-live requests responses now birth last done le lt = grind (arith, nat_tests)
 
 pub response-true : {s : Setup} {host : HostSetup} {h : List Entry} → HasHost s host h → (slot : SlotSetup) → Contains s.slots slot
     → {sct c : ℕ} {op : Op} {outcome : Outcome}
@@ -73,7 +82,7 @@ response-true {s} {host} {h} run slot there {sct} {c} {op} true_ones asks ans =
     let number : v.ticket ≡ c = ap (λ (z : HostCommand). z.ticket.0) v.is ∙ r.ticket_is in
     let p = rw (← (rw number at v.is)) at (answers (host_after s host h) r.command ans.bytes r.answer r.says) in
     let k = asked-of s host h run c (record { dev = asks.dev; op = op }) asks.is in
-    let place = rw asks.is at (device-at host.ports s.life (clock h) 0 (commands_of host h) host.devices _ p.device p.there) in
+    let place = rw asks.is at (device-at host.ports s.life.requests.0 (clock h) 0 (commands_of host h) host.devices _ p.device p.there) in
     let same : p.device.about ≡ k.about = cc (place, k.place) in
     let at = run.setup.attached host k.about (host-there s run.name host run.called).0 (Contains-get host.devices _ k.about k.place) in
     let its : at.slot ≡ slot = cc (at.there, named-slot s slot k.about.id run.setup there (rw (← k.id) at asks.slot_is)) in
@@ -84,9 +93,11 @@ response-true {s} {host} {h} run slot there {sct} {c} {op} true_ones asks ans =
       id = rw (← (p.id ∙ ap (λ (z : Attached). z.id) same ∙ k.id)) at asks.slot_is;
     } in
     let frame = arrives s.life h ans.number ans.bytes ans.fresh in
+    let kind = answer-is-response (host_after s host h) r.command ans.bytes r.answer r.says in
+    let young = rw (response-life s.life ans.bytes kind) at frame.young in
     let t = true_ones.each ans.number _ frame.is to in
     let its_live : is_live s.life host h t.ticket t.sending ≡ true =
-    still-live s.life (clock h) frame.birth t.sending.last.0 (was_done host h t.ticket) frame.young t.time in
+    still-live s.life.requests.0 s.life.responses.0 (clock h) frame.birth t.sending.last.0 (was_done host h t.ticket) young t.time in
     let live : is_live s.life host h c p.sending ≡ true = rw p.flying refl in
     let ticket = (holds-of s host h run).base.tags t.ticket c t.sending p.sending t.sent p.sent its_live live (sym t.tag ∙ sym p.tag) in
     let answered = rw asks.is at p.says in

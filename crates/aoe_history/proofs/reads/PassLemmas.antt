@@ -3,6 +3,7 @@ use Rattle.std.proofs.Common.{ℕ, ◌≤◌, ◌≡◌, inl, inr, if◌then◌e
 use Rattle.std.specs.Option.{option_map}
 use Rattle.arrayvec.specs.ArrayVec.{ArrayVec}
 use Rattle.aoe_base.specs.declared.address.TargetId.{TargetId}
+use Rattle.aoe_base.specs.declared.counted.Lifetimes.{Lifetimes}
 use Rattle.aoe_base.specs.declared.counted.Millis.{Millis}
 use Rattle.aoe_disk.specs.declared.loss.Loss.{Loss}
 use Rattle.aoe_frame.specs.Header.{fields}
@@ -102,7 +103,7 @@ left-known : (slot : SlotSetup) (u : Unsettled) (how : Loss) (o : Option Sectors
     → known_in (option_map (left_sectors slot u how) o) s ≡ (if marked_in o s then lost slot.cache u how s (y.known s) (y.settled s) else known_in o s)
 left-known slot u how o s y e = rw e refl
 
-pub crashed-at : (life : ℕ) (host : HostSetup) (slot : SlotSetup) (h : List Entry) (dev : TargetId) (lists : Settings) (how : Loss) (s : ℕ)
+pub crashed-at : (life : Lifetimes) (host : HostSetup) (slot : SlotSetup) (h : List Entry) (dev : TargetId) (lists : Settings) (how : Loss) (s : ℕ)
     → At life host slot h s → At life host slot (Crashed dev lists how ∷ h) s
 crashed-at life host slot h dev lists how s x = elim (either (is_slot slot dev) (after_crash slot lists how (slot_after slot h)) (slot_after slot h)) [
   | inl hit ↦ (let y = sectors-there slot h in
@@ -119,7 +120,7 @@ also-allowed : (t : Bool) (w : Option (List ℕ)) (v : List ℕ) (may : Option (
     → IsAllowed (Some v) (if t then also w may else may)
 also-allowed t w v may a = grind (arith, allowed-also)
 
-pub sent-passes : {life : ℕ} {host : HostSetup} {h : List Entry} (slot : SlotSetup) (name : ArrayVec ℕ) (c number : ℕ) (f : List ℕ) (s : ℕ) → Base life host h
+pub sent-passes : {life : Lifetimes} {host : HostSetup} {h : List Entry} (slot : SlotSetup) (name : ArrayVec ℕ) (c number : ℕ) (f : List ℕ) (s : ℕ) → Base life host h
     → Passes host slot h (Sent name c number f ∷ h) s
 sent-passes {life} {host} {h} slot name c number f s b = record {
   sent = λ d x e. again d x e (is_called host name && nat_eq c d) refl;

@@ -5,6 +5,7 @@ use Rattle.std.proofs.lemmas.List.{take_at}
 use Rattle.aoe_base.specs.declared.address.TargetId.{TargetId}
 use Rattle.aoe_base.specs.declared.counted.DeviceNo.{DeviceNo}
 use Rattle.aoe_base.specs.Addresses.{holds}
+use Rattle.aoe_base.specs.declared.counted.Lifetimes.{Lifetimes}
 use Rattle.aoe_base.specs.declared.sectors.Span.{Span}
 use Rattle.aoe_frame.specs.declared.header.Header.{Header}
 use Rattle.aoe_frame.specs.Header.{fields, header_bytes, padded}
@@ -32,10 +33,10 @@ use Rattle.aoe_history.specs.Lawful.{HasHost, IsArrival}
 use Rattle.aoe_history.specs.Reading.{allowed, alone, IsAllowed}
 use Rattle.aoe_history.specs.Setup.{is_slot, slot_of, HostSetup, Setup, SlotSetup}
 use Rattle.aoe_history.specs.Slots.{marked_in, state_after, verdict_after}
-use Rattle.aoe_history.proofs.FrameLemmas.{arrives}
+use Rattle.aoe_history.proofs.FrameLemmas.{arrives, request-life}
 use Rattle.aoe_history.proofs.hosts.AskedLemmas.{asked-of, ids-same}
 use Rattle.aoe_history.proofs.hosts.HostLemmas.{holds-of}
-use Rattle.aoe_history.proofs.hosts.SentLemmas.{found, host-there, request-fits, request-header}
+use Rattle.aoe_history.proofs.hosts.SentLemmas.{found, host-there, request-fits, request-header, request-kind}
 use Rattle.aoe_history.proofs.hosts.SourceLemmas.{has-head, is-long, port-holds, replies, some-such, source-length, IsReply}
 use Rattle.aoe_history.proofs.reads.PassLemmas.{allowed-unless, was-alone}
 use Rattle.aoe_history.proofs.reads.TrueLemmas.{IsReplyTo, IsTrue, SaysOf}
@@ -63,7 +64,7 @@ inside-at : (at count s : ℕ) → (nat_le at s && nat_lt s (at + count)) ≡ tr
 inside-at at count s e = (grind (arith, nat_tests), grind (arith, nat_tests))
 
 -- what is shown of a sector is allowed
-shown-allowed : (life : ℕ) (host : HostSetup) (slot : SlotSetup) (h : List Entry) (s : ℕ) (span : Span) (bytes : List ℕ) → At life host slot h s
+shown-allowed : (life : Lifetimes) (host : HostSetup) (slot : SlotSetup) (h : List Entry) (s : ℕ) (span : Span) (bytes : List ℕ) → At life host slot h s
     → in_span span s ≡ true
     → alone host slot h s ≡ true → IfSome (state_after slot h).sectors (Tells span bytes) → IsAllowed (Some (value_in span bytes s)) (allowed host slot h s)
 shown-allowed life host slot h s span bytes x inside al tells =
@@ -124,6 +125,7 @@ module _ {s : Setup} {host : HostSetup} {h : List Entry} (run : HasHost s host h
       let sent = (holds-of s host h run).frames k _ frame.is from in
       let mine = (host-there s run.name host run.called).0 in
       let hd = request-header s host _ _ sent.sending.tag f run.setup mine sent.request in
+      let kind = request-kind s host _ _ sent.sending.tag f run.setup mine sent.request in
       let fits = rw (← hd) at (request-fits s host _ _ sent.sending.tag f run.setup mine sent.request) in
       let head_is : fields r ≡ replying other.station (fields f) reply.error =
       (reply-read reply.error fits (can-reply other its.0 (fields f)) reply.is).head_is in
@@ -136,7 +138,7 @@ module _ {s : Setup} {host : HostSetup} {h : List Entry} (run : HasHost s host h
         sending = sent.sending;
         sent = sent.sent;
         tag = ap (λ (z : Header). z.tag) head_is ∙ ap (λ (z : Header). z.tag) hd;
-        time = (let a = frame.young in let t = sent.time in omega arith);
+        time = (let a = rw (request-life s.life f kind) at frame.young in let t = sent.time in omega arith);
         says = λ done op asks a ans. by-op sent.ticket f op a is frame.bytes here (ap is_some sent.sent)
             (tells _ op sent.sending.tag f (rw asks.is at sent.request) asks.dev (asked-of s host h run sent.ticket _ asks.is) here a ans);
       }

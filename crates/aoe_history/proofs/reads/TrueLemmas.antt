@@ -2,6 +2,7 @@
 use Rattle.std.proofs.Common.{ℕ, ◌+◌, ◌≤◌, ◌≡◌, inl, inr, true, false, List, ◌∷◌, drop, slice_range, Some, refl, sym, ◌∙◌, arith}
 use Rattle.aoe_base.specs.declared.sectors.Span.{Span}
 use Rattle.aoe_base.specs.Addresses.{holds}
+use Rattle.aoe_base.specs.declared.counted.Lifetimes.{Lifetimes}
 use Rattle.aoe_frame.specs.Header.{fields}
 use Rattle.aoe_initiator.specs.declared.op.Op.{Op}
 use Rattle.aoe_initiator.specs.declared.op.Op.TheVariants.{Read, Write, Flush}
@@ -33,12 +34,12 @@ SaysOf host slot h s c (Read span) (Data len) f =
 SaysOf host slot h s c op a f = Unit {0}
 
 -- a reply is to a command that was sent, and says what is so while the command flies
-pub record IsTrue (life : ℕ) (host : HostSetup) (slot : SlotSetup) (h : List Entry) (s : ℕ) (r : SentFrame) : Type 0 where
+pub record IsTrue (life : Lifetimes) (host : HostSetup) (slot : SlotSetup) (h : List Entry) (s : ℕ) (r : SentFrame) : Type 0 where
   pub ticket : ℕ
   pub sending : Sending
   pub sent : sends_of host h ticket ≡ Some sending
   pub tag : (fields r.bytes).tag ≡ sending.tag
-  pub time : r.birth ≤ sending.last.0 + life
+  pub time : r.birth ≤ sending.last.0 + life.requests.0
   pub says : was_done host h ticket ≡ false → (op : Op) → AsksAt slot (submission host h ticket) op → (a : Answer)
       → answer op (fields r.bytes) (drop 24 r.bytes) ≡ Some a
       → SaysOf host slot h s ticket op a r.bytes
@@ -49,7 +50,7 @@ pub record IsReplyTo (host : HostSetup) (slot : SlotSetup) (f : List ℕ) : Type
   pub src : holds slot.station.ports.items (fields f).src ≡ true
   pub id : same_id slot.station.id (fields f).id ≡ true
 
-pub record AreTrue (life : ℕ) (host : HostSetup) (slot : SlotSetup) (h : List Entry) (s : ℕ) (fs : List SentFrame) : Type 0 where
+pub record AreTrue (life : Lifetimes) (host : HostSetup) (slot : SlotSetup) (h : List Entry) (s : ℕ) (fs : List SentFrame) : Type 0 where
   pub each : (k : ℕ) (r : SentFrame) → numbered fs k ≡ Some r → IsReplyTo host slot r.bytes → IsTrue life host slot h s r
 
 -- what an entry leaves of what replies say
@@ -71,7 +72,7 @@ module _ {host : HostSetup} {slot : SlotSetup} {h n : List Entry} {s : ℕ} (p :
   says-passes c fl (Read span) asks (Data len) f x = λ i. p.reads c span fl asks i _ (x i)
   says-passes c fl _ asks _ f x = tt
 
-  true-passes : {life : ℕ} {r : SentFrame} → IsTrue life host slot h s r → IsTrue life host slot n s r
+  true-passes : {life : Lifetimes} {r : SentFrame} → IsTrue life host slot h s r → IsTrue life host slot n s r
   true-passes {life} {r} t =
       let y = p.sent t.ticket t.sending t.sent in
       record {
@@ -86,11 +87,11 @@ module _ {host : HostSetup} {slot : SlotSetup} {h n : List Entry} {s : ℕ} (p :
             says-passes t.ticket (t.sending, t.sent, fl) op asked a r.bytes (t.says fl op asked a ans);
       }
 
-  pub all-pass : {life : ℕ} {fs : List SentFrame} → AreTrue life host slot h s fs → AreTrue life host slot n s fs
+  pub all-pass : {life : Lifetimes} {fs : List SentFrame} → AreTrue life host slot h s fs → AreTrue life host slot n s fs
   all-pass all = record { each = λ k r e to. true-passes (all.each k r e to) }
 
 -- one more frame
-pub one-more : {life : ℕ} {host : HostSetup} {slot : SlotSetup} {n : List Entry} {s : ℕ} {g : SentFrame} {fs : List SentFrame}
+pub one-more : {life : Lifetimes} {host : HostSetup} {slot : SlotSetup} {n : List Entry} {s : ℕ} {g : SentFrame} {fs : List SentFrame}
     → (IsReplyTo host slot g.bytes → IsTrue life host slot n s g) → AreTrue life host slot n s fs → AreTrue life host slot n s (g ∷ fs)
 one-more {g = g} {fs} new all = record { each = λ k r e to. elim (numbered-cases g fs k r e) [ inl z ↦ rw (← z) (new (rw z to)) | inr q ↦ all.each k r q to ] }
 
@@ -100,7 +101,7 @@ StillReads host slot h n s = (c : ℕ) (span : Span) → IsFlying host h c → A
     → IsAllowed (Some v) (allowed host slot h s) → IsAllowed (Some v) (allowed host slot n s)
 
 -- an entry that changes nothing of the sector
-pub keeps-passes : {life : ℕ} {host : HostSetup} {h n : List Entry} (slot : SlotSetup) (s : ℕ) → Keeps host h n → Base life host h
+pub keeps-passes : {life : Lifetimes} {host : HostSetup} {h n : List Entry} (slot : SlotSetup) (s : ℕ) → Keeps host h n → Base life host h
     → ((c : ℕ) → landed host slot n s c ≡ landed host slot h s c) → alone host slot n s ≡ alone host slot h s → marked_after slot n s ≡ marked_after slot h s
     → StillReads host slot h n s → Passes host slot h n s
 keeps-passes slot s k b la al ma may = record {
@@ -113,6 +114,6 @@ keeps-passes slot s k b la al ma may = record {
 }
 
 -- what is kept of the sector and of the replies in the network
-pub record Kept (life : ℕ) (host : HostSetup) (slot : SlotSetup) (h : List Entry) (s : ℕ) : Type 0 where
+pub record Kept (life : Lifetimes) (host : HostSetup) (slot : SlotSetup) (h : List Entry) (s : ℕ) : Type 0 where
   pub at : At life host slot h s
   pub replies : AreTrue life host slot h s (frames h)

@@ -1,5 +1,5 @@
 -- What a response tells is what the target did.
-use Rattle.std.proofs.Common.{if◌then◌else◌, slice_range, ◌==◌, ℕ, ◌+◌, ◌*◌, ◌≡◌, Bool, true, false, List, ◌++◌, drop, Option, Some, None, IfSome, refl, sym, ap, ◌∙◌, arith}
+use Rattle.std.proofs.Common.{if◌then◌else◌, slice_range, ◌==◌, ℕ, ◌+◌, ◌*◌, ◌≡◌, Bool, true, false, List, nat_le, ◌++◌, drop, Option, Some, None, IfSome, refl, sym, ap, ◌∙◌, arith}
 use Rattle.std.proofs.Math.Seq.{drop-drop}
 use Rattle.std.proofs.lemmas.Option.{cond_some}
 use Rattle.aoe_base.specs.declared.address.Mac.{Mac}
@@ -31,7 +31,7 @@ use Rattle.aoe_target.specs.Device.{State}
 use Rattle.aoe_target.specs.Law.{replied, Allows, AllowsAta}
 use Rattle.aoe_target.specs.Reply.{ata_reply, data_of, data_reply, spelled}
 use Rattle.aoe_target.specs.Sectors.{Tells}
-use Rattle.aoe_target.specs.Verdict.{verdict}
+use Rattle.aoe_target.specs.Verdict.{as_marked, verdict}
 use Rattle.aoe_history.specs.Conversation.{asked_for, CanReply, HasSectors, TellsTruly}
 use Rattle.aoe_history.proofs.replies.ReplyLemmas.{error-tells, failure-tells, flush-tells, reply-read, replying, says-ata, says-error, write-tells}
 use Rattle.aoe_history.proofs.replies.RequestLemmas.{fields-are, no-list-step, request-asks, request-head}
@@ -100,12 +100,27 @@ flush-by {reply = reply} x k effect.Synced args y = flush-tells k effect.Synced 
 flush-by x k effect.SyncFault args y = failed x k effect.SyncFault args outcome.Aborted refl refl y
 flush-by x k _ args y = absurd y
 
-ata-by : (op : Op) {station : Station} {h : Header} {reply : List ℕ} {a : Answer} → IsHeard op station h reply a → (k : State) (e : Effect) (args : AtaArgs)
-    → AllowsAta station k.sectors h args (asked_for station.sectors op) (replied e reply) → TellsTruly op k e reply a
-ata-by (Read span) x k e args y = read-by _ x k e args y
-ata-by (Write at bytes) x k e args y = write-by _ x k e args y
-ata-by Flush x k e args y = flush-by x k e args y
-ata-by _ x k e args y = tt
+-- what a read-only device answers to a read, and to a write
+unmarked : (b : Bool) (span : Span) → as_marked true (if b then Give span else NotFound) ≡ (if b then Give span else NotFound)
+unmarked true span = refl
+unmarked false span = refl
+
+aborted-by : (b : Bool) {station : Station} {h : Header} {reply : List ℕ} {a : Answer} {at : ℕ} {bytes : List ℕ} → IsHeard (Write at bytes) station h reply a
+    → (k : State) (e : Effect) (args : AtaArgs)
+    → AllowsAta station k.sectors h args (as_marked true (if b then Put (span_of (Write at bytes)) else NotFound)) (replied e reply)
+    → TellsTruly (Write at bytes) k e reply a
+aborted-by true x k e args y = failed x k e args outcome.Aborted refl refl (same-reply e effect.None _ _ y)
+aborted-by false x k e args y = failed x k e args outcome.NotFound refl refl (same-reply e effect.None _ _ y)
+
+ata-by : (read_only : Bool) (op : Op) {station : Station} {h : Header} {reply : List ℕ} {a : Answer} → IsHeard op station h reply a → (k : State) (e : Effect)
+    (args : AtaArgs) → AllowsAta station k.sectors h args (as_marked read_only (asked_for station.sectors op)) (replied e reply) → TellsTruly op k e reply a
+ata-by true (Write at bytes) x k e args y = aborted-by _ x k e args y
+ata-by false (Write at bytes) x k e args y = write-by _ x k e args y
+ata-by true (Read span) {station} x k e args y = read-by _ x k e args (rw (unmarked (nat_le (span.at + span.count) station.sectors) span) at y)
+ata-by false (Read span) x k e args y = read-by _ x k e args y
+ata-by true Flush x k e args y = flush-by x k e args y
+ata-by false Flush x k e args y = flush-by x k e args y
+ata-by _ _ x k e args y = tt
 
 pub response-tells : (op : Op) (id : TargetId) (remote local : Mac) (tag : ℕ) (station : Station) (k : State) (e : Effect) (reply : List ℕ) (a : Answer)
     → (command_of op == 0) ≡ true → CanSpell op → HasSectors op → Fits (request_header op id remote local tag)
@@ -128,5 +143,5 @@ response-tells op id remote local tag station k e reply a ata spell some fits ca
         → TellsTruly op k e reply a
     go (Refused error) q y = refused x k e error _ (same-reply e effect.None reply _ (rw is at y))
     go (Lists c) q y = absurd (no-list-step station k.lists _ _ c its-head ata q)
-    go (Ata d) q y = ata-by op x k e d.args (rw (is, request-asks op id remote local tag station k.lists d spell some fits q) at y)
+    go (Ata d) q y = ata-by k.lists.read_only op x k e d.args (rw (is, request-asks op id remote local tag station k.lists d spell some fits q) at y)
     go _ q y = absurd (cc)

@@ -20,7 +20,7 @@ use Rattle.aoe_target.specs.declared.verdict.ListCommand.TheVariants.{Config as 
 use Rattle.aoe_target.specs.declared.verdict.Verdict.{Verdict}
 use Rattle.aoe_target.specs.declared.verdict.Verdict.TheVariants.{Ata, Ignored, Lists, Refused, Silent}
 use Rattle.aoe_history.specs.Conversation.{asked_for, HasSectors}
-use Rattle.aoe_target.specs.Verdict.{decided, is_heard, judged, verdict}
+use Rattle.aoe_target.specs.Verdict.{as_marked, decided, is_heard, judged, verdict}
 use Rattle.aoe_ata.specs.declared.args.AtaArgs.{AtaArgs}
 use Rattle.aoe_base.specs.declared.address.Mac.{Mac}
 use Rattle.aoe_base.specs.declared.address.TargetId.{TargetId}
@@ -61,34 +61,36 @@ judged-by : (station : Station) (lists : Settings) (f : List ℕ) (h : Header) (
 unfolding verdict
 judged-by station lists f h v is e = let x = cond_some _ _ _ is in subst (λ y. judged station lists y (drop 24 f) ≡ v) x.1 (rw x.0 at e)
 
-by-checks : (heard admitted version ata config masks reserves free : Bool) (r : Result AtaDecision AoeError) (d : AtaDecision) →
+by-checks : (heard admitted version ata config masks reserves free : Bool) (v : Verdict) (d : AtaDecision) →
     (if not heard then Ignored else if not admitted then Silent else if not version then Refused UnsupportedVersion
-    else if ata then (if not free then Refused TargetIsReserved else decided r) else if config then Lists ConfigStep else if masks then Lists MaskStep
-    else if reserves then Lists ReserveStep else Refused UnrecognizedCommand) ≡ Ata d → (heard ≡ true) × (ata ≡ true) × (r ≡ Ok d)
-by-checks heard admitted version ata config masks reserves free r d e = grind arith
+    else if ata then (if not free then Refused TargetIsReserved else v) else if config then Lists ConfigStep else if masks then Lists MaskStep
+    else if reserves then Lists ReserveStep else Refused UnrecognizedCommand) ≡ Ata d → (heard ≡ true) × (ata ≡ true) × (v ≡ Ata d)
+by-checks heard admitted version ata config masks reserves free v d e = grind arith
 
 -- no verdict on an ATA command is a step of the lists
-no-step : (heard admitted version free : Bool) (r : Result AtaDecision AoeError) (c : ListCommand) →
+no-step : (heard admitted version free mark : Bool) (r : Result AtaDecision AoeError) (c : ListCommand) →
     (if not heard then Ignored else if not admitted then Silent else if not version then Refused UnsupportedVersion
-    else if not free then Refused TargetIsReserved else decided r) ≡ Lists c → ⊥
-no-step heard admitted version free r c e = grind arith
+    else if not free then Refused TargetIsReserved else decided mark r) ≡ Lists c → ⊥
+no-step heard admitted version free mark (Ok d) c e = grind arith
+no-step heard admitted version free mark (Err error) c e = grind arith
 
-ok-if : (b : Bool) (x d : AtaDecision) → (if b then Ok x else Err BadArgument) ≡ Ok d → d ≡ x
-ok-if b x d e = grind arith
+ok-if : (mark b : Bool) (x d : AtaDecision) → decided mark (if b then Ok x else Err BadArgument) ≡ Ata d → d ≡ record x { answer = as_marked mark x.answer }
+ok-if mark true x d e = cc
+ok-if mark false x d e = absurd cc
 
 -- what a verdict on an ATA command comes of
-pub record ComesOf (station : Station) (h : Header) (args : List ℕ) (d : AtaDecision) : Type 0 where
+pub record ComesOf (station : Station) (read_only : Bool) (h : Header) (args : List ℕ) (d : AtaDecision) : Type 0 where
   pub heard : is_heard station h ≡ true
   pub ata : (h.command == 0) ≡ true
   pub registers_are : d.args ≡ registers args
-  pub answer_is : d.answer ≡ answer_of station.sectors (command_of (registers args))
+  pub answer_is : d.answer ≡ as_marked read_only (answer_of station.sectors (command_of (registers args)))
 
 pub comes-of : (station : Station) (lists : Settings) (f : List ℕ) (h : Header) (d : AtaDecision) → head f ≡ Some h → verdict station lists f ≡ Ata d
-    → ComesOf station h (drop 24 f) d
+    → ComesOf station lists.read_only h (drop 24 f) d
 unfolding decision
 comes-of station lists f h d is e =
-    let c = by-checks _ _ _ _ _ _ _ (may_use lists h.src) (decision station.sectors station.max (drop 24 f)) d (judged-by station lists f h (Ata d) is e) in
-    let k = ok-if _ _ d c.2 in
+    let c = by-checks _ _ _ _ _ _ _ (may_use lists h.src) (decided lists.read_only (decision station.sectors station.max (drop 24 f))) d (judged-by station lists f h (Ata d) is e) in
+    let k = ok-if lists.read_only _ _ d c.2 in
     record { heard = c.0; ata = c.1; registers_are = ap (λ (x : AtaDecision). x.args) k; answer_is = ap (λ (x : AtaDecision). x.answer) k }
 
 -- WHAT A REQUEST ASKS
@@ -117,7 +119,7 @@ written-as at bytes zeros whole = take_at bytes zeros (12 + 512 * (length bytes 
 pub no-list-step : (station : Station) (lists : Settings) (f : List ℕ) (h : Header) (c : ListCommand) → head f ≡ Some h → (h.command == 0) ≡ true
     → verdict station lists f ≡ Lists c → ⊥
 no-list-step station lists f h c is ata e =
-    no-step _ _ _ (may_use lists h.src) (decision station.sectors station.max (drop 24 f)) c (rw ata at (judged-by station lists f h (Lists c) is e))
+    no-step _ _ _ (may_use lists h.src) lists.read_only (decision station.sectors station.max (drop 24 f)) c (rw ata at (judged-by station lists f h (Lists c) is e))
 
 -- A REQUEST AT A TARGET
 
@@ -136,11 +138,11 @@ request-rest op id remote local tag fits = (_, padded-rest (request_header op id
 
 pub request-asks : (op : Op) (id : TargetId) (remote local : Mac) (tag : ℕ) (station : Station) (lists : Settings) (d : AtaDecision) → CanSpell op
     → HasSectors op
-    → Fits (request_header op id remote local tag) → verdict station lists (request op id remote local tag) ≡ Ata d → d.answer ≡ asked_for station.sectors op
+    → Fits (request_header op id remote local tag) → verdict station lists (request op id remote local tag) ≡ Ata d → d.answer ≡ as_marked lists.read_only (asked_for station.sectors op)
 request-asks op id remote local tag station lists d can some fits e =
     let c = comes-of station lists _ _ d (request-head op id remote local tag fits) e in
     let r = request-rest op id remote local tag fits in
-    c.answer_is ∙ asked-as station.sectors op _ r.0 can some c.ata r.1
+    c.answer_is ∙ ap (as_marked lists.read_only) (asked-as station.sectors op _ r.0 can some c.ata r.1)
 
 pub request-writes : (at : ℕ) (bytes : List ℕ) (id : TargetId) (remote local : Mac) (tag : ℕ) → at < 2 ^ 48 → length bytes % 512 ≡ 0
     → Fits (request_header (Write at bytes) id remote local tag)

@@ -2,8 +2,10 @@
 use Rattle.std.proofs.Common.{ℕ, ◌≡◌, ◌⊎◌, inl, inr, if◌then◌else◌, Bool, true, false, List, [], ◌∷◌, drop, Some, IsSomeAnd, refl, sym, subst, ap, ◌∙◌, arith, Contains}
 use Rattle.std.specs.Option.{option_map}
 use Rattle.aoe_base.specs.declared.address.TargetId.{TargetId}
+use Rattle.aoe_base.specs.declared.counted.Lifetimes.{Lifetimes}
 use Rattle.aoe_base.specs.declared.sectors.Span.{Span}
 use Rattle.aoe_ata.specs.Decision.{written}
+use Rattle.aoe_ata.specs.declared.decision.AtaAnswer.{AtaAnswer}
 use Rattle.aoe_ata.specs.declared.decision.AtaAnswer.TheVariants as ata
 use Rattle.aoe_initiator.specs.declared.op.Op.{Op}
 use Rattle.aoe_initiator.specs.declared.op.Op.TheVariants.{Write}
@@ -13,6 +15,7 @@ use Rattle.aoe_target.specs.declared.verdict.Verdict.{Verdict}
 use Rattle.aoe_target.specs.declared.verdict.Verdict.TheVariants.{Lists, Ata}
 use Rattle.aoe_target.specs.Device.{State}
 use Rattle.aoe_target.specs.Law.{after, after_ata, step_of}
+use Rattle.aoe_target.specs.Verdict.{as_marked}
 use Rattle.aoe_target.specs.Sectors.{in_span, value_in, Sectors}
 use Rattle.aoe_history.specs.declared.entry.Entry.{Entry}
 use Rattle.aoe_history.specs.declared.entry.Entry.TheVariants.{Arrived, Crashed}
@@ -29,6 +32,7 @@ use Rattle.aoe_history.proofs.LogicLemmas.{if-true, some-and}
 use Rattle.aoe_history.proofs.hosts.ApartLemmas.{arriving-active, one-write}
 use Rattle.aoe_history.proofs.hosts.AskedLemmas.{ids-same, there-of, understood}
 use Rattle.aoe_history.proofs.hosts.HostLemmas.{holds-of}
+use Rattle.aoe_history.proofs.hosts.SentLemmas.{host-there, request-kind}
 use Rattle.aoe_history.proofs.sectors.AtLemmas.{flying-active, wr, At, IsUnderWay}
 use Rattle.aoe_history.proofs.sectors.DeedLemmas.{acts, known_in, put, showed, spoilt, step-sectors, synced, Act, IsPut}
 use Rattle.aoe_history.proofs.sectors.SectorLemmas.{breaks_it, landing, learns, stores, syncs, Writer}
@@ -38,6 +42,11 @@ pub named-slot : (s : Setup) (slot : SlotSetup) (dev : TargetId) → IsSetup s �
 named-slot s slot dev ok there is = subst (λ (z : TargetId). slot_of s z ≡ Some slot) (ids-same slot.station.id dev is) (ok.slot_names slot there)
 
 -- WRITES
+
+-- what a slot stores it was asked to store, whether or not it is read-only
+stored : (read_only : Bool) (answer : AtaAnswer) (z : Span) → as_marked read_only answer ≡ ata.Put z → answer ≡ ata.Put z
+stored true answer z e = grind arith
+stored false answer z e = e
 
 put-op : (total : ℕ) (op : Op) (z : Span) → asked_for total op ≡ ata.Put z
     → (at : ℕ) × (bytes : List ℕ) × (op ≡ Write at bytes) × (span_of (Write at bytes) ≡ z)
@@ -55,13 +64,14 @@ module _ {s : Setup} {host : HostSetup} {h : List Entry} (run : HasHost s host h
       let holds = holds-of s host h run in
       let frame = arrives s.life h k f fresh in
       let sent = holds.frames k _ frame.is from in
+      let asks = request-kind s host _ _ sent.sending.tag f run.setup (host-there s run.name host run.called).0 sent.request in
       let bounds = holds.base.bounds sent.ticket sent.sending sent.sent in
       let x = there-of s host h run sent.ticket bounds.0 bounds.1 in
       let u = understood s host h run slot there _ (state_after slot h).lists v.decision sent v.verdict_is x.0 x.1 in
-      let p = put-op slot.station.sectors x.0.op span (sym u.answer_is ∙ v.answer_is) in
+      let p = put-op slot.station.sectors x.0.op span (stored (state_after slot h).lists.read_only _ span (sym u.answer_is ∙ v.answer_is)) in
       record {
         ticket = sent.ticket;
-        under_way = (sent.sending, sent.sent, arriving-active s.life host h k _ frame.is fresh sent);
+        under_way = (sent.sending, sent.sent, arriving-active s.life host h k _ asks frame.is fresh sent);
         writes_it = rw x.1 (writes-value slot x.0 p.0 p.1 (drop 24 f) span sct u.slot_is p.2 p.3 v.inside
             (ap (written (drop 24 f)) (sym p.3) ∙ u.bytes_are p.0 p.1 p.2));
       }
@@ -104,7 +114,7 @@ pub slot-arrived : (slot : SlotSetup) (h : List Entry) (dev : TargetId) (k : ℕ
 slot-arrived slot h dev k fate f is bytes = if-true _ _ _ is ∙ ap (λ z. after_frame slot z fate (slot_after slot h)) bytes
 
 -- a frame that came to this slot, and what it did
-pub record IsHere (life : ℕ) (slot : SlotSetup) (h : List Entry) (dev : TargetId) (k : ℕ) (fate : Fate) (s : ℕ) : Type 0 where
+pub record IsHere (life : Lifetimes) (slot : SlotSetup) (h : List Entry) (dev : TargetId) (k : ℕ) (fate : Fate) (s : ℕ) : Type 0 where
   pub frame : List ℕ
   pub is : is_slot slot dev ≡ true
   pub bytes : bytes_of h k ≡ frame

@@ -2,6 +2,7 @@
 use Rattle.std.proofs.Common.{ℕ, ◌≡◌, ◌⊎◌, inl, inr, if◌then◌else◌, Bool, true, false, not, ◌&&◌, ◌||◌, List, [], ◌∷◌, Option, Some, None, is_some, refl, sym, ◌∙◌, arith}
 use Rattle.std.proofs.lemmas.Bool.{not-false}
 use Rattle.arrayvec.specs.ArrayVec.{ArrayVec}
+use Rattle.aoe_base.specs.declared.counted.Lifetimes.{Lifetimes}
 use Rattle.aoe_frame.specs.Header.{fields}
 use Rattle.aoe_initiator.specs.HostLog.{Sending}
 use Rattle.aoe_history.specs.declared.entry.Entry.{Entry}
@@ -25,7 +26,7 @@ use Rattle.aoe_history.proofs.LogicLemmas.{not-true, or-right, untrue}
 abbrev pub IsFlying : HostSetup → List Entry → ℕ → Type 0
 IsFlying host h c = (x : Sending) × (sends_of host h c ≡ Some x) × (was_done host h c ≡ false)
 
-abbrev pub IsUnderWay : ℕ → HostSetup → List Entry → ℕ → Type 0
+abbrev pub IsUnderWay : Lifetimes → HostSetup → List Entry → ℕ → Type 0
 IsUnderWay life host h c = (x : Sending) × (sends_of host h c ≡ Some x) × (is_active life host h c x ≡ true)
 
 -- the sector was stored to since a command was sent
@@ -37,7 +38,7 @@ landed host slot (_ ∷ h) s c = landed host slot h s c
 abbrev pub wr : HostSetup → SlotSetup → List Entry → ℕ → ℕ → Option (List ℕ)
 wr host slot h s c = writes slot (submission host h c) s
 
-abbrev pub At : ℕ → HostSetup → SlotSetup → List Entry → ℕ → Type 0
+abbrev pub At : Lifetimes → HostSetup → SlotSetup → List Entry → ℕ → Type 0
 At life host slot h s =
     Sector (IsFlying host h) (IsUnderWay life host h) (wr host slot h s) (landed host slot h s) (known_after slot h s) (marked_after slot h s) (alone host slot h s)
     (safe host slot h s) (spoiled host slot h s) (allowed host slot h s)
@@ -72,11 +73,11 @@ landed-sent host slot (_ ∷ h) s c e = landed-sent host slot h s c e
 pub not-before : {done done2 : Bool} → (done ≡ true → done2 ≡ true) → done2 ≡ false → done ≡ false
 not-before {done} f e = untrue done (λ d. let x = f d in cc)
 
-pub flying-active : (life : ℕ) (host : HostSetup) (h : List Entry) (c : ℕ) → IsFlying host h c → IsUnderWay life host h c
+pub flying-active : (life : Lifetimes) (host : HostSetup) (h : List Entry) (c : ℕ) → IsFlying host h c → IsUnderWay life host h c
 flying-active life host h c (x, e, d) = (x, e, rw d refl)
 
 -- a sector is as it was, if it was so
-module _ {life : ℕ} {host : HostSetup} {h n : List Entry} (k : Keeps host h n) (b : Base life host h) (slot : SlotSetup) (s : ℕ) where
+module _ {life : Lifetimes} {host : HostSetup} {h n : List Entry} (k : Keeps host h n) (b : Base life host h) (slot : SlotSetup) (s : ℕ) where
   before : (c : ℕ) (v : List ℕ) → IsUnderWay life host h c → wr host slot n s c ≡ Some v → IsUnderWay life host h c × (wr host slot h s c ≡ Some v)
   before c v (x, e, a) w = ((x, e, a), rw (k.submissions c (b.bounds c x e).1) at w)
 
@@ -85,14 +86,14 @@ module _ {life : ℕ} {host : HostSetup} {h n : List Entry} (k : Keeps host h n)
       → Sector (IsFlying host n) (IsUnderWay life host n) (wr host slot n s) la holds mark al sa sp may
   quiet x = weaken x
       (λ c v (y, e, d) w. let f : IsFlying host h c = (y, sym (k.sends c) ∙ e, not-before (k.done c) d) in (f, (before c v (flying-active life host h c f) w).1))
-      (λ c v (y, e, a) w. let l = live-by life (clock h) (clock n) y.last.0 _ _ k.time (k.done c) a in before c v (y, sym (k.sends c) ∙ e, l) w)
+      (λ c v (y, e, a) w. let l = live-by life.requests.0 (clock h) (clock n) y.last.0 _ _ k.time (k.done c) a in before c v (y, sym (k.sends c) ∙ e, l) w)
 
 -- A SEND OF THE HOST'S
 
 none-written : (wrote : ℕ → Option (List ℕ)) {c d : ℕ} {v : List ℕ} → d ≡ c → wrote c ≡ None → wrote d ≡ Some v → ⊥
 none-written wrote p q r = cc
 
-module _ {life : ℕ} {host : HostSetup} {h : List Entry} {name : ArrayVec ℕ} {c number : ℕ} {f : List ℕ} (mine : is_called host name ≡ true)
+module _ {life : Lifetimes} {host : HostSetup} {h : List Entry} {name : ArrayVec ℕ} {c number : ℕ} {f : List ℕ} (mine : is_called host name ≡ true)
     (r : MayBeSent life host h c f)
     (reads : (fields f).tag ≡ r.tag) (b : Base life host h) (b2 : Base life host (Sent name c number f ∷ h)) (g2 : AreGone life host (Sent name c number f ∷ h))
     (slot : SlotSetup) (s : ℕ) (x : At life host slot h s) where

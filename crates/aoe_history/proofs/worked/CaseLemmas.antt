@@ -95,8 +95,8 @@ pub starts : {s : Setup} {host : HostSetup} {h : List Entry} {c : ℕ} {bytes : 
     → list_all (λ o. not (is_due (clock h) o)) (sent_of (commands_of host h)) ≡ true
     → nat_lt (length (live (rest_time s.life) (clock h) (sent_of (commands_of host h)))) host.room ≡ true
     → nat_lt k (length (commands_of host h)) ≡ true
-    → is_clear_at s.life (clock h) (commands_of host h) (nth host h k) ≡ true
-    → is_lowest (is_clear_at s.life (clock h) (commands_of host h)) host h k ≡ true
+    → is_clear_at s.life.requests.0 (clock h) (commands_of host h) (nth host h k) ≡ true
+    → is_lowest (is_clear_at s.life.requests.0 (clock h) (commands_of host h)) host h k ≡ true
     → is_taken (live (rest_time s.life) (clock h) (sent_of (commands_of host h))) tag ≡ false → nat_lt tag 4294967296 ≡ true
     → spelled (host_after s host h) (nth host h k) (path_for s host h (nth host h k)) tag ≡ Some bytes → IsSent s host h c (next_number h) bytes
 starts {s} {host} {h} k tag is due room within clear lowest free fits spells =
@@ -111,7 +111,7 @@ starts {s} {host} {h} k tag is due room within clear lowest free fits spells =
         there = its;
         ticket = refl;
         clear = clear;
-        lowest = lowest-of (is_clear_at s.life (clock h) (commands_of host h)) host h k lowest;
+        lowest = lowest-of (is_clear_at s.life.requests.0 (clock h) (commands_of host h)) host h k lowest;
         free = free;
       };
       path = record { command = nth host h k; there = its; ticket = refl; next = refl };
@@ -239,7 +239,7 @@ pub turns : (s : Setup) (host : HostSetup) (name : ArrayVec ℕ) (got : Option G
     → GivesUp name (told name host got h) mid
     → list_all (λ o. not (is_expired host.dead (clock mid) o)) (sent_of (commands_of host mid)) ≡ true → SendsSome name mid m
     → list_all (λ o. not (is_due (clock m) o)) (sent_of (commands_of host m)) ≡ true
-    → list_all (λ c. not (is_clear_at s.life (clock m) (commands_of host m) c)) (commands_of host m) ≡ true → Turn s host got h m
+    → list_all (λ c. not (is_clear_at s.life.requests.0 (clock m) (commands_of host m) c)) (commands_of host m) ≡ true → Turn s host got h m
 turns s host name got h mid m called gives late sends due clear = record {
   name = name;
   called = called;
@@ -249,6 +249,6 @@ turns s host name got h mid m called gives late sends due clear = record {
   sends = sends;
   none_next = record {
     nothing_due = all-fail (is_due (clock m)) _ due;
-    nothing_clear = inr (all-fail (is_clear_at s.life (clock m) (commands_of host m)) _ clear);
+    nothing_clear = inr (all-fail (is_clear_at s.life.requests.0 (clock m) (commands_of host m)) _ clear);
   };
 }

@@ -44,6 +44,7 @@ stored-lawful cache =
     after tt
 
 acknowledged-lawful : (cache : Option ℕ) → IsLawful (setup_with cache (host_a ∷ [])) acknowledged
+unfolding full request spelled
 acknowledged-lawful cache = ends refl (write-answered cache) upon stored-lawful cache
 
 pub central : IsLawful setup central_case

@@ -27,6 +27,7 @@ use Rattle.aoe_history.specs.Commands.{commands_of, host_after}
 use Rattle.aoe_history.specs.Frames.{arriving, clock}
 use Rattle.aoe_history.specs.Example.{a, device, full, host_a, host_b, setup, setup_with, show, span}
 use Rattle.aoe_history.specs.Groups.{Enters, Got, Hand, Shelf}
+use Rattle.aoe_initiator.specs.Defaults.{default_life}
 use Rattle.aoe_history.specs.HostLaw.{IsResponse, IsSent, IsStale, IsTaken}
 use Rattle.aoe_history.specs.Lawful.{IsArrival, MayCome}
 use Rattle.aoe_history.specs.Setup.{HostSetup, Setup, SlotSetup}
@@ -41,7 +42,7 @@ no-such test xs x none there e = let n = passes (λ y. not (test y)) xs x none t
 -- a command with this ticket isn't sent: none with it is due, and none with it is clear
 pub is-not-sent : (s : Setup) (host : HostSetup) (h : List Entry) (c number : ℕ) (bytes : List ℕ)
     → list_all (λ o. not (nat_eq o.ticket.0 c && is_due (clock h) o)) (sent_of (commands_of host h)) ≡ true
-    → list_all (λ x. not (nat_eq x.ticket.0 c && is_clear_at s.life (clock h) (commands_of host h) x)) (commands_of host h) ≡ true
+    → list_all (λ x. not (nat_eq x.ticket.0 c && is_clear_at s.life.requests.0 (clock h) (commands_of host h) x)) (commands_of host h) ≡ true
     → IsSent s host h c number bytes → ⊥
 is-not-sent s host h c number bytes none-due none-clear x = go x.sent.again x.may
   where
@@ -81,7 +82,7 @@ pub any-source : MayCome setup forged_response (Took a 2 false) → ⊥
 unfolding full request spelled answer
 any-source x = go x.bytes x.fresh x.law
   where
-    go : (f : List ℕ) → arriving 2000 forged_response 2 ≡ Some f → IsTaken setup host_a forged_response f false → ⊥
+    go : (f : List ℕ) → arriving default_life forged_response 2 ≡ Some f → IsTaken setup host_a forged_response f false → ⊥
     go f e l = let q : forged ≡ f = cc in
         stale-no-response setup host_a forged_response forged l.0 l.1 (stale setup host_a forged_response forged refl) (rw (← q) at l.2)
 

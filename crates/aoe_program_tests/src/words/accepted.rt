@@ -24,11 +24,15 @@ fn reads_serve(rt: HostRuntime) -> Result<(), Fail> {
     let cases = [
         (
             "serve 1 d0 k0 d1 k1 --local x --peers y",
-            serve(1, 2, &[mac(1)], 1500, 0, 4294967295, 3000),
+            serve(1, 2, &[mac(1)], 1500, 0, None, Some(3000)),
         ),
         (
             "serve 0 d k --local x --peers y,z --idle 1 --frames=4294967295 --ports 02:00:00:00:00:01,02:00:00:00:00:02,02:00:00:00:00:03,02:00:00:00:00:04",
-            serve(0, 1, &four, 1500, 0, 4294967295, 1),
+            serve(0, 1, &four, 1500, 0, Some(4294967295), Some(1)),
+        ),
+        (
+            "serve 1 d k --local x --peers y --idle 0 --stop s",
+            serve(1, 1, &[mac(1)], 1500, 0, None, None),
         ),
     ];
     reads(&rt, rt.alloc(), "", &cases)
@@ -44,6 +48,21 @@ fn reads_replay_live_and_soak(rt: HostRuntime) -> Result<(), Fail> {
             live(65536, 10000, 1_000_000),
         ),
         ("soak 65535 16000", soak(65535, 16000)),
+    ];
+    reads(&rt, rt.alloc(), "", &cases)
+}
+
+#[test]
+fn reads_switch(rt: HostRuntime) -> Result<(), Fail> {
+    let cases = [
+        (
+            "switch access:1 access:4094",
+            switch(PortKind::Access(1), PortKind::Access(4094)),
+        ),
+        (
+            "switch trunk:10,20 trunk:20",
+            switch(trunk(&[10, 20]), trunk(&[20])),
+        ),
     ];
     reads(&rt, rt.alloc(), "", &cases)
 }
@@ -107,8 +126,9 @@ fn reads_reserve(rt: HostRuntime) -> Result<(), Fail> {
 }
 
 #[test]
-fn reads_get_and_put(rt: HostRuntime) -> Result<(), Fail> {
+fn reads_flush_get_and_put(rt: HostRuntime) -> Result<(), Fail> {
     let cases = [
+        ("flush e1.2", flush(5000)),
         (
             "get e1.2 281474976710655 32768 --turns 1",
             get(281474976710655, 32768, 1),

@@ -79,7 +79,8 @@ fn refuses_links_files_and_numbers_of_serve(rt: HostRuntime) -> Result<(), Fail>
         "serve 65535 d k --local x --peers y",
         "serve 1 d k --local x --peers y --frames 0",
         "serve 1 d k --local x --peers y --frames 4294967296",
-        "serve 1 d k --local x --peers y --idle 0",
+        "serve 1 d k --local x --peers y --stop=",
+        "serve 1 d k --local x --peers y --stop s --stop t",
         "serve 1 d k --local x --peers y --idle 1000001",
         "serve 1 d k --local x --peers y --mtu 1499",
         "serve 1 d k --local x --peers y --cache 65537",
@@ -93,4 +94,21 @@ fn refuses_no_words(rt: HostRuntime) -> Result<(), Fail> {
     let read = read_words(rt.alloc(), &[])?;
     assert!(rt; read.is_none());
     Ok(())
+}
+
+#[test]
+fn refuses_ports_of_switch(rt: HostRuntime) -> Result<(), Fail> {
+    let lines = [
+        "switch",
+        "switch access:10",
+        "switch access:10 trunk:",
+        "switch access:10 trunk:1,1",
+        "switch access:10 trunk:1,",
+        "switch access:10 access:0",
+        "switch access:10 access:4095",
+        "switch access:10 access:10,20",
+        "switch access:10 10",
+        "switch access:10 access:10 --mtu 1500",
+    ];
+    refuses(&rt, rt.alloc(), "", &lines)
 }

@@ -117,8 +117,8 @@ pub(crate) fn answered(
 pub(crate) fn served(
     alloc: Global,
     link: &mut MemLink,
-    frames: u32,
-    idle: u32,
+    frames: u64,
+    idle: u64,
 ) -> Result<(ServeEnd, bool), Fail> {
     let mut shelf = shelf_of_two(alloc)?;
     let end = serve(&mut shelf, link, frames, idle);

@@ -1,15 +1,17 @@
-use Rattle.std.proofs.Common.{◌≡◌, ◌∙◌, ℕ, List, [], length, Option, None, Some, false, ap, arith, inr, refl, sym, subst}
+use Rattle.std.proofs.Common.{◌≡◌, ◌∙◌, ℕ, List, [], length, Option, None, Some, false, true, ap, arith, inl, inr, refl, sym, subst}
+use Rattle.std.proofs.lemmas.Bool.{cases_Bool}
 use Rattle.std.specs.Prelude.{IfSome, map, option_map, string_bytes}
 use Rattle.std.specs.Option.{option_map_or}
 use Rattle.aoe_words.specs.Words.{file_count, files_of, link_count, spelled}
 use Rattle.aoe_words.specs.declared.command.Command.{Command}
 use Rattle.aoe_words.specs.declared.command.Command.TheVariants.{Serve}
 use Rattle.aoe_words.specs.declared.command.Serve.{Serve as Serves}
-use Rattle.aoe.specs.Commands.{is_live}
+use Rattle.aoe.specs.Commands.{exports, is_live, is_mirror}
 use Rattle.aoe.proofs.Blame.{at-first}
 use Rattle.aoe.proofs.Complete.{answers, link-fine, no-fault, serves}
+use Rattle.aoe.proofs.Mirrors.{within-mirror}
 use Rattle.aoe.proofs.OnSlots.{on-none}
-use Rattle.aoe.proofs.Refusals.{disk-within, file-fault, keep-bad, keep-fault, keep-small, mounted, ran-as, ran-of, same-command, settled}
+use Rattle.aoe.proofs.Refusals.{disk-within, file-fault, keep-bad, keep-fault, keep-small, mounted, of-command, pairs-only, ran-as, ran-of, same-command, settled}
 use Rattle.aoe.specs.declared.status.Status.TheVariants as status
 use Rattle.aoe_world.specs.declared.end.ReplayEnd.TheVariants as replay
 use Rattle.aoe.proofs.top.aoe.Goals as goal
@@ -22,6 +24,10 @@ linked n (Some command) asked e count = let same : command ≡ Serve asked = cc 
 -- it runs over one link
 served-alone : (command : Command) (asked : Serves) → command ≡ Serve asked → is_live (Some command) ≡ false
 served-alone command asked e = ap (λ (c : Command). is_live (Some c)) e
+
+-- it exports pairs of files
+paired : (o o' : Option Command) (command : Command) → o ≡ Some command → o ≡ o' → exports o' ≡ true → is_mirror (Some command) ≡ false
+paired o o' command is same e = pairs-only command (ap exports (sym is ∙ same) ∙ e)
 
 -- a command has as many files
 counted : (n : ℕ) (o : Option Command) (command : Command) → o ≡ Some command → IfSome o (λ c. n ≡ file_count c) → n ≡ file_count command
@@ -43,31 +49,46 @@ returns-in-Ok-Some-clause-one_link g c alone = c.run_command.ensures.alone (same
 
 pub returns-in-Ok-Some-clause-settled : goal.returns-in-Ok-Some-clause-settled
 returns-in-Ok-Some-clause-settled g c exported slot e = settled _ _ _ _ _ _ _ _ c.run_command.ensures.run c.run_command.ensures.refused
-    (c.requires.count ∙ counted _ _ _ c.in-Ok-Some.field-0-is c.in-Ok-Some.ensures.files) slot e
+    (c.requires.count ∙ counted _ _ _ c.in-Ok-Some.field-0-is c.in-Ok-Some.ensures.files) (paired _ _ _ c.in-Ok-Some.field-0-is c.in-Ok-Some.ensures.command exported) slot e
 
 pub returns-in-Ok-Some-clause-disk_fault : goal.returns-in-Ok-Some-clause-disk_fault
-returns-in-Ok-Some-clause-disk_fault g c disk e = disk-within _ _ _ _ _ _ _ _ c.run_command.ensures.run c.run_command.ensures.refused
-    (c.requires.count ∙ counted _ _ _ c.in-Ok-Some.field-0-is c.in-Ok-Some.ensures.files) disk e
+returns-in-Ok-Some-clause-disk_fault g c disk e = elim (cases_Bool (is_mirror (Some c.in-Ok-Some.command))) [
+  | inl mirror ↦ within-mirror _ _ _ _ _ _ _ _ c.run_command.ensures.mirrors mirror disk e
+  | inr other ↦ disk-within _ _ _ _ _ _ _ _ c.run_command.ensures.run c.run_command.ensures.refused
+      (c.requires.count ∙ counted _ _ _ c.in-Ok-Some.field-0-is c.in-Ok-Some.ensures.files) other disk e
+]
+
+pub returns-in-Ok-Some-clause-refused : goal.returns-in-Ok-Some-clause-refused
+returns-in-Ok-Some-clause-refused g c other slot e =
+    c.run_command.ensures.refused (of-command (λ o. is_mirror o ≡ false) _ _ _ c.in-Ok-Some.field-0-is c.in-Ok-Some.ensures.command other) slot e
+
+pub returns-in-Ok-Some-clause-unread : goal.returns-in-Ok-Some-clause-unread
+returns-in-Ok-Some-clause-unread g c other some =
+    c.run_command.ensures.unread (of-command (λ o. is_mirror o ≡ false) _ _ _ c.in-Ok-Some.field-0-is c.in-Ok-Some.ensures.command other) some
+
+pub returns-in-Ok-Some-clause-mirrors : goal.returns-in-Ok-Some-clause-mirrors
+returns-in-Ok-Some-clause-mirrors g c asked is =
+    inr (c.run_command.ensures.mirrors asked (same-command _ _ _ _ c.in-Ok-Some.field-0-is c.in-Ok-Some.ensures.command is))
 
 pub returns-in-Ok-Some-clause-file_fault : goal.returns-in-Ok-Some-clause-file_fault
 returns-in-Ok-Some-clause-file_fault g c exported slot e = file-fault _ _ _ _ _ _ _ _ c.run_command.ensures.run c.run_command.ensures.refused
-    (c.requires.count ∙ counted _ _ _ c.in-Ok-Some.field-0-is c.in-Ok-Some.ensures.files) slot e
+    (c.requires.count ∙ counted _ _ _ c.in-Ok-Some.field-0-is c.in-Ok-Some.ensures.files) (paired _ _ _ c.in-Ok-Some.field-0-is c.in-Ok-Some.ensures.command exported) slot e
 
 pub returns-in-Ok-Some-clause-keep_fault : goal.returns-in-Ok-Some-clause-keep_fault
 returns-in-Ok-Some-clause-keep_fault g c exported slot e = keep-fault _ _ _ _ _ _ _ _ c.run_command.ensures.run c.run_command.ensures.refused
-    (c.requires.count ∙ counted _ _ _ c.in-Ok-Some.field-0-is c.in-Ok-Some.ensures.files) slot e
+    (c.requires.count ∙ counted _ _ _ c.in-Ok-Some.field-0-is c.in-Ok-Some.ensures.files) (paired _ _ _ c.in-Ok-Some.field-0-is c.in-Ok-Some.ensures.command exported) slot e
 
 pub returns-in-Ok-Some-clause-keep_small : goal.returns-in-Ok-Some-clause-keep_small
 returns-in-Ok-Some-clause-keep_small g c exported slot sectors = keep-small _ _ _ _ _ _ _ _ c.run_command.ensures.run c.run_command.ensures.refused
-    (c.requires.count ∙ counted _ _ _ c.in-Ok-Some.field-0-is c.in-Ok-Some.ensures.files) slot sectors
+    (c.requires.count ∙ counted _ _ _ c.in-Ok-Some.field-0-is c.in-Ok-Some.ensures.files) (paired _ _ _ c.in-Ok-Some.field-0-is c.in-Ok-Some.ensures.command exported) slot sectors
 
 pub returns-in-Ok-Some-clause-keep_bad : goal.returns-in-Ok-Some-clause-keep_bad
 returns-in-Ok-Some-clause-keep_bad g c exported slot bad = keep-bad _ _ _ _ _ _ _ _ c.run_command.ensures.run c.run_command.ensures.refused
-    (c.requires.count ∙ counted _ _ _ c.in-Ok-Some.field-0-is c.in-Ok-Some.ensures.files) slot bad
+    (c.requires.count ∙ counted _ _ _ c.in-Ok-Some.field-0-is c.in-Ok-Some.ensures.files) (paired _ _ _ c.in-Ok-Some.field-0-is c.in-Ok-Some.ensures.command exported) slot bad
 
 pub returns-in-Ok-Some-clause-mounted : goal.returns-in-Ok-Some-clause-mounted
 returns-in-Ok-Some-clause-mounted g c exported slot lists = mounted _ _ _ _ _ _ _ _ c.run_command.ensures.run c.run_command.ensures.refused
-    (c.requires.count ∙ counted _ _ _ c.in-Ok-Some.field-0-is c.in-Ok-Some.ensures.files) slot lists
+    (c.requires.count ∙ counted _ _ _ c.in-Ok-Some.field-0-is c.in-Ok-Some.ensures.files) (paired _ _ _ c.in-Ok-Some.field-0-is c.in-Ok-Some.ensures.command exported) slot lists
 
 pub returns-in-Ok-Some-clause-answers : goal.returns-in-Ok-Some-clause-answers
 returns-in-Ok-Some-clause-answers g c asked fs is unrefused some_memory left_is all few source sink fine =

@@ -1,9 +1,9 @@
 use Rattle.std.proofs.Common.{arith}
-use Rattle.aoe_world.proofs.BuildHost.{device-can, host-begun, host-built, host-more, life-few, words-of}
+use Rattle.aoe_world.proofs.BuildHost.{device-can, host-begun, host-built, host-more, ranges, words-of}
 use Rattle.aoe_world.proofs.build.build_host.Goals as goal
 
 pub overflow_cast-room : goal.overflow_cast-room
-overflow_cast-room c = let words = words-of c.setups-count.ensures.script c.requires.0 c.requires.1 in omega (arith, words.room, c.unwrap_or-room.ensures)
+overflow_cast-room c = let words = words-of c.setups-count.ensures.script c.requires.0 c.requires.1 in omega (arith, words.room, rw c.from.ensures at c.unwrap_or-room.ensures)
 
 pub new-requires : goal.new-requires
 new-requires c =
@@ -11,15 +11,16 @@ new-requires c =
     record {
       port = words.ports.some;
       differ = words.ports.distinct;
-      life = rw c.life_of-life.ensures (life-few c.setups-count.ensures.script);
-      some_room = rw c.unwrap_or-room.ensures words.some_room;
-      room = rw c.unwrap_or-room.ensures words.room;
+      requests = rw c.life_of-life.ensures (ranges c.setups-count.ensures.script).requests;
+      responses = rw c.life_of-life.ensures (ranges c.setups-count.ensures.script).responses;
+      some_room = rw (c.unwrap_or-room.ensures, c.from.ensures) words.some_room;
+      room = rw (c.unwrap_or-room.ensures, c.from.ensures) words.room;
       dead = rw c.unwrap_or.ensures words.some_time;
     }
 
 pub lines-init : goal.lines-init
 lines-init c =
-    host-begun (rw (c.copy_of.ensures, c.life_of-life.ensures, c.unwrap_or-room.ensures, c.unwrap_or.ensures) at c.in_ok-host.ensures.value)
+    host-begun (rw (c.copy_of.ensures, c.life_of-life.ensures, c.unwrap_or-room.ensures, c.from.ensures, c.unwrap_or.ensures) at c.in_ok-host.ensures.value)
     c.in_ok-host.ensures.matches
 
 pub attach-requires : goal.attach-requires

@@ -1,5 +1,6 @@
 use Rattle.std.specs.Prelude.{unwrap_or}
-use Rattle.aoe_sim_setup.specs.Layout.{default_dead, default_room, setup_of}
+use Rattle.aoe_initiator.specs.Defaults.{default_dead, default_room}
+use Rattle.aoe_sim_setup.specs.Layout.{setup_of}
 use Rattle.aoe_world.proofs.BuildHost.{HostSoFar}
 use Rattle.aoe_world.proofs.build.build_host.Given as goal
 

@@ -4,7 +4,7 @@ use Rattle.std.proofs.lemmas.List.{take_rest}
 use Rattle.std.proofs.lemmas.Option.{slice_get_read}
 use Rattle.aoe_frame.specs.Header.{head}
 use Rattle.aoe_initiator.specs.declared.pending.Pending.{Pending}
-use Rattle.aoe_initiator.specs.HostLaw.{is_response}
+use Rattle.aoe_initiator.specs.HostLaw.{is_response_to}
 use Rattle.aoe_initiator.specs.HostLog.{commands, sent_of}
 use Rattle.aoe_initiator.specs.Op.{data_len}
 use Rattle.aoe_initiator.specs.Response.{answer, CanFill}
@@ -52,7 +52,7 @@ returns-in_err-path-clause-none c =
     let inside : c.in_ok-at.at < length c.self.inside.pending.items =
     placed-inside (λ (q : Pending). nat_eq q.ticket.0 c.in_ok-ticket.ticket.0) c.self.inside.pending.items c.in_ok-at.at there in
     let p = get-there c.self.inside.pending.items c.in_ok-at.at inside in
-    let hears : is_response c.args.self.now c.in_ok-header.header ≡ true = sym c.hears.ensures ∙ c.if-not-hears.false in
+    let hears : is_response_to c.args.self.now c.in_ok-header.header ≡ true = sym c.hears.ensures ∙ c.if-not-hears.false in
     if-none c.from_residual-in_err-path.result c.args.self.now c.args.frame.now (λ log m.
     no-path c.args.self.now log c.in_ok-header.header c.in_ok-at.at p.0 c.is_from.result m (rw (← c.self.view_is) p.1) hears c.if-not-is_from.false c.is_from.ensures c.in_err-path.ensures.none)
 
@@ -77,7 +77,7 @@ returns-clause-some c = λ log m.
     let is : head c.args.frame.now ≡ Some c.in_ok-header.header = search rules in
     let given : answer c.index.result.now.op c.in_ok-header.header (drop 24 c.args.frame.now) ≡ Some c.in_ok-answer.answer =
     rw (← (take_rest c.args.frame.now 24)) (sym c.read_answer.ensures.value ∙ c.in_ok-answer.was) in
-    let hears : is_response c.args.self.now c.in_ok-header.header ≡ true = sym c.hears.ensures ∙ c.if-not-hears.false in
+    let hears : is_response_to c.args.self.now c.in_ok-header.header ≡ true = sym c.hears.ensures ∙ c.if-not-hears.false in
     let found = flyer (commands log) c.in_ok-header.header.tag c.in_ok-ticket.ticket (c.in_ok-ticket.ensures.flying_sent (sent_of (commands log)) (rw (← c.self.view_is) at m.sent)) in
     found-answer c.args.self.now log c.args.frame.now c.in_ok-header.header c.in_ok-ticket.ticket c.in_ok-at.at c.index.result.now found.0 c.in_ok-path.path c.in_ok-answer.answer c.is_from.result m is found.1
     (placed (goal.at.returns-clause-some c).In_ok-at) (read (goal.at.returns-clause-some c).After-index) hears c.if-not-is_from.false c.is_from.ensures c.in_ok-path.ensures.pair given

@@ -1,8 +1,8 @@
-use Rattle.std.proofs.Common.{◌∙◌, ap}
+use Rattle.std.proofs.Common.{◌∙◌, ap, refl}
 use Rattle.aoe_keep.specs.Stages.{spare, turn_after, is_unplaced}
 use Rattle.aoe_keep.proofs.Making.{fails_to_clear, fails_to_stage, fails_to_open, replaces}
 use Rattle.aoe_keep.proofs.Told.{told_link}
-use Rattle.aoe_keep.proofs.Keeping.{kept_replaced, finds_replaced, unplaced}
+use Rattle.aoe_keep.proofs.Keeping.{kept_replaced, finds_replaced, formats_replaced, unplaced}
 use Rattle.aoe_keep.proofs.Calls.{stage_interrupted, err_now}
 use Rattle.aoe_keep.proofs.Others.{others_then}
 use Rattle.aoe_keep.proofs.mounted.Mounted.replace.Goals as goal
@@ -27,10 +27,11 @@ returns-clause-ok g c = record {
   lists = c.copy-self.ensures;
   mounted = record {
     room = c.in_ok-open.ensures.ok.room;
-    disk = kept_replaced c.open.new.self.place c.spare_slot-slot.result c.spare_turn-turn.result c.is_none-self.result c.copy-self.result c.args.next.now _
-        c.spare_slot-slot.ensures.slot c.spare_turn-turn.ensures.turn (unplaced c.open.new.self.place c.is_none-self.result c.is_none-self.ensures) c.copy-self.ensures c.in_ok-open.ensures.ok.disk;
+    disk = kept_replaced c.open.new.self.place c.spare_slot-slot.result c.spare_turn-turn.result _ c.is_none-self.result c.copy-self.result c.args.next.now _
+        c.spare_slot-slot.ensures.slot c.spare_turn-turn.ensures.turn refl (unplaced c.open.new.self.place c.is_none-self.result c.is_none-self.ensures) c.copy-self.ensures c.in_ok-open.ensures.ok.disk;
   };
   finds = finds_replaced c.open.new.self.place c.args.next.now _ c.in_ok-open.ensures.ok.disk;
+  format = formats_replaced c.open.new.self.place c.args.next.now (g.D.Disk.state c.open.new.self.disk) c.in_ok-open.ensures.ok.disk;
 }
 
 pub returns-in_err-stage-clause-others : goal.returns-in_err-stage-clause-others
@@ -67,5 +68,5 @@ returns-clause-calls g c =
     let stage = rw c.in_ok-stage.was at c.stage.ensures.calls in
     let last = rw c.in_ok-open.was at c.open.ensures.calls in
     replaces g.D.Disk.state c.args.next.now clear c.clear.ensures.place c.stage.new.self stage c.stage.ensures.place c.open.new.self.disk c.copy-self.result last
-    (c.spare_slot-slot.ensures.slot ∙ ap spare c.open.ensures.place) (c.spare_turn-turn.ensures.turn ∙ ap turn_after c.open.ensures.place)
+    (c.spare_slot-slot.ensures.slot ∙ ap spare c.open.ensures.place) (c.spare_turn-turn.ensures.turn ∙ ap turn_after c.open.ensures.place) refl
     (unplaced c.open.new.self.place c.is_none-self.result c.is_none-self.ensures ∙ ap is_unplaced c.open.ensures.place)

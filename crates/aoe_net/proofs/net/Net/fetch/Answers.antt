@@ -1,7 +1,7 @@
 use Rattle.std.proofs.Common.{◌≡◌, ◌-◌, ◌<◌, ◌≤◌, ℕ, List, length, get_or, Some, ap, sym, ◌∙◌, arith, subst}
 use Rattle.std.proofs.lemmas.Bool.{ltb-false, ltb-true}
 use Rattle.aoe_net.specs.declared.net.Kept.{Kept}
-use Rattle.aoe_net.specs.Network.{Network}
+use Rattle.aoe_net.specs.Network.{lifetime, Network}
 use Rattle.aoe_net.specs.Store.{frame_of, frames_of}
 use Rattle.aoe_net.proofs.StoreLemmas.{nothing, missing, found, expired, fresh, numbered-zero}
 use Rattle.aoe_net.proofs.net.Net.fetch.Goals as goal
@@ -28,7 +28,7 @@ returns-then-has_expired c =
     rw (← c.deref.ensures.value) (c.in_ok-frame.ensures.lookup.3.0, c.in_ok-frame.ensures.lookup.1) in
     let sent : frames_of kept ≡ c.args.self.now.sent = ap (λ (net : Network). net.sent) c.self.view_is in
     let some = found kept c.args.no.0 c.in_ok-index.index frame c.in_ok-index.ensures.0 c.in_ok-index.ensures.1 read.0 read.1 in
-    expired c.args.self.now c.args.no.0 c.args.now.0 (frame_of frame) (rw (← sent) some) (ltb-true c.args.self.now.life (c.args.now.0 - frame.birth.0) (sym c.has_expired.ensures ∙ c.if-has_expired.true))
+    expired c.args.self.now c.args.no.0 c.args.now.0 (frame_of frame) (rw (← sent) some) (ltb-true (lifetime c.args.self.now.life frame.bytes) (c.args.now.0 - frame.birth.0) (sym c.has_expired.ensures ∙ c.if-has_expired.true))
 
 pub returns : goal.returns
 returns c =
@@ -38,6 +38,6 @@ returns c =
     rw (← c.deref.ensures.value) (c.in_ok-frame.ensures.lookup.3.0, c.in_ok-frame.ensures.lookup.1) in
     let sent : frames_of kept ≡ c.args.self.now.sent = ap (λ (net : Network). net.sent) c.self.view_is in
     let some = found kept c.args.no.0 c.in_ok-index.index frame c.in_ok-index.ensures.0 c.in_ok-index.ensures.1 read.0 read.1 in
-    let young : c.args.now.0 - frame.birth.0 ≤ c.args.self.now.life =
-    ltb-false c.args.self.now.life (c.args.now.0 - frame.birth.0) (sym c.has_expired.ensures ∙ c.if-has_expired.false) in
+    let young : c.args.now.0 - frame.birth.0 ≤ lifetime c.args.self.now.life frame.bytes =
+    ltb-false (lifetime c.args.self.now.life frame.bytes) (c.args.now.0 - frame.birth.0) (sym c.has_expired.ensures ∙ c.if-has_expired.false) in
     ap (λ (bytes : List ℕ). Some bytes) c.bytes.ensures ∙ fresh c.args.self.now c.args.no.0 c.args.now.0 (frame_of frame) (rw (← sent) some) young

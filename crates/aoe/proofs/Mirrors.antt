@@ -1,0 +1,314 @@
+-- A run over a mirror, by its status.
+use Rattle.std.proofs.Common.{◌≡◌, ◌≢◌, ◌≤◌, ◌<◌, ◌⊎◌, ℕ, zero, suc, true, false, List, length, Option, Some, None, IfSome, Result, Ok, Err, refl, sym, ap, subst, ◌∙◌, arith, ne_eqb}
+use Rattle.std.proofs.lemmas.Bool.{OnTrue_at}
+use Rattle.std.specs.Prelude.{◌↔◌, All, IfErr, IfOk, IsSome, OnErr}
+use Rattle.aoe_base.specs.Faults.{Rose}
+use Rattle.aoe_disk.specs.State.{DiskState}
+use Rattle.aoe_keep.specs.declared.refusal.MountRefusal.{MountRefusal}
+use Rattle.aoe_keep.specs.declared.refusal.MountRefusal.TheVariants as refusal
+use Rattle.aoe_mirror.specs.declared.refusal.MirrorRefusal.TheVariants as mirror
+use Rattle.aoe_mirror.specs.Sides.{both}
+use Rattle.aoe_serve.specs.Exporting.{HasRun, Outside, Tells}
+use Rattle.aoe_serve.specs.Mirroring.{AreEqual, EndedAs, HasFailed, IsMirrored, Stops, has_ended}
+use Rattle.aoe_serve.specs.Slots.{Slot}
+use Rattle.aoe_serve.specs.declared.over_link.ServeEnd.TheVariants as serve
+use Rattle.aoe_serve.specs.declared.over_mirror.MirrorDisks.{MirrorDisks}
+use Rattle.aoe_serve.specs.declared.over_mirror.MirrorEnd.{MirrorEnd}
+use Rattle.aoe_serve.specs.declared.over_mirror.MirrorStop.{MirrorStop}
+use Rattle.aoe_serve.specs.declared.over_mirror.MirrorStop.TheVariants as stop
+use Rattle.aoe_serve.specs.declared.over_stream.AnswerEnd.TheVariants as answer
+use Rattle.aoe_serve.specs.declared.plan.Plan.TheVariants as plan
+use Rattle.aoe_serve.specs.declared.plan.RunEnd.{RunEnd}
+use Rattle.aoe_serve.specs.declared.plan.RunEnd.TheVariants.{Answered, Served}
+use Rattle.aoe_target.specs.declared.station.Station.{Station}
+use Rattle.aoe_words.specs.declared.command.Command.{Command}
+use Rattle.aoe_words.specs.declared.command.Command.TheVariants as command
+use Rattle.aoe_words.specs.declared.command.Mirror.{Mirror}
+use Rattle.aoe.specs.Commands.{is_mirror, mirror_rack, target_of}
+use Rattle.aoe.specs.Ending.{after_sync, ended_by, kept_out, mirrored_as, stopped_by}
+use Rattle.aoe.specs.Mirror.{ComesToSides, HasSides, RunsMirror, faults_at, four_of, is_kept_out, is_mirror_status}
+use Rattle.aoe.specs.declared.status.Status.{Status}
+use Rattle.aoe.specs.declared.status.Status.TheVariants as status
+
+-- What a status tells of how it ended.
+
+kept-out : (r : MountRefusal) → is_kept_out (kept_out r) ≡ true
+kept-out refusal.Failed = refl
+kept-out (refusal.TooSmall sectors) = refl
+kept-out (refusal.BadKeep k) = refl
+
+ran-not-sides : (end : RunEnd) (unsynced : Option ℕ) (first second : ℕ) → after_sync (ended_by end) unsynced ≢ status.MirrorSides first second
+ran-not-sides (Answered answer.Ended) None first second e = cc
+ran-not-sides (Answered answer.Ended) (Some k) first second e = cc
+ran-not-sides (Answered answer.SourceFault) unsynced first second e = cc
+ran-not-sides (Answered answer.SinkFault) unsynced first second e = cc
+ran-not-sides (Answered (answer.Stream at)) unsynced first second e = cc
+ran-not-sides (Answered answer.Limit) unsynced first second e = cc
+ran-not-sides (Served serve.Ended) None first second e = cc
+ran-not-sides (Served serve.Ended) (Some k) first second e = cc
+ran-not-sides (Served serve.LinkFault) unsynced first second e = cc
+
+ran-not-mark : (end : RunEnd) (unsynced : Option ℕ) → after_sync (ended_by end) unsynced ≢ status.MirrorMark
+ran-not-mark (Answered answer.Ended) None e = cc
+ran-not-mark (Answered answer.Ended) (Some k) e = cc
+ran-not-mark (Answered answer.SourceFault) unsynced e = cc
+ran-not-mark (Answered answer.SinkFault) unsynced e = cc
+ran-not-mark (Answered (answer.Stream at)) unsynced e = cc
+ran-not-mark (Answered answer.Limit) unsynced e = cc
+ran-not-mark (Served serve.Ended) None e = cc
+ran-not-mark (Served serve.Ended) (Some k) e = cc
+ran-not-mark (Served serve.LinkFault) unsynced e = cc
+
+ran-unsynced : (end : RunEnd) (unsynced : Option ℕ) (disk : ℕ) → after_sync (ended_by end) unsynced ≡ status.DiskFault disk → unsynced ≡ Some disk
+ran-unsynced (Answered answer.Ended) None disk e = absurd cc
+ran-unsynced (Answered answer.Ended) (Some k) disk e = let same : k ≡ disk = cc in ap Some same
+ran-unsynced (Answered answer.SourceFault) unsynced disk e = absurd cc
+ran-unsynced (Answered answer.SinkFault) unsynced disk e = absurd cc
+ran-unsynced (Answered (answer.Stream at)) unsynced disk e = absurd cc
+ran-unsynced (Answered answer.Limit) unsynced disk e = absurd cc
+ran-unsynced (Served serve.Ended) None disk e = absurd cc
+ran-unsynced (Served serve.Ended) (Some k) disk e = let same : k ≡ disk = cc in ap Some same
+ran-unsynced (Served serve.LinkFault) unsynced disk e = absurd cc
+
+ran-well : (end : RunEnd) (unsynced : Option ℕ) → after_sync (ended_by end) unsynced ≡ status.Ok → (has_ended end ≡ true) × (unsynced ≡ None)
+ran-well (Answered answer.Ended) None e = (refl, refl)
+ran-well (Answered answer.Ended) (Some k) e = absurd cc
+ran-well (Answered answer.SourceFault) unsynced e = absurd cc
+ran-well (Answered answer.SinkFault) unsynced e = absurd cc
+ran-well (Answered (answer.Stream at)) unsynced e = absurd cc
+ran-well (Answered answer.Limit) unsynced e = absurd cc
+ran-well (Served serve.Ended) None e = (refl, refl)
+ran-well (Served serve.Ended) (Some k) e = absurd cc
+ran-well (Served serve.LinkFault) unsynced e = absurd cc
+
+blamed-disk : (P : ℕ → Type 0) (unsynced : Option ℕ) (disk : ℕ) → IfSome unsynced P → unsynced ≡ Some disk → P disk
+blamed-disk P None disk p e = absurd cc
+blamed-disk P (Some k) disk p e = let same : k ≡ disk = cc in subst P same p
+
+module _ {D S K L : Type 0} (state : D → DiskState) (name : ℕ → Station) (t : Tells S K L) (a b : Outside S K L) (given back : MirrorDisks D) where
+  abbrev pub Law : Result MirrorEnd MirrorStop → Type 0
+  Law (Ok e) = IsMirrored state name t plan.Answer e a b given back
+  Law (Err why) = Stops state why given back
+
+  pub unequal : (r : Result MirrorEnd MirrorStop) → Law r → (first second : ℕ) → (mirrored_as r ≡ status.MirrorSides first second)
+      ↔ (HasSides (state given.one) (state given.two) first second × ComesToSides (mirrored_as r))
+  unequal (Ok e) law first second = (
+    λ told. absurd (ran-not-sides e.end e.unsynced first second told),
+    λ is. absurd (is.0.2 (is.0.0 ∙ sym law.over.begins.mounts.size ∙ sym is.0.1)),
+  )
+  unequal (Err stop.NoMemory) law first second = (λ told. absurd cc, λ is. absurd (is.1.1 refl))
+  unequal (Err (stop.Keep r)) law first second = (
+    λ told. let e = sym (ap is_kept_out told) ∙ kept-out r in absurd cc,
+    λ is. let e = sym is.1.0 ∙ kept-out r in absurd cc,
+  )
+  unequal (Err (stop.Mirror (mirror.Unequal one two))) law first second = (
+    λ told.
+        let same : one ≡ first = cc in
+        let same' : two ≡ second = cc in
+        ((sym same ∙ law.1.0, sym same' ∙ law.1.1, λ e. law.1.2 (same ∙ e ∙ sym same')), (refl, λ e. cc)),
+    λ is. rw (law.1.0, law.1.1, is.0.0, is.0.1) refl,
+  )
+  unequal (Err (stop.Mirror mirror.NoMark)) law first second = (λ told. absurd cc, λ is. absurd (is.0.2 (is.0.0 ∙ sym law.1.0 ∙ sym is.0.1)))
+  unequal (Err (stop.Mirror mirror.Failed)) law first second = (λ told. absurd cc, λ is. absurd (is.0.2 (is.0.0 ∙ sym law.1.0 ∙ sym is.0.1)))
+  unequal (Err (stop.Mirror mirror.NoMemory)) law first second = (λ told. absurd cc, λ is. absurd (is.1.1 refl))
+
+  pub unmarked : (r : Result MirrorEnd MirrorStop) → Law r → (mirrored_as r ≡ status.MirrorMark)
+      ↔ (((state given.two).sectors ≡ (state given.one).sectors) × ((state given.mark).sectors ≡ 0) × ComesToSides (mirrored_as r))
+  unmarked (Ok e) law = (
+    λ told. absurd (ran-not-mark e.end e.unsynced told),
+    λ is. absurd (let room = law.over.begins.mounts.room in omega (arith, room, is.1)),
+  )
+  unmarked (Err stop.NoMemory) law = (λ told. absurd cc, λ is. absurd (is.2.1 refl))
+  unmarked (Err (stop.Keep r)) law = (
+    λ told. let e = sym (ap is_kept_out told) ∙ kept-out r in absurd cc,
+    λ is. let e = sym is.2.0 ∙ kept-out r in absurd cc,
+  )
+  unmarked (Err (stop.Mirror (mirror.Unequal one two))) law = (
+    λ told. absurd cc,
+    λ is. absurd (law.1.2 (law.1.0 ∙ sym is.0 ∙ sym law.1.1)),
+  )
+  unmarked (Err (stop.Mirror mirror.NoMark)) law = (λ told. (law.1.0, law.1.1, (refl, λ e. cc)), λ is. refl)
+  unmarked (Err (stop.Mirror mirror.Failed)) law = (λ told. absurd cc, λ is. absurd (let room = law.1.1 in omega (arith, room, is.1)))
+  unmarked (Err (stop.Mirror mirror.NoMemory)) law = (λ told. absurd cc, λ is. absurd (is.2.1 refl))
+
+  pub blames : (r : Result MirrorEnd MirrorStop) → Law r → (disk : ℕ) → mirrored_as r ≡ status.DiskFault disk
+      → (disk ≤ 3) × Rose (faults_at state given disk) (faults_at state back disk)
+  blames (Ok e) law disk told =
+      let failed = blamed-disk (λ k. (k ≤ 2) × HasFailed state given back k) e.unsynced disk law.blames (ran-unsynced e.end e.unsynced disk told) in
+      let few = failed.0 in
+      (omega (arith, few), rw (ne_eqb disk 3 (λ same. absurd (omega (arith, same, few)))) failed.1)
+  blames (Err stop.NoMemory) law disk told = absurd cc
+  blames (Err (stop.Keep refusal.Failed)) law disk told =
+      let same : 3 ≡ disk = cc in
+      subst (λ (k : ℕ). (k ≤ 3) × Rose (faults_at state given k) (faults_at state back k)) same (omega arith, OnTrue_at refl law.2.2.run.cause)
+  blames (Err (stop.Keep (refusal.TooSmall sectors))) law disk told = absurd cc
+  blames (Err (stop.Keep (refusal.BadKeep k))) law disk told = absurd cc
+  blames (Err (stop.Mirror (mirror.Unequal one two))) law disk told = absurd cc
+  blames (Err (stop.Mirror mirror.NoMark)) law disk told = absurd cc
+  blames (Err (stop.Mirror mirror.Failed)) law disk told =
+      let same : 2 ≡ disk = cc in
+      subst (λ (k : ℕ). (k ≤ 3) × Rose (faults_at state given k) (faults_at state back k)) same (omega arith, OnTrue_at refl law.1.2.cause)
+  blames (Err (stop.Mirror mirror.NoMemory)) law disk told = absurd cc
+
+  pub equal : (r : Result MirrorEnd MirrorStop) → Law r → mirrored_as r ≡ status.Ok
+      → IfSome (both (state back.one).contents (state back.two).contents) AreEqual
+      ⊎ (Rose (state given.one).faults (state back.one).faults ⊎ Rose (state given.two).faults (state back.two).faults)
+  equal (Ok e) law told = let well = ran-well e.end e.unsynced told in law.equal well.0 well.1
+  equal (Err stop.NoMemory) law told = absurd cc
+  equal (Err (stop.Keep refusal.Failed)) law told = absurd cc
+  equal (Err (stop.Keep (refusal.TooSmall sectors))) law told = absurd cc
+  equal (Err (stop.Keep (refusal.BadKeep k))) law told = absurd cc
+  equal (Err (stop.Mirror (mirror.Unequal one two))) law told = absurd cc
+  equal (Err (stop.Mirror mirror.NoMark)) law told = absurd cc
+  equal (Err (stop.Mirror mirror.Failed)) law told = absurd cc
+  equal (Err (stop.Mirror mirror.NoMemory)) law told = absurd cc
+
+  pub law-of : (r : Result MirrorEnd MirrorStop) → IfOk r (λ e. IsMirrored state name t plan.Answer e a b given back)
+      → IfErr r (λ why. Stops state why given back) → Law r
+  law-of (Ok e) ran stopped = ran
+  law-of (Err why) ran stopped = stopped
+
+  -- its frames come as a stream
+  ended-status : (end : RunEnd) (unsynced : Option ℕ) (old new : List Slot) → HasRun t plan.Answer end a b old new
+      → is_mirror_status (after_sync (ended_by end) unsynced) ≡ true
+  ended-status (Answered answer.Ended) None old new ran = refl
+  ended-status (Answered answer.Ended) (Some k) old new ran = refl
+  ended-status (Answered answer.SourceFault) unsynced old new ran = refl
+  ended-status (Answered answer.SinkFault) unsynced old new ran = refl
+  ended-status (Answered (answer.Stream at)) unsynced old new ran = refl
+  ended-status (Answered answer.Limit) unsynced old new ran = refl
+  ended-status (Served x) unsynced old new ran = absurd ran
+
+  pub mirror-status : (r : Result MirrorEnd MirrorStop) → IfOk r (λ e. IsMirrored state name t plan.Answer e a b given back)
+      → is_mirror_status (mirrored_as r) ≡ true
+  mirror-status (Ok e) ran = ended-status e.end e.unsynced _ _ ran.run.ran
+  mirror-status (Err stop.NoMemory) ran = refl
+  mirror-status (Err (stop.Keep refusal.Failed)) ran = refl
+  mirror-status (Err (stop.Keep (refusal.TooSmall sectors))) ran = refl
+  mirror-status (Err (stop.Keep (refusal.BadKeep k))) ran = refl
+  mirror-status (Err (stop.Mirror (mirror.Unequal one two))) ran = refl
+  mirror-status (Err (stop.Mirror mirror.NoMark)) ran = refl
+  mirror-status (Err (stop.Mirror mirror.Failed)) ran = refl
+  mirror-status (Err (stop.Mirror mirror.NoMemory)) ran = refl
+
+  answered-links : (end : RunEnd) (old new : List Slot) → HasRun t plan.Answer end a b old new → b.links ≡ a.links
+  answered-links (Answered x) old new ran = ran.links
+  answered-links (Served x) old new ran = absurd ran
+
+  pub same-links : (r : Result MirrorEnd MirrorStop) → IfOk r (λ e. IsMirrored state name t plan.Answer e a b given back)
+      → OnErr r (b.links ≡ a.links) → b.links ≡ a.links
+  same-links (Ok e) ran links = answered-links e.end _ _ ran.run.ran
+  same-links (Err why) ran links = links
+
+-- What a status tells of source, sink and memory.
+
+ran-memory : (end : RunEnd) (unsynced : Option ℕ) → after_sync (ended_by end) unsynced ≢ status.NoMemory
+ran-memory (Answered answer.Ended) None e = cc
+ran-memory (Answered answer.Ended) (Some k) e = cc
+ran-memory (Answered answer.SourceFault) unsynced e = cc
+ran-memory (Answered answer.SinkFault) unsynced e = cc
+ran-memory (Answered (answer.Stream at)) unsynced e = cc
+ran-memory (Answered answer.Limit) unsynced e = cc
+ran-memory (Served serve.Ended) None e = cc
+ran-memory (Served serve.Ended) (Some k) e = cc
+ran-memory (Served serve.LinkFault) unsynced e = cc
+
+pub wanted-memory : {P Q : Type 0} (s : Status) (r : Result MirrorEnd MirrorStop) → s ≡ mirrored_as r → OnErr r P → OnErr r Q → s ≡ status.NoMemory → P × Q
+wanted-memory s (Ok e) is p q told = absurd (ran-memory e.end e.unsynced (sym is ∙ told))
+wanted-memory s (Err why) is p q told = (p, q)
+
+module _ (end : RunEnd) (unsynced : Option ℕ) where
+  ended-source : (after_sync (ended_by end) unsynced ≡ status.SourceFault) ↔ (end ≡ Answered answer.SourceFault)
+  ended-source = (λ told. grind (arith, told), λ e. ap (λ (y : RunEnd). after_sync (ended_by y) unsynced) e)
+
+  ended-sink : (after_sync (ended_by end) unsynced ≡ status.SinkFault) ↔ (end ≡ Answered answer.SinkFault)
+  ended-sink = (λ told. grind (arith, told), λ e. ap (λ (y : RunEnd). after_sync (ended_by y) unsynced) e)
+
+stopped-source : (why : MirrorStop) → stopped_by why ≢ status.SourceFault
+stopped-source stop.NoMemory e = cc
+stopped-source (stop.Keep refusal.Failed) e = cc
+stopped-source (stop.Keep (refusal.TooSmall sectors)) e = cc
+stopped-source (stop.Keep (refusal.BadKeep k)) e = cc
+stopped-source (stop.Mirror (mirror.Unequal one two)) e = cc
+stopped-source (stop.Mirror mirror.NoMark) e = cc
+stopped-source (stop.Mirror mirror.Failed) e = cc
+stopped-source (stop.Mirror mirror.NoMemory) e = cc
+
+stopped-sink : (why : MirrorStop) → stopped_by why ≢ status.SinkFault
+stopped-sink stop.NoMemory e = cc
+stopped-sink (stop.Keep refusal.Failed) e = cc
+stopped-sink (stop.Keep (refusal.TooSmall sectors)) e = cc
+stopped-sink (stop.Keep (refusal.BadKeep k)) e = cc
+stopped-sink (stop.Mirror (mirror.Unequal one two)) e = cc
+stopped-sink (stop.Mirror mirror.NoMark) e = cc
+stopped-sink (stop.Mirror mirror.Failed) e = cc
+stopped-sink (stop.Mirror mirror.NoMemory) e = cc
+
+pub source-told : (s : Status) (r : Result MirrorEnd MirrorStop) → s ≡ mirrored_as r → (s ≡ status.SourceFault) ↔ EndedAs r (Answered answer.SourceFault)
+source-told s (Ok e) is = (λ told. (ended-source e.end e.unsynced).0 (sym is ∙ told), λ ended. is ∙ (ended-source e.end e.unsynced).1 ended)
+source-told s (Err why) is = (λ told. absurd (stopped-source why (sym is ∙ told)), λ ended. absurd ended)
+
+pub sink-told : (s : Status) (r : Result MirrorEnd MirrorStop) → s ≡ mirrored_as r → (s ≡ status.SinkFault) ↔ EndedAs r (Answered answer.SinkFault)
+sink-told s (Ok e) is = (λ told. (ended-sink e.end e.unsynced).0 (sym is ∙ told), λ ended. is ∙ (ended-sink e.end e.unsynced).1 ended)
+sink-told s (Err why) is = (λ told. absurd (stopped-sink why (sym is ∙ told)), λ ended. absurd ended)
+
+-- The four disks.
+
+pub all-four : {D : Type 0} (d : MirrorDisks D) → All IsSome (four_of d)
+all-four d zero x below = refl
+all-four d (suc zero) x below = refl
+all-four d (suc (suc zero)) x below = refl
+all-four d (suc (suc (suc zero))) x below = refl
+all-four d (suc (suc (suc (suc k)))) x below = absurd (omega (arith, below))
+
+stopped-same : {S K L : Type 0} (P : MirrorStop → Type 0) (a b : Outside S K L) (r : Result MirrorEnd MirrorStop) → IfErr r P
+    → OnErr r (b.source ≡ a.source) → OnErr r (b.sink ≡ a.sink) → OnErr r (b.links ≡ a.links)
+    → IfErr r (λ why. P why × (b.source ≡ a.source) × (b.sink ≡ a.sink) × (b.links ≡ a.links))
+stopped-same P a b (Ok e) p source sink links = tt
+stopped-same P a b (Err why) p source sink links = (p, source, sink, links)
+
+pub runs-mirror : {D S K L : Type 0} (state : D → DiskState) (asked : Mirror) (t : Tells S K L) (a b : Outside S K L) (s : Status)
+    (r : Result MirrorEnd MirrorStop) (given back : MirrorDisks D) (disks disks' : List (Option D)) → s ≡ mirrored_as r → disks ≡ four_of given
+    → disks' ≡ four_of back → IfOk r (λ e. IsMirrored state (target_of (mirror_rack asked) asked.id.minor) t plan.Answer e a b given back)
+    → IfErr r (λ why. Stops state why given back)
+    → OnErr r (b.source ≡ a.source) → OnErr r (b.sink ≡ a.sink) → OnErr r (b.links ≡ a.links) → RunsMirror state asked t s a b disks disks'
+runs-mirror state asked t a b s r given back disks disks' is were are ran stopped source sink links =
+    let name = target_of (mirror_rack asked) asked.id.minor in
+    let law = law-of state name t a b given back r ran stopped in
+    rw is (record {
+      given = given;
+      back = back;
+      were = were;
+      are = are;
+      answer = r;
+      ends = refl;
+      ran = ran;
+      stopped = stopped-same (λ why. Stops state why given back) a b r stopped source sink links;
+      unequal = unequal state name t a b given back r law;
+      unmarked = unmarked state name t a b given back r law;
+      blames = blames state name t a b given back r law;
+      equal = equal state name t a b given back r law;
+    })
+
+-- A command that is a mirror has four disks.
+
+of-mirror : {P : Mirror → Type 0} (c : Command) → is_mirror (Some c) ≡ true → ((asked : Mirror) → c ≡ command.Mirror asked → P asked)
+    → (asked : Mirror) × P asked
+of-mirror (command.Answer x) e p = absurd cc
+of-mirror (command.Serve x) e p = absurd cc
+of-mirror (command.Mirror asked) e p = (asked, p asked refl)
+of-mirror command.Replay e p = absurd cc
+of-mirror (command.Soak x) e p = absurd cc
+of-mirror (command.Ask x) e p = absurd cc
+of-mirror (command.Get x) e p = absurd cc
+of-mirror (command.Put x) e p = absurd cc
+of-mirror (command.Live x) e p = absurd cc
+of-mirror (command.Switch x) e p = absurd cc
+
+pub within-mirror : {D S K L : Type 0} (state : D → DiskState) (c : Command) (t : Tells S K L) (s : Status) (a b : Outside S K L)
+    (disks disks' : List (Option D)) → ((asked : Mirror) → c ≡ command.Mirror asked → RunsMirror state asked t s a b disks disks')
+    → is_mirror (Some c) ≡ true → (disk : ℕ) → s ≡ status.DiskFault disk → disk < length disks
+within-mirror state c t s a b disks disks' mirrors is disk e =
+    let r = (of-mirror {P = λ asked. RunsMirror state asked t s a b disks disks'} c is mirrors).1 in
+    let few = (r.blames disk e).0 in
+    omega (arith, few, ap length r.were)

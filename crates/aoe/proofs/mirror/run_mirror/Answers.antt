@@ -1,0 +1,31 @@
+use Rattle.aoe.proofs.Blame.{retold}
+use Rattle.aoe.proofs.Mirrors.{all-four, mirror-status, runs-mirror, same-links, sink-told, source-told, wanted-memory}
+use Rattle.aoe.proofs.mirror.run_mirror.Goals as goal
+
+pub returns-clause-runs : goal.returns-clause-runs
+returns-clause-runs g c =
+    runs-mirror g.D.Disk.state c.args.asked _ _ _ c.mirrored_as.result c.export_mirror-answer.result.0 c.take_four-given.result
+    c.export_mirror-answer.result.1 _ _ c.mirrored_as.ensures c.take_four-given.ensures.taken c.put_four.ensures
+    (rw c.mirror_rack-rack.ensures.rack at c.export_mirror-answer.ensures.ran) c.export_mirror-answer.ensures.stopped
+    c.export_mirror-answer.ensures.source c.export_mirror-answer.ensures.sink c.export_mirror-answer.ensures.links
+
+pub returns-clause-status : goal.returns-clause-status
+returns-clause-status g c = rw c.mirrored_as.ensures (mirror-status g.D.Disk.state _ _ _ _ _ _ c.export_mirror-answer.result.0 c.export_mirror-answer.ensures.ran)
+
+pub returns-clause-memory : goal.returns-clause-memory
+returns-clause-memory g c = wanted-memory c.mirrored_as.result c.export_mirror-answer.result.0 c.mirrored_as.ensures c.export_mirror-answer.ensures.source
+    c.export_mirror-answer.ensures.sink
+
+pub returns-clause-links : goal.returns-clause-links
+returns-clause-links g c = same-links g.D.Disk.state _ _ _ _ _ _ c.export_mirror-answer.result.0 c.export_mirror-answer.ensures.ran c.export_mirror-answer.ensures.links
+
+pub returns-clause-there : goal.returns-clause-there
+returns-clause-there g c = rw c.put_four.ensures (all-four c.export_mirror-answer.result.1)
+
+pub returns-clause-source : goal.returns-clause-source
+returns-clause-source g c =
+    retold _ _ (source-told c.mirrored_as.result c.export_mirror-answer.result.0 c.mirrored_as.ensures) _ _ c.export_mirror-answer.ensures.source_blame
+
+pub returns-clause-sink : goal.returns-clause-sink
+returns-clause-sink g c =
+    retold _ _ (sink-told c.mirrored_as.result c.export_mirror-answer.result.0 c.mirrored_as.ensures) _ _ c.export_mirror-answer.ensures.sink_blame

@@ -1,0 +1,70 @@
+-- A run of `mirror`, by its status. Its disks are the sides 0 and 1, 2 that says which side leads, and 3 the keep.
+use Rattle.std.specs.Prelude.{ℕ, ◌≡◌, ◌≢◌, ◌≤◌, ◌<◌, ◌==◌, ◌⊎◌, ◌↔◌, Bool, true, false, List, [], ◌∷◌, Option, Some, IfOk, IfErr, IfSome, Result, if◌then◌else◌}
+use Rattle.aoe_base.specs.Faults.{Rose}
+use Rattle.aoe_disk.specs.State.{DiskState}
+use Rattle.aoe_mirror.specs.Sides.{both}
+use Rattle.aoe_serve.specs.Exporting.{Outside, Tells}
+use Rattle.aoe_serve.specs.Mirroring.{AreEqual, IsMirrored, Stops, faults_of}
+use Rattle.aoe_serve.specs.declared.over_mirror.MirrorDisks.{MirrorDisks}
+use Rattle.aoe_serve.specs.declared.over_mirror.MirrorEnd.{MirrorEnd}
+use Rattle.aoe_serve.specs.declared.over_mirror.MirrorStop.{MirrorStop}
+use Rattle.aoe_serve.specs.declared.plan.Plan.TheVariants as plan
+use Rattle.aoe_words.specs.declared.command.Mirror.{Mirror}
+use Rattle.aoe.specs.Commands.{mirror_rack, target_of}
+use Rattle.aoe.specs.Ending.{mirrored_as}
+use Rattle.aoe.specs.declared.status.Status.{Status}
+use Rattle.aoe.specs.declared.status.Status.TheVariants as status
+
+-- the disks in the order of the files' names
+abbrev pub four_of : {D : Type 0} → MirrorDisks D → List (Option D)
+four_of disks = Some disks.one ∷ Some disks.two ∷ Some disks.mark ∷ Some disks.keep ∷ []
+
+-- the count of faults of the disk with this number
+abbrev pub faults_at : {D : Type 0} → (D → DiskState) → MirrorDisks D → ℕ → ℕ
+faults_at state disks disk = if disk == 3 then (state disks.keep).faults else faults_of state disks disk
+
+-- how a run over a mirror can end
+abbrev pub is_mirror_status : Status → Bool
+is_mirror_status status.Usage = false
+is_mirror_status (status.Script line cause) = false
+is_mirror_status (status.LinkFault link) = false
+is_mirror_status (status.Unanswered turns) = false
+is_mirror_status (status.Refused r) = false
+is_mirror_status s = true
+
+-- the keep was refused
+abbrev pub is_kept_out : Status → Bool
+is_kept_out (status.DiskFault disk) = disk == 3
+is_kept_out (status.KeepSmall disk sectors) = true
+is_kept_out (status.KeepBad disk slot) = true
+is_kept_out s = false
+
+-- the keep was mounted, and memory wasn't wanting
+abbrev pub ComesToSides : Status → Type 0
+ComesToSides s = (is_kept_out s ≡ false) × (s ≢ status.NoMemory)
+
+-- sides of different sizes
+abbrev pub HasSides : DiskState → DiskState → ℕ → ℕ → Type 0
+HasSides one two first second = (first ≡ one.sectors) × (second ≡ two.sectors) × (first ≢ second)
+
+-- What a run over a mirror takes, gives and leaves. Where nothing was run, nothing was read or written; each disk is as the cause says.
+pub record RunsMirror {D S K L : Type 0} (state : D → DiskState) (asked : Mirror) (t : Tells S K L) (s : Status) (a b : Outside S K L)
+    (disks disks' : List (Option D)) : Type 0 where
+  pub given : MirrorDisks D
+  pub back : MirrorDisks D
+  pub were : disks ≡ four_of given
+  pub are : disks' ≡ four_of back
+  pub answer : Result MirrorEnd MirrorStop
+  pub ends : s ≡ mirrored_as answer
+  pub ran : IfOk answer (λ e. IsMirrored state (target_of (mirror_rack asked) asked.id.minor) t plan.Answer e a b given back)
+  pub stopped : IfErr answer (λ why. Stops state why given back × (b.source ≡ a.source) × (b.sink ≡ a.sink) × (b.links ≡ a.links))
+  -- exactly when sides and a mark disk are refused
+  pub unequal : (first second : ℕ)
+      → (s ≡ status.MirrorSides first second) ↔ (HasSides (state given.one) (state given.two) first second × ComesToSides s)
+  pub unmarked : (s ≡ status.MirrorMark)
+      ↔ (((state given.two).sectors ≡ (state given.one).sectors) × ((state given.mark).sectors ≡ 0) × ComesToSides s)
+  -- a disk that is said to have failed did
+  pub blames : (disk : ℕ) → s ≡ status.DiskFault disk → (disk ≤ 3) × Rose (faults_at state given disk) (faults_at state back disk)
+  -- where all went well, the sides are equal and settled, or one of them failed
+  pub equal : s ≡ status.Ok → IfSome (both (state back.one).contents (state back.two).contents) AreEqual
+      ⊎ (Rose (state given.one).faults (state back.one).faults ⊎ Rose (state given.two).faults (state back.two).faults)

@@ -1,0 +1,94 @@
+//! The command that exports a mirror.
+ghost use Rattle.std.specs.Prelude.{◌≡◌, [], ◌∷◌, All, IsSome, Some, length, true};
+ghost use Rattle.aoe_base.specs.Faults.{Blamed};
+ghost use Rattle.aoe_serve.specs.Exporting.{AtFirst};
+ghost use Rattle.aoe_words.specs.Words.{CanMirror};
+ghost use Rattle.aoe.specs.Mirror.{RunsMirror, four_of, is_mirror_status};
+
+use crate::plan::{mirror_rack, mirrored_as};
+use crate::status::Status;
+use aoe_disk::Disk;
+use aoe_io::{Link, Sink, Source};
+use aoe_serve::{MirrorDisks, Plan, export_mirror};
+use aoe_words::Mirror;
+use std::alloc::Global;
+
+/// Takes two disks.
+fn take_pair<D: Disk + Drop>(pair: &mut [Option<D>]) -> (D, D)
+    requires count { length pair.old ≡ 2 }
+    requires there { All IsSome pair.old }
+    ensures taken { pair.old ≡ Some result.0 ∷ Some result.1 ∷ [] }
+    ensures count { length pair.new ≡ 2 }
+{
+    let (Some(first), Some(second)) = (pair[0].take(), pair[1].take()) else {
+        unreachable!()
+    };
+    (first, second)
+}
+
+/// Takes the disks of a mirror, in the order of the files' names.
+fn take_four<D: Disk + Drop>(disks: &mut [Option<D>]) -> MirrorDisks<D>
+    requires count { length disks.old ≡ 4 }
+    requires there { All IsSome disks.old }
+    ensures taken { disks.old ≡ four_of result }
+    ensures count { length disks.new ≡ 4 }
+{
+    let (sides, others) = disks.split_at_mut(2);
+    let (one, two) = take_pair(sides);
+    let (mark, keep) = take_pair(others);
+    MirrorDisks {
+        one,
+        two,
+        mark,
+        keep,
+    }
+}
+
+/// Puts them back.
+fn put_four<D: Disk + Drop>(disks: &mut [Option<D>], given: MirrorDisks<D>)
+    requires { length disks.old ≡ 4 }
+    ensures { disks.new ≡ four_of given }
+{
+    let MirrorDisks {
+        one,
+        two,
+        mark,
+        keep,
+    } = given;
+    disks[0] = Some(one);
+    disks[1] = Some(two);
+    disks[2] = Some(mark);
+    disks[3] = Some(keep);
+}
+
+/// Answers the frames of a source as one target over two sides.
+pub(crate) fn run_mirror<S: Source, K: Sink, D: Disk + Drop, L: Link>(
+    alloc: Global,
+    asked: Mirror,
+    source: &mut S,
+    sink: &mut K,
+    disks: &mut [Option<D>],
+    links: &mut [L],
+) -> Status
+    requires range { CanMirror asked }
+    requires count { length disks.old ≡ 4 }
+    requires there { All IsSome disks.old }
+    requires links { length links.old ≡ 0 }
+    ensures runs { RunsMirror D.state asked
+        record { left = S.left; held = K.held; turns = L.turns; given = L.given; taken = L.taken } result
+        record { source = source.old; sink = sink.old; links = links.old } record { source = source.new; sink = sink.new; links = links.new }
+        disks.old disks.new }
+    ensures status { is_mirror_status result ≡ true }
+    ensures memory { result ≡ Status.NoMemory → (source.new ≡ source.old) × (sink.new ≡ sink.old) }
+    ensures links { links.new ≡ links.old }
+    ensures there { All IsSome disks.new }
+    ensures source { Blamed (result ≡ Status.SourceFault) (S.faults source.old)
+        (S.faults source.new) }
+    ensures sink { Blamed (result ≡ Status.SinkFault) (K.faults sink.old) (K.faults sink.new) }
+{
+    let rack = mirror_rack(asked);
+    let given = take_four(disks);
+    let (answer, back) = export_mirror(alloc, rack, Plan::Answer, source, sink, given, links);
+    put_four(disks, back);
+    mirrored_as(answer)
+}

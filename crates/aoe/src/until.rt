@@ -1,0 +1,81 @@
+//! A link that ends once a file is there. It tells nothing of what it gives and takes.
+ghost use Rattle.std.specs.Prelude.{None};
+
+use aoe_base::Failed;
+use aoe_frame::Frame;
+use aoe_io::{Got, Link};
+use std::fs;
+
+/// How many frames come at most before the file is looked for again.
+const FRAMES: u32 = 1000;
+
+/// A link that has ended once a file of this name is there, whatever still comes on it; where there is
+/// no name, the link itself. The file is looked for before the first turn, behind each turn that brought
+/// no frame, and behind so many frames.
+#[derive(Drop)]
+pub struct Until<L: Link> {
+    rt: HostRuntime,
+    link: L,
+    stop: Option<String>,
+    before_look: u32,
+    turns: u64,
+}
+
+impl<L: Link> Until<L> {
+    pub fn new(rt: &HostRuntime, link: L, stop: Option<String>) -> Until<L> {
+        Until {
+            rt: *rt,
+            link,
+            stop,
+            before_look: 0,
+            turns: 0,
+        }
+    }
+
+    /// What it is over.
+    pub fn link(&self) -> &L {
+        &self.link
+    }
+
+    /// Whether the file is there. Where that can't be found out, it isn't.
+    fn is_stopped(&self) -> bool {
+        match &self.stop {
+            Some(name) => fs::exists(&self.rt, name.as_str()).unwrap_or(false),
+            None => false,
+        }
+    }
+}
+
+impl<L: Link> Link for Until<L> {
+    ghost given = { λ _. None };
+
+    ghost taken = { λ _. None };
+
+    ghost coming = { λ _. None };
+
+    ghost turns = { λ l. l.turns };
+
+    ghost faults = { λ l. L.faults l.link };
+
+    fn send(&mut self, frame: &[u8]) -> Result<(), Failed> {
+        self.link.send(frame)
+    }
+
+    fn recv(&mut self, out: &mut Frame) -> Result<Got, Failed> {
+        if self.before_look == 0 && self.is_stopped() {
+            self.turns = self.turns.saturating_add(1);
+            return Ok(Got::Ended);
+        }
+        let got = match self.link.recv(out) {
+            Ok(got) => got,
+            Err(Failed) => return Err(Failed),
+        };
+        self.turns = self.turns.saturating_add(1);
+        self.before_look = match got {
+            Got::Frame if self.before_look == 0 => FRAMES - 1,
+            Got::Frame => self.before_look - 1,
+            Got::Quiet | Got::Ended => 0,
+        };
+        Ok(got)
+    }
+}

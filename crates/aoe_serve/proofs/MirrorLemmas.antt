@@ -1,0 +1,372 @@
+-- A mirror as the slot of a shelf.
+use Rattle.std.proofs.Common.{◌≡◌, ◌≤◌, ◌⊎◌, ℕ, zero, suc, Bool, true, false, List, [], ◌∷◌, ◌++◌, length, length-append, Option, Some, None, IfSome, Result, Ok, Err, is_err, is_some, refl, sym, ap, subst, ◌∙◌, inl, inr, arith, eq-eqb, ne_eqb, get_or}
+use Rattle.std.proofs.lemmas.Bool.{both_ways, cases_Bool, cases_eq}
+use Rattle.std.proofs.lemmas.Option.{same_Some}
+use Rattle.std.specs.Prelude.{IsSome, OnErr, slice_get}
+use Rattle.std.specs.Option.{option_map}
+use Rattle.aoe_base.specs.Faults.{Rose}
+use Rattle.aoe_base.specs.declared.failure.Failed.{Failed}
+use Rattle.aoe_disk.specs.Calls.{Syncs, SyncsTo}
+use Rattle.aoe_disk.specs.Sectors.{Calms}
+use Rattle.aoe_disk.specs.State.{BothTell, Contents, DiskState, is_loose}
+use Rattle.aoe_disk.proofs.Touching.{settles_calm, settles_kept}
+use Rattle.aoe_keep.specs.Found.{AlwaysFinds}
+use Rattle.aoe_keep.specs.Keep.{Kept}
+use Rattle.aoe_mirror.specs.Calls.{Answer, Blames, Copies, Counts, FollowerFailed, LeadFailed, MirrorSyncs}
+use Rattle.aoe_mirror.specs.Marks.{count_of}
+use Rattle.aoe_mirror.specs.Mirror.{Mirrored, Mounts, first_of, pair, second_of, state_of}
+use Rattle.aoe_mirror.specs.Sides.{IsMirror, Pair, both, disk_of, pair_of, seen, shown, side_of}
+use Rattle.aoe_mirror.specs.declared.sides.Sides.{Sides}
+use Rattle.aoe_mirror.proofs.Bits.{count_none}
+use Rattle.aoe_mirror.proofs.Quiet.{calm_then, parts_in}
+use Rattle.aoe_mirror.proofs.Steps.{Holds, counts_then, holds_of, rose_from, synced}
+use Rattle.aoe_mirror.proofs.Surviving.{survives}
+use Rattle.aoe_mirror.proofs.Syncing.{Quiet, blame_follower, blame_lead, same_calm, sync_ok, synced_quiet}
+use Rattle.aoe_mirror.proofs.Told.{told_if, told_mono, told_then, told_to}
+use Rattle.aoe_mirror.proofs.Whole.{seen_at}
+use Rattle.aoe_serve.specs.Exporting.{FindsAll, HasRun, Outside, SyncsSlot, Tells, first_failed}
+use Rattle.aoe_serve.specs.Mirroring.{AreEqual, CopiesAll, EndsMirror, HasFailed, IsBegun, IsMirrored, IsOf, IsSince, LeavesAlone, RanMirror, SideFailed, faults_of, has_ended}
+use Rattle.aoe_serve.specs.Slots.{EachSlot, Slot, slot_of, slots_of}
+use Rattle.aoe_serve.specs.declared.over_mirror.MirrorDisks.{MirrorDisks}
+use Rattle.aoe_serve.specs.declared.over_mirror.MirrorEnd.{MirrorEnd}
+use Rattle.aoe_serve.specs.declared.plan.Plan.{Plan}
+use Rattle.aoe_serve.proofs.EndLemmas.{run_ends}
+use Rattle.aoe_shelf.specs.Calls.{TakesLast}
+use Rattle.aoe_target.specs.Mounted.{Mounted}
+use Rattle.aoe_target.specs.declared.station.Station.{Station}
+
+-- Which side failed.
+
+pub side_failed : (old new : Pair) → old.side ≤ 1 → LeadFailed old new ⊎ FollowerFailed old new → SideFailed old new
+side_failed old new le (inl lead) = elim (cases_eq old.side 1) [
+  | inl one ↦ inr (blame_lead old new 1 le (sym one) lead).1
+  | inr other ↦ inl (blame_lead old new 0 le (omega (arith, other, le)) lead).1
+]
+side_failed old new le (inr follower) = elim (cases_eq old.side 1) [
+  | inl one ↦ inl (blame_follower old new 0 le (omega (arith, one)) follower).1
+  | inr other ↦ inr (blame_follower old new 1 le (omega (arith, other, le)) follower).1
+]
+
+-- a fault of a later part is one of the whole
+pub side_from : (old mid new : Pair) → Counts old mid → Counts mid new → SideFailed mid new → SideFailed old new
+side_from old mid new before after (inl first) =
+    inl (rose_from (disk_of old 0).faults (disk_of mid 0).faults (disk_of new 0).faults (before 0 (omega arith)) (after 0 (omega arith)) first)
+side_from old mid new before after (inr second) =
+    inr (rose_from (disk_of old 1).faults (disk_of mid 1).faults (disk_of new 1).faults (before 1 (omega arith)) (after 1 (omega arith)) second)
+
+-- Copying what is stale.
+
+pub record Copying (old new : Pair) : Type 0 where
+  pub mirror : IsMirror new
+  pub sectors : new.lead.sectors ≡ old.lead.sectors
+  pub calm : BothTell Calms (shown old).contents (shown new).contents
+  pub later : (shown old).faults ≤ (shown new).faults
+  pub side : new.side ≡ old.side
+  pub counts : Counts old new
+
+pub copying_begun : (p : Pair) → IsMirror p → Copying p p
+copying_begun p m = record { mirror = m; sectors = refl; calm = same_calm (shown p); later = omega arith; side = refl; counts = λ k le. omega arith }
+
+pub copying_then : (failed : Bool) (old mid new : Pair) → Copying old mid → Copies failed mid new → Copying old new
+copying_then failed old mid new c s = record {
+  mirror = s.mirror;
+  sectors = s.run.sectors ∙ c.sectors;
+  calm = told_then Calms Calms Calms (shown old).contents (shown mid).contents (shown new).contents c.calm s.calm calm_then;
+  later = let before = c.later in let after = s.run.later in omega (arith, before, after);
+  side = s.side ∙ c.side;
+  counts = counts_then old mid new c.counts s.counts;
+}
+
+pub copied_all : (old new : Pair) → Copying old new → count_of new.stale ≤ 0 → CopiesAll false old new
+copied_all old new c none = record {
+  mirror = c.mirror;
+  sectors = c.sectors;
+  calm = c.calm;
+  later = c.later;
+  side = c.side;
+  counts = c.counts;
+  whole = λ e. omega (arith, none);
+  cause = λ e. cc;
+}
+
+pub copied_part : (old mid new : Pair) → Copying old mid → Copies true mid new → CopiesAll true old new
+copied_part old mid new c s =
+    let t = copying_then true old mid new c s in
+    record {
+      mirror = t.mirror;
+      sectors = t.sectors;
+      calm = t.calm;
+      later = t.later;
+      side = t.side;
+      counts = t.counts;
+      whole = λ e. cc;
+      cause = λ e. side_from old mid new c.counts s.counts (side_failed mid new c.mirror.mark.side (s.cause refl));
+    }
+
+-- Since the disks were handed in.
+
+pub since_then : (faults : ℕ → ℕ) (old new : Pair) → IsMirror new → Counts old new → IsSince faults old → IsSince faults new
+since_then faults old new m counts since = record {
+  mirror = m;
+  counts = λ k le. let before = since.counts k le in let after = counts k le in omega (arith, before, after);
+}
+
+-- the disks by their numbers
+module _ {D : Type 0} (state : D → DiskState) (s : Sides D) (one : s.side ≤ 1) where
+  pub first_side : state (first_of s) ≡ side_of (pair_of state s) 0
+  first_side = elim (cases_eq s.side 1) [
+    | inl is ↦ rw (eq-eqb s.side 1 is, ne_eqb 0 s.side (λ e. absurd (omega (arith, e, is)))) refl
+    | inr other ↦ rw (ne_eqb s.side 1 other, eq-eqb 0 s.side (omega (arith, other, one))) refl
+  ]
+
+  pub second_side : state (second_of s) ≡ side_of (pair_of state s) 1
+  second_side = elim (cases_eq s.side 1) [
+    | inl is ↦ rw (eq-eqb s.side 1 is, eq-eqb 1 s.side (sym is)) refl
+    | inr other ↦ rw (ne_eqb s.side 1 other, ne_eqb 1 s.side (λ e. absurd (other (sym e)))) refl
+  ]
+
+  pub is_of : (disks : MirrorDisks D) → disks.one ≡ first_of s → disks.two ≡ second_of s → disks.mark ≡ s.mark → IsOf state disks (pair_of state s)
+  is_of disks e f g = record { one = ap state e ∙ first_side; two = ap state f ∙ second_side; mark = ap state g }
+
+-- the counts of faults of these disks
+pub counts_of : {D : Type 0} (state : D → DiskState) (disks : MirrorDisks D) (p : Pair) → IsOf state disks p
+    → (k : ℕ) → k ≤ 2 → faults_of state disks k ≡ (disk_of p k).faults
+counts_of state disks p is zero le = ap (λ (d : DiskState). d.faults) is.one
+counts_of state disks p is (suc zero) le = ap (λ (d : DiskState). d.faults) is.two
+counts_of state disks p is (suc (suc zero)) le = ap (λ (d : DiskState). d.faults) is.mark
+counts_of state disks p is (suc (suc (suc k))) le = absurd (omega (arith, le))
+
+mounted_since : {D : Type 0} (state : D → DiskState) (given : MirrorDisks D) (s : Sides D) → Mounts state given.one given.two given.mark s
+    → (k : ℕ) → k ≤ 2 → faults_of state given k ≤ (disk_of (pair_of state s) k).faults
+mounted_since state given s m zero le =
+    let one = ap (λ (d : _). (state d).faults) m.side_one in
+    let same = ap (λ (d : DiskState). d.faults) (first_side state s m.reads.side) in
+    omega (arith, one, same)
+mounted_since state given s m (suc zero) le =
+    let two = ap (λ (d : _). (state d).faults) m.side_two in
+    let same = ap (λ (d : DiskState). d.faults) (second_side state s m.reads.side) in
+    omega (arith, two, same)
+mounted_since state given s m (suc (suc zero)) le = m.reads.run.later
+mounted_since state given s m (suc (suc (suc k))) le = absurd (omega (arith, le))
+
+pub begun_since : {D : Type 0} (state : D → DiskState) (given : MirrorDisks D) (s : Sides D) (failed : Bool) (begun : Pair)
+    → Mounts state given.one given.two given.mark s → CopiesAll failed (pair_of state s) begun → IsSince (faults_of state given) begun
+begun_since state given s failed begun m c = record {
+  mirror = c.mirror;
+  counts = λ k le. let before = mounted_since state given s m k le in let after = c.counts k le in omega (arith, before, after);
+}
+
+-- The last sync.
+
+pub ends_failed : (well : Bool) (failed : Option ℕ) (r : Answer) (old new : Pair) → is_err r ≡ true → MirrorSyncs r old new → OnErr r (IsSome failed)
+    → Blames failed old new → EndsMirror well failed old new
+ends_failed well failed (Ok v) old new bad s some blames = cc
+ends_failed well failed (Err e) old new bad s some blames = record {
+  answer = Err e;
+  told = some;
+  syncs = s.syncs;
+  mirror = s.mirror;
+  counts = s.counts;
+  blames = blames;
+  whole = λ _ none. let no : false ≡ true = rw none at some in cc;
+}
+
+pub ends_synced : (well : Bool) (r : Answer) (old new : Pair) → well ≡ false → is_err r ≡ false → MirrorSyncs r old new → EndsMirror well None old new
+ends_synced well (Err e) old new not ok s = cc
+ends_synced well (Ok v) old new not ok s = record {
+  answer = Ok v;
+  told = refl;
+  syncs = s.syncs;
+  mirror = s.mirror;
+  counts = s.counts;
+  blames = tt;
+  whole = λ is _. absurd (both_ways well not is);
+}
+
+pub ends_copied : (well failed : Bool) (r : Answer) (old mid new : Pair) → IsMirror old → is_err r ≡ false → MirrorSyncs r old mid → CopiesAll failed mid new
+    → EndsMirror well None old new
+ends_copied well failed (Err e) old mid new m ok s c = cc
+ends_copied well failed (Ok v) old mid new m ok s c =
+    let later : (shown old).faults ≤ (shown new).faults = let a = s.syncs.call.later in let b = c.later in omega (arith, a, b) in
+    let calm : BothTell Calms (shown old).contents (shown new).contents = told_then Calms Calms Calms (shown old).contents (shown mid).contents
+    (shown new).contents
+    (told_mono (Syncs {T = Unit {0}} {E = Failed} (Ok v)) Calms (shown old).contents (shown mid).contents s.syncs.contents (λ a b t. settles_calm a b t)) c.calm calm_then in
+    let quiet : IfSome (shown new).contents Quiet = told_if Calms Quiet Quiet (shown mid).contents (shown new).contents c.calm
+    (told_to (Syncs {T = Unit {0}} {E = Failed} (Ok v)) Quiet (shown old).contents (shown mid).contents s.syncs.contents (λ a b t. settles_kept a b t))
+    (λ a b h t k. t.kept k (h k)) in
+    record {
+      answer = Ok v;
+      told = refl;
+      syncs = synced old new m c.mirror (c.sectors ∙ s.syncs.call.sectors) later (Ok v)
+          (sync_ok {T = Unit {0}} {E = Failed} (Ok v) old new m c.mirror refl calm quiet) (λ e. cc);
+      mirror = c.mirror;
+      counts = counts_then old mid new s.counts c.counts;
+      blames = tt;
+      whole = λ _ _. elim (cases_Bool failed) [
+        | inl bad ↦ inr (side_from old mid new s.counts c.counts (c.cause bad))
+        | inr fine ↦ inl (c.whole fine)
+      ];
+    }
+
+-- The only slot of a shelf.
+
+alone : {X : Type 0} (after targets : List X) (t : X) → targets ≡ after ++ t ∷ [] → length targets ≡ 1 → targets ≡ t ∷ []
+alone [] targets t e one = e
+alone (x ∷ after) targets t e one = absurd (omega (arith, ap length e, one, length-append after (t ∷ [])))
+
+pub leaves_alone : {D : Type 0} (given : Mirrored D × Kept D) (targets after : List (Mounted (Mirrored D) D)) → length targets ≡ 1
+    → TakesLast (Some given) targets after → LeavesAlone given.0 given.1 targets
+leaves_alone given targets after one takes = record {
+  target = takes.0;
+  only = alone after targets takes.0 takes.1 one;
+  store = ap (λ (x : _ × _). x.0) takes.2;
+  kept = ap (λ (x : _ × _). x.1) takes.2;
+}
+
+told_first : (unsynced : Option ℕ) (answer : Result (Unit {0}) Failed) → is_some unsynced ≡ is_err answer
+    → option_map (λ _. 0) unsynced ≡ first_failed (answer ∷ [])
+told_first None (Ok v) e = refl
+told_first None (Err f) e = cc
+told_first (Some k) (Ok v) e = cc
+told_first (Some k) (Err f) e = refl
+
+-- R of the only slot
+each_one : (R : ℕ → Slot → Slot → Type 0) (x y : Slot) → R 0 x y → EachSlot R (x ∷ []) (y ∷ [])
+each_one R x y r = record { count = refl; each = at }
+  where
+    at : (i : ℕ) (a b : Slot) → slice_get (x ∷ []) i ≡ Some a → slice_get (y ∷ []) i ≡ Some b → R i a b
+    at zero a b ea eb = subst (λ (s : Slot). R 0 s b) (same_Some x a ea) (subst (λ (s : Slot). R 0 x s) (same_Some y b eb) r)
+    at (suc i) a b ea eb = absurd cc
+
+pub ran_mirror : {D S K L : Type 0} (state : D → DiskState) (name : ℕ → Station) (faults : ℕ → ℕ) (t : Tells S K L) (p : Plan) (e : MirrorEnd)
+    (a b : Outside S K L) (mirror : Mirrored D) (kept : Kept D) (back : MirrorDisks D) (targets targets' : List (Mounted (Mirrored D) D))
+    → targets ≡ record { station = name (state_of state mirror).sectors; keep = kept; store = mirror } ∷ []
+    → HasRun t p e.end a b (slots_of (state_of state) state targets) (slots_of (state_of state) state targets')
+    → (left ended : Mirrored D) (keep : Kept D) → LeavesAlone left keep targets' → IsSince faults (pair state left)
+    → EndsMirror (has_ended e.end) e.unsynced (pair state left) (pair state ended)
+    → IsOf state back (pair state ended) → back.keep ≡ keep.disk
+    → RanMirror state name faults t p e a b (pair state mirror) kept back
+ran_mirror {D} state name faults t p e a b mirror kept back targets targets' seated run left ended keep l since ends disks kept_back =
+    let first : Slot = record { station = name (state_of state mirror).sectors; device = record { lists = kept.lists; keep = state kept.disk; store = state_of state mirror } } in
+    let mid : Slot = slot_of (state_of state) state l.target in
+    let last : Slot = record mid { device = record mid.device { store = shown (pair state ended) } } in
+    let ran : HasRun t p e.end a b (first ∷ []) (mid ∷ []) = rw (seated, l.only) at run in
+    let syncs : SyncsTo ends.answer mid.device.store (shown (pair state ended)) =
+    subst (λ (m : Mirrored D). SyncsTo ends.answer (state_of state m) (shown (pair state ended))) l.store ends.syncs in
+    record {
+      first = first;
+      last = last;
+      station = refl;
+      store = refl;
+      keep = refl;
+      lists = refl;
+      middle = pair state left;
+      since = since;
+      ended = pair state ended;
+      ends = ends;
+      store_back = refl;
+      disks_back = disks;
+      keep_back = ap state kept_back ∙ ap (λ (k : Kept D). state k.disk) l.kept;
+      run = record {
+        middle = mid ∷ [];
+        ran = ran;
+        results = ends.answer ∷ [];
+        synced = record {
+          count = refl;
+          slots = each_one (λ i x y. SyncsSlot (get_or (ends.answer ∷ []) i (Ok tt)) x y) mid last (record { syncs = syncs; rest = refl });
+        };
+        unsynced = told_first e.unsynced ends.answer ends.told;
+      };
+    }
+
+-- Sides that are equal.
+
+swap_equal : (x y : Option Contents) → IfSome (both x y) AreEqual → IfSome (both y x) AreEqual
+swap_equal None None h = tt
+swap_equal None (Some b) h = tt
+swap_equal (Some a) None h = tt
+swap_equal (Some a) (Some b) h = record { same = λ s. sym (h.same s); first = h.second; second = h.first }
+
+equal_if : (p : Pair) (x : Option (Contents × Contents)) → count_of p.stale ≡ 0 → IfSome (option_map (seen p.stale) x) Quiet → IfSome x (Holds p)
+    → IfSome x AreEqual
+equal_if p None whole quiet holds = tt
+equal_if p (Some sides) whole quiet holds =
+    let fresh = λ (s : ℕ). count_none p.stale s whole in
+    let parts = λ (s : ℕ). parts_in (is_loose sides.0.loose s) (is_loose sides.1.loose s) (is_loose p.stale s)
+    (sym (seen_at p.lead.sectors p.stale sides s holds.0) ∙ quiet s) in
+    record {
+      same = λ s. holds.1.same s (fresh s);
+      first = λ s. (parts s).0;
+      second = λ s. elim (parts s).1 [
+        | inl off ↦ off
+        | inr on ↦ absurd (both_ways (is_loose p.stale s) (fresh s) on)
+      ];
+    }
+
+equal_sides : {D : Type 0} (state : D → DiskState) (back : MirrorDisks D) (p : Pair) → IsMirror p → count_of p.stale ≡ 0
+    → IfSome (shown p).contents Quiet → IsOf state back p → IfSome (both (state back.one).contents (state back.two).contents) AreEqual
+equal_sides state back p m whole quiet is =
+    let equal : IfSome (both p.lead.contents p.follower.contents) AreEqual = equal_if p (both p.lead.contents p.follower.contents) whole quiet (holds_of p m) in
+    let so : IfSome (both (side_of p 0).contents (side_of p 1).contents) AreEqual = elim (cases_eq p.side 1) [
+      | inl one ↦ rw (ne_eqb 0 p.side (λ e. absurd (omega (arith, e, one))), eq-eqb 1 p.side (sym one)) (swap_equal p.lead.contents p.follower.contents equal)
+      | inr other ↦ rw (eq-eqb 0 p.side (let le = m.mark.side in omega (arith, other, le)), ne_eqb 1 p.side (λ e. absurd (other (sym e)))) equal
+    ] in
+    rw (is.one, is.two) so
+
+-- A run from the mounting to the giving back.
+
+finds_one : (s : Slot) → AlwaysFinds s.device.keep s.device.lists → FindsAll (s ∷ [])
+finds_one s finds zero x e = subst (λ (y : Slot). AlwaysFinds y.device.keep y.device.lists) (same_Some s x e) finds
+finds_one s finds (suc i) x e = absurd cc
+
+module _ {D : Type 0} (state : D → DiskState) (given back : MirrorDisks D) (middle ended : Pair) (since : IsSince (faults_of state given) middle)
+    (counts : Counts middle ended) (is : IsOf state back ended) where
+  has_failed : (k : ℕ) → k ≤ 2 → Rose (disk_of middle k).faults (disk_of ended k).faults → HasFailed state given back k
+  has_failed k le rose = rw (counts_of state back ended is k le)
+      (rose_from (faults_of state given k) (disk_of middle k).faults (disk_of ended k).faults (since.counts k le) (counts k le) rose)
+
+  blamed_one : (unsynced : Option ℕ) → Blames unsynced middle ended → IfSome unsynced (λ k. (k ≤ 2) × HasFailed state given back k)
+  blamed_one None blames = tt
+  blamed_one (Some k) blames = (blames.0, has_failed k blames.0 blames.1)
+
+  failed_side : SideFailed middle ended → HasFailed state given back 0 ⊎ HasFailed state given back 1
+  failed_side (inl first) = inl (has_failed 0 (omega arith) first)
+  failed_side (inr second) = inr (has_failed 1 (omega arith) second)
+
+no_error : (unsynced : Option ℕ) (b : Bool) → is_some unsynced ≡ b → unsynced ≡ None → b ≡ false
+no_error None b e none = sym e
+no_error (Some k) b e none = cc
+
+pub mirrored : {D S K L : Type 0} (state : D → DiskState) (name : ℕ → Station) (faults : ℕ → ℕ) (t : Tells S K L) (p : Plan) (e : MirrorEnd)
+    (a b : Outside S K L) (given back : MirrorDisks D) (begun : Pair) (kept : Kept D) → faults ≡ faults_of state given → IsBegun state given kept begun
+    → RanMirror state name faults t p e a b begun kept back → IsMirrored state name t p e a b given back
+mirrored {D} state name faults t p e a b given back begun kept same begins r =
+    let since : IsSince (faults_of state given) r.middle = subst (λ (f : ℕ → ℕ). IsSince f r.middle) same r.since in
+    let finds : AlwaysFinds r.first.device.keep r.first.device.lists = rw (r.keep, r.lists) begins.keep.finds in
+    record {
+      first = r.first;
+      last = r.last;
+      over = record {
+        kept = kept;
+        begun = begun;
+        begins = begins;
+        station = r.station;
+        store = r.store;
+        keep = r.keep;
+        lists = r.lists;
+        ended = r.ended;
+        mirror = r.ends.mirror;
+        survives = survives r.ended r.ends.mirror;
+        store_back = r.store_back;
+        disks_back = r.disks_back;
+        keep_back = r.keep_back;
+      };
+      run = r.run;
+      ends = run_ends t p e.end a b (r.first ∷ []) r.run.middle (r.last ∷ []) r.run.results r.run.ran (finds_one r.first finds) r.run.synced;
+      blames = blamed_one state given back r.middle r.ended since r.ends.counts r.disks_back e.unsynced r.ends.blames;
+      equal = λ well none. elim (r.ends.whole well none) [
+        | inl whole ↦ inl (equal_sides state back r.ended r.ends.mirror whole
+            (synced_quiet r.ends.answer (shown r.middle) (shown r.ended) (no_error e.unsynced (is_err r.ends.answer) r.ends.told none) r.ends.syncs) r.disks_back)
+        | inr side ↦ inr (failed_side state given back r.middle r.ended since r.ends.counts r.disks_back side)
+      ];
+    }

@@ -1,0 +1,20 @@
+use Rattle.aoe_mirror.specs.Mirror.{pair}
+use Rattle.aoe_serve.specs.Files.{named}
+use Rattle.aoe_serve.specs.Mirroring.{IsOf}
+use Rattle.aoe_serve.specs.declared.over_mirror.MirrorDisks.{MirrorDisks}
+use Rattle.aoe_serve.specs.declared.over_mirror.MirrorEnd.{MirrorEnd}
+use Rattle.aoe_serve.proofs.MirrorLemmas.{is_of, ran_mirror}
+use Rattle.aoe_serve.proofs.over_mirror.run_over.Goals as goal
+
+pub returns-clause-ran : goal.returns-clause-ran
+returns-clause-ran g c =
+    let state = g.D.Disk.state in
+    let shelf = c.args.shelf.now in
+    let ended = c.finish-unsynced.new.mirror in
+    let end : MirrorEnd = record { end = c.run-end.result; unsynced = c.finish-unsynced.result } in
+    let back : MirrorDisks g.row.D.Denot = record { one = c.close-one.result.0; two = c.close-one.result.1; mark = c.close-one.result.2; keep = c.close.result } in
+    let of : IsOf state back (pair state ended) =
+    is_of state ended.sides c.finish-unsynced.ensures.mirror.mark.side back c.close-one.ensures.one c.close-one.ensures.two c.close-one.ensures.mark in
+    ran_mirror state (named shelf.major shelf.ports shelf.mtu c.args.minor) g.G.Given.faults _ c.args.plan end _ _ c.args.mirror c.args.keep back
+    c.seat.new.shelf.targets c.run-end.new.shelf.targets c.seat.ensures.targets c.run-end.ensures.run c.leave-mirror.result.0 ended c.leave-mirror.result.1
+    c.leave-mirror.ensures.leaves c.leave-mirror.ensures.since (rw c.has_ended.ensures at c.finish-unsynced.ensures) of c.close.ensures

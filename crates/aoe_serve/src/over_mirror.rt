@@ -1,0 +1,390 @@
+//! The call that exports a mirror.
+ghost use Rattle.std.specs.Prelude.{◌≡◌, ◌≤◌, ◌<◌, ◌+◌, ◌/◌, [], ◌∷◌, ℕ, IfErr, IfOk, IfSome, IsSome, None, OnErr, false, is_err, length, true};
+ghost use Rattle.aoe_base.specs.Faults.{Blamed};
+ghost use Rattle.aoe_mirror.specs.Mirror.{pair, state_of};
+ghost use Rattle.aoe_mirror.specs.Sides.{IsMirror};
+ghost use Rattle.aoe_serve.specs.Exporting.{AtFirst, CanExport, is_served};
+ghost use Rattle.aoe_serve.specs.Files.{named};
+ghost use Rattle.aoe_serve.specs.Mirroring.{CopiesAll, EndedAs, EndsMirror, IsBegun, IsMirrored, IsSince, LeavesAlone, RanMirror, Stops, faults_of, has_ended};
+
+use crate::run::run;
+use crate::{AnswerEnd, Plan, Rack, RunEnd, ServeEnd};
+use aoe_base::{Failed, NoMemory};
+use aoe_disk::Disk;
+use aoe_io::{Link, Sink, Source};
+use aoe_keep::{Keep, MountRefusal};
+use aoe_mirror::{Mirror, MirrorRefusal};
+use aoe_shelf::Shelf;
+use aoe_store::Store;
+use std::alloc::Global;
+use std::marker::{Brand, Model, PhantomData};
+use thiserror::Error;
+
+/// The disks of a mirror: its sides 0 and 1, the one that says which side leads, and the keep of the
+/// slot.
+#[derive(Drop)]
+pub struct MirrorDisks<D> {
+    pub one: D,
+    pub two: D,
+    pub mark: D,
+    pub keep: D,
+}
+
+/// How a run over a mirror ended.
+#[derive(Clone, Copy, Debug, PartialEq, Eq)]
+pub struct MirrorEnd {
+    pub end: RunEnd,
+
+    /// Where the last sync failed, the lowest disk that failed in it: side 0, side 1, or 2 for the
+    /// mark disk.
+    pub unsynced: Option<u8>,
+}
+
+/// Why nothing was run over a mirror.
+#[derive(Clone, Copy, Debug, PartialEq, Eq, Error)]
+pub enum MirrorStop {
+    #[error("no memory")]
+    NoMemory,
+
+    /// The keep wasn't mounted.
+    #[error("keep: {0}")]
+    Keep(MountRefusal),
+
+    /// The disks weren't mounted as a mirror.
+    #[error("{0}")]
+    Mirror(MirrorRefusal),
+}
+
+/// The counts of faults of a mirror's disks when they were handed in.
+pub(crate) trait Given {
+    ghost faults: { ℕ → ℕ };
+}
+
+impl Given for Brand {
+    ghost faults = { λ disk. 0 };
+}
+
+/// A mirror of disks that were handed in with the counts of faults that `G` says.
+#[derive(Drop)]
+pub(crate) struct Counted<D: Disk, G: Given> {
+    mirror: Mirror<D>,
+    given: PhantomData<G>,
+}
+
+impl<D: Disk, G: Given> Model for Counted<D, G> {
+    ghost use Rattle.aoe_mirror.specs.Mirror.{Mirrored, pair};
+    ghost use Rattle.aoe_serve.specs.Mirroring.{IsSince};
+
+    ghost Value = { Mirrored D };
+
+    ghost view = { λ c. c.mirror };
+
+    ghost invariant = { λ c. IsSince G.faults (pair D.state c.mirror) };
+}
+
+impl<D: Disk, G: Given> Counted<D, G> {
+    fn new(mirror: Mirror<D>) -> Self
+        requires { IsSince G.faults (pair D.state mirror) }
+        ensures { result ≡ mirror }
+    {
+        Counted {
+            mirror,
+            given: PhantomData,
+        }
+    }
+
+    fn close(self) -> Mirror<D>
+        ensures mirror { result ≡ self }
+        ensures since { IsSince G.faults (pair D.state result) }
+    {
+        self.mirror
+    }
+}
+
+impl<D: Disk, G: Given> Store for Counted<D, G> {
+    ghost use Rattle.std.specs.Prelude.{None};
+    ghost use Rattle.aoe_mirror.specs.Mirror.{state_of};
+
+    ghost state = { λ s. state_of D.state s };
+
+    ghost under = { λ s. None };
+
+    fn sectors(&self) -> u64 {
+        self.mirror.sectors()
+    }
+
+    fn read(&mut self, at: u64, out: &mut [u8]) -> Result<(), Failed> {
+        self.mirror.read(at, out)
+    }
+
+    fn write(&mut self, at: u64, piece: &[u8]) -> Result<(), Failed> {
+        self.mirror.write(at, piece)
+    }
+
+    fn sync(&mut self) -> Result<(), Failed> {
+        self.mirror.sync()
+    }
+}
+
+/// Copies stale sectors until none is left, or until a copy fails.
+fn copy_stale<D: Disk>(mirror: &mut Mirror<D>) -> Result<(), Failed>
+    requires { IsMirror (pair D.state mirror.old) }
+    ensures copies { CopiesAll (is_err result) (pair D.state mirror.old) (pair D.state mirror.new) }
+{
+    'runs: while mirror.stale() > 0 {
+        if let Err(Failed) = mirror.resync() {
+            return Err(Failed);
+        }
+    }
+    Ok(())
+}
+
+/// Mounts the keep, and then the mirror, whose stale sectors are copied as far as that goes. Where one
+/// of them isn't mounted the disks are given back.
+fn mount<D: Disk>(
+    alloc: Global,
+    disks: MirrorDisks<D>,
+) -> Result<(Mirror<D>, Keep<D>), (MirrorStop, MirrorDisks<D>)>
+    ensures begun { IfOk result (λ r. IsBegun D.state disks r.1 (pair D.state r.0)) }
+    ensures since { IfOk result (λ r. IsSince (faults_of D.state disks) (pair D.state r.0)) }
+    ensures stopped { IfErr result (λ e. Stops D.state e.0 disks e.1) }
+{
+    let MirrorDisks {
+        one,
+        two,
+        mark,
+        keep,
+    } = disks;
+    let keep = match Keep::mount(keep) {
+        Ok(keep) => keep,
+        Err((refusal, keep)) => {
+            return Err((
+                MirrorStop::Keep(refusal),
+                MirrorDisks {
+                    one,
+                    two,
+                    mark,
+                    keep,
+                },
+            ));
+        }
+    };
+    let mut mirror = match Mirror::mount(alloc, one, two, mark) {
+        Ok(mirror) => mirror,
+        Err((refusal, one, two, mark)) => {
+            let keep = keep.close();
+            return Err((
+                MirrorStop::Mirror(refusal),
+                MirrorDisks {
+                    one,
+                    two,
+                    mark,
+                    keep,
+                },
+            ));
+        }
+    };
+    let _ = copy_stale(&mut mirror);
+    Ok((mirror, keep))
+}
+
+/// Whether the frames ended, and nothing failed.
+fn has_ended(end: RunEnd) -> bool
+    ensures { result ≡ has_ended end }
+{
+    matches!(
+        end,
+        RunEnd::Answered(AnswerEnd::Ended) | RunEnd::Served(ServeEnd::Ended)
+    )
+}
+
+/// Syncs a mirror at the end of a run, and copies what is stale then, where the run ended well. The
+/// lowest disk is told that failed in the sync, where the sync failed.
+fn finish<D: Disk>(mirror: &mut Mirror<D>, well: bool) -> Option<u8>
+    requires { IsMirror (pair D.state mirror.old) }
+    ensures { EndsMirror well result (pair D.state mirror.old) (pair D.state mirror.new) }
+{
+    if let Err(Failed) = mirror.sync() {
+        return mirror.failed();
+    }
+    if well {
+        let _ = copy_stale(mirror);
+    }
+    None
+}
+
+/// Adds a mirror and its keep as the only slot of a shelf.
+fn seat<D: Disk + Drop, G: Given>(
+    shelf: &mut Shelf<Counted<D, G>, D>,
+    minor: u8,
+    mirror: Mirror<D>,
+    keep: Keep<D>,
+)
+    requires empty { shelf.old.targets ≡ [] }
+    requires minor { minor < 255 }
+    requires since { IsSince G.faults (pair D.state mirror) }
+    ensures targets { shelf.new.targets ≡ record {
+      station = named shelf.old.major shelf.old.ports shelf.old.mtu minor (state_of D.state mirror).sectors;
+      keep = keep;
+      store = mirror;
+    } ∷ [] }
+    ensures rest { shelf.new ≡ record shelf.old { targets = shelf.new.targets } }
+{
+    match shelf.add(minor, Counted::new(mirror), keep) {
+        Ok(()) => {}
+        Err(_) => unreachable!(),
+    }
+}
+
+/// Takes the only slot of a shelf, and gives its mirror and its keep.
+fn leave<D: Disk + Drop, G: Given>(shelf: &mut Shelf<Counted<D, G>, D>) -> (Mirror<D>, Keep<D>)
+    requires { length shelf.old.targets ≡ 1 }
+    ensures leaves { LeavesAlone result.0 result.1 shelf.old.targets }
+    ensures since { IsSince G.faults (pair D.state result.0) }
+{
+    let Some((store, keep)) = shelf.take_last() else {
+        unreachable!()
+    };
+    (store.close(), keep)
+}
+
+/// Runs the plan over a mirror and its keep as the only slot of a shelf, and gives their disks.
+fn run_over<D: Disk + Drop, G: Given, S: Source, K: Sink, L: Link>(
+    shelf: &mut Shelf<Counted<D, G>, D>,
+    minor: u8,
+    plan: Plan,
+    source: &mut S,
+    sink: &mut K,
+    mirror: Mirror<D>,
+    keep: Keep<D>,
+    links: &mut [L],
+) -> (MirrorEnd, MirrorDisks<D>)
+    requires empty { shelf.old.targets ≡ [] }
+    requires minor { minor < 255 }
+    requires link { is_served plan ≡ true → 0 < length links.old }
+    requires since { IsSince G.faults (pair D.state mirror) }
+    ensures ran { RanMirror D.state (named shelf.old.major shelf.old.ports shelf.old.mtu minor) G.faults
+        record { left = S.left; held = K.held; turns = L.turns; given = L.given; taken = L.taken } plan result.0
+        record { source = source.old; sink = sink.old; links = links.old } record { source = source.new; sink = sink.new; links = links.new }
+        (pair D.state mirror) keep result.1 }
+    ensures source_count { S.faults source.old ≤ S.faults source.new }
+    ensures sink_count { K.faults sink.old ≤ K.faults sink.new }
+    ensures link_count { AtFirst (λ a b. L.faults a ≤ L.faults b) links.old links.new }
+    ensures source_blame { Blamed (result.0.end ≡ RunEnd.Answered AnswerEnd.SourceFault)
+        (S.faults source.old) (S.faults source.new) }
+    ensures sink_blame { Blamed (result.0.end ≡ RunEnd.Answered AnswerEnd.SinkFault)
+        (K.faults sink.old) (K.faults sink.new) }
+    ensures link_blame { AtFirst (λ a b. Blamed (result.0.end ≡ RunEnd.Served ServeEnd.LinkFault)
+        (L.faults a) (L.faults b)) links.old links.new }
+{
+    seat(shelf, minor, mirror, keep);
+    let end = run(shelf, plan, source, sink, links);
+    let (mut mirror, keep) = leave(shelf);
+    let unsynced = finish(&mut mirror, has_ended(end));
+    let (one, two, mark) = mirror.close();
+    let disks = MirrorDisks {
+        one,
+        two,
+        mark,
+        keep: keep.close(),
+    };
+    (MirrorEnd { end, unsynced }, disks)
+}
+
+/// Exports a mirror of two disks as the only slot of a shelf, for one run.
+///
+/// The keep is mounted, and then the mirror (`aoe_mirror`), whose stale sectors are copied until none
+/// is left or a copy fails. Where one of the two isn't mounted, nothing is read or sent. Else the plan
+/// is run over the slot, and the mirror is synced, however the run ended. Where that and the run went
+/// well, what is stale then is copied, too. Each disk is given back, also where nothing was run.
+///
+/// A mirror holds nothing back, so `rack.cache` is 0.
+pub fn export_mirror<D: Disk + Drop, S: Source, K: Sink, L: Link>(
+    alloc: Global,
+    rack: Rack,
+    plan: Plan,
+    source: &mut S,
+    sink: &mut K,
+    disks: MirrorDisks<D>,
+    links: &mut [L],
+) -> (Result<MirrorEnd, MirrorStop>, MirrorDisks<D>)
+    requires possible { CanExport rack plan 2 (length links.old) }
+    requires through { rack.cache ≡ 0 }
+    ensures ran { IfOk result.0 (λ e. IsMirrored D.state (named rack.first.major rack.ports.items rack.mtu rack.first.minor)
+        record { left = S.left; held = K.held; turns = L.turns; given = L.given; taken = L.taken } plan e
+        record { source = source.old; sink = sink.old; links = links.old } record { source = source.new; sink = sink.new; links = links.new }
+        disks result.1) }
+    ensures stopped { IfErr result.0 (λ why. Stops D.state why disks result.1) }
+    ensures source { OnErr result.0 (source.new ≡ source.old) }
+    ensures sink { OnErr result.0 (sink.new ≡ sink.old) }
+    ensures links { OnErr result.0 (links.new ≡ links.old) }
+    ensures source_count { S.faults source.old ≤ S.faults source.new }
+    ensures sink_count { K.faults sink.old ≤ K.faults sink.new }
+    ensures link_count { AtFirst (λ a b. L.faults a ≤ L.faults b) links.old links.new }
+    ensures source_blame { Blamed (EndedAs result.0 (RunEnd.Answered AnswerEnd.SourceFault))
+        (S.faults source.old) (S.faults source.new) }
+    ensures sink_blame { Blamed (EndedAs result.0 (RunEnd.Answered AnswerEnd.SinkFault))
+        (K.faults sink.old) (K.faults sink.new) }
+    ensures link_blame { AtFirst (λ a b. Blamed (EndedAs result.0 (RunEnd.Served ServeEnd.LinkFault))
+        (L.faults a) (L.faults b)) links.old links.new }
+{
+    mirror_at::<Brand, D, S, K, L>(alloc, rack, plan, source, sink, disks, links)
+}
+
+/// The same, where `G` says how many faults the disks had.
+fn mirror_at<G: Given, D: Disk + Drop, S: Source, K: Sink, L: Link>(
+    alloc: Global,
+    rack: Rack,
+    plan: Plan,
+    source: &mut S,
+    sink: &mut K,
+    disks: MirrorDisks<D>,
+    links: &mut [L],
+) -> (Result<MirrorEnd, MirrorStop>, MirrorDisks<D>)
+    requires faults { G.faults ≡ faults_of D.state disks }
+    requires possible { CanExport rack plan 2 (length links.old) }
+    ensures ran { IfOk result.0 (λ e. IsMirrored D.state (named rack.first.major rack.ports.items rack.mtu rack.first.minor)
+        record { left = S.left; held = K.held; turns = L.turns; given = L.given; taken = L.taken } plan e
+        record { source = source.old; sink = sink.old; links = links.old } record { source = source.new; sink = sink.new; links = links.new }
+        disks result.1) }
+    ensures stopped { IfErr result.0 (λ why. Stops D.state why disks result.1) }
+    ensures source { OnErr result.0 (source.new ≡ source.old) }
+    ensures sink { OnErr result.0 (sink.new ≡ sink.old) }
+    ensures links { OnErr result.0 (links.new ≡ links.old) }
+    ensures source_count { S.faults source.old ≤ S.faults source.new }
+    ensures sink_count { K.faults sink.old ≤ K.faults sink.new }
+    ensures link_count { AtFirst (λ a b. L.faults a ≤ L.faults b) links.old links.new }
+    ensures source_blame { Blamed (EndedAs result.0 (RunEnd.Answered AnswerEnd.SourceFault))
+        (S.faults source.old) (S.faults source.new) }
+    ensures sink_blame { Blamed (EndedAs result.0 (RunEnd.Answered AnswerEnd.SinkFault))
+        (K.faults sink.old) (K.faults sink.new) }
+    ensures link_blame { AtFirst (λ a b. Blamed (EndedAs result.0 (RunEnd.Served ServeEnd.LinkFault))
+        (L.faults a) (L.faults b)) links.old links.new }
+{
+    let Rack {
+        first,
+        ports,
+        mtu,
+        cache: _,
+    } = rack;
+    let mut shelf: Shelf<Counted<D, G>, D> = match Shelf::new(alloc, first.major, ports, mtu) {
+        Ok(shelf) => shelf,
+        Err(NoMemory) => return (Err(MirrorStop::NoMemory), disks),
+    };
+    match mount(alloc, disks) {
+        Ok((mirror, keep)) => {
+            let (end, disks) = run_over(
+                &mut shelf,
+                first.minor,
+                plan,
+                source,
+                sink,
+                mirror,
+                keep,
+                links,
+            );
+            (Ok(end), disks)
+        }
+        Err((why, disks)) => (Err(why), disks),
+    }
+}

@@ -1,0 +1,172 @@
+//! A UDP socket as a medium. It tells nothing of what it gives and takes.
+ghost use Rattle.std.specs.Prelude.{◌≡◌, ◌==◌, ◌≤◌, ◌<◌, None, Some, Err, true, false, IfOk, IfSome, OnOk, length};
+ghost use Rattle.std.proofs.Props.{props};
+ghost use Rattle.std.specs.List.{slice_split};
+ghost use Rattle.aoe_udp.specs.Addresses.{ArePeers, IsAddress};
+ghost use Rattle.aoe_udp.specs.Vxlan.{frame_of};
+
+use crate::address::{read_address, read_peers};
+use crate::errors::{OpenRefusal, Trouble, given_of, refusal, trouble_of};
+use crate::vxlan::{HEAD_LEN, LAST_VNI, frame_of, wrap};
+use aoe_base::NoMemory;
+use aoe_frame::{Frame, MAX_FRAME, refill};
+use aoe_wire::{Given, Medium, Taken, time_of};
+use std::alloc::Global;
+use std::io;
+use std::net::{SocketAddr, UdpSocket};
+use std::time::Duration;
+
+/// How long a call waits for a frame, in milliseconds.
+const SILENCE: u64 = 10;
+
+/// The room for a datagram: one byte more than the longest frame behind a header, so that a longer
+/// one is seen.
+const ROOM: usize = HEAD_LEN + MAX_FRAME + 1;
+
+/// A UDP socket, each of whose datagrams brings a frame, and the addresses that each sent frame goes
+/// to. A frame may come from any address.
+#[derive(Drop)]
+pub struct UdpMedium {
+    rt: HostRuntime,
+    socket: UdpSocket,
+    peers: Vec<SocketAddr>,
+
+    /// The number of the network, where frames stand behind the header of VXLAN.
+    vxlan: Option<u32>,
+
+    coming: Vec<u8>,
+    going: Vec<u8>,
+    ghost network: { IfSome vxlan (λ vni. vni ≤ 16777215) } by { Prim.hlevel props },
+}
+
+/// Makes `out` the frame that a datagram brings, where it brings one.
+fn hand_over(vxlan: Option<u32>, datagram: &[u8], out: &mut Frame) -> bool
+    ensures came { result ≡ true → frame_of vxlan datagram.now ≡ Some out.new.items }
+    ensures dropped { result ≡ false → frame_of vxlan datagram.now ≡ None }
+{
+    match frame_of(vxlan, datagram) {
+        Some(frame) => {
+            refill(out, frame);
+            true
+        }
+        None => false,
+    }
+}
+
+/// Whether the number of a network has no more than 24 bits, where there is one.
+fn is_network(vxlan: Option<u32>) -> bool
+    ensures few { result ≡ true → IfSome vxlan (λ vni. vni ≤ 16777215) }
+    ensures more { result ≡ false → IfSome vxlan (λ vni. 16777215 < vni) }
+{
+    match vxlan {
+        Some(vni) => vni <= LAST_VNI,
+        None => true,
+    }
+}
+
+/// A socket at an address, each call of which waits so long.
+fn bind(rt: &HostRuntime, local: SocketAddr) -> io::Result<UdpSocket> {
+    let socket = UdpSocket::bind(rt, local)?;
+    socket.set_read_timeout(Some(Duration::from_millis(SILENCE)))?;
+    Ok(socket)
+}
+
+impl UdpMedium {
+    /// Binds the local address and sends to the peers: texts `address:port`, those of the peers
+    /// joined by commas. The texts of the peers are read first, once the number of the network
+    /// is one. With that number frames stand behind the header of VXLAN.
+    pub fn open(
+        rt: &HostRuntime,
+        alloc: Global,
+        local: &[u8],
+        peers: &[u8],
+        vxlan: Option<u32>,
+    ) -> Result<UdpMedium, OpenRefusal>
+        ensures local { OnOk result (IsAddress local.now) }
+        ensures peers { OnOk result (ArePeers peers.now) }
+        ensures each { IfOk result (λ medium. length medium.peers.items
+            ≡ length (slice_split (λ c. c == 44) peers.now)) }
+        ensures vxlan { IfOk result (λ medium. medium.vxlan ≡ vxlan) }
+        ensures bad_vxlan { result ≡ Err OpenRefusal.Vxlan → IfSome vxlan (λ vni. 16777215 < vni) }
+        ensures bad_local { result ≡ Err OpenRefusal.Local → ArePeers peers.now }
+        ensures bad_peers { result ≡ Err OpenRefusal.Peers → ¬ ArePeers peers.now }
+        ensures no_memory { result ≡ Err OpenRefusal.NoMemory → ArePeers peers.now }
+    {
+        if !is_network(vxlan) {
+            return Err(OpenRefusal::Vxlan);
+        }
+        let peers = read_peers(alloc, peers)?;
+        let Some(local) = read_address(local) else {
+            return Err(OpenRefusal::Local);
+        };
+        let socket = match bind(rt, local) {
+            Ok(socket) => socket,
+            Err(error) => return Err(refusal(&error)),
+        };
+        let (Ok(coming), Ok(going)) = (vec![in alloc; 0u8; ROOM], Vec::with_capacity(alloc, ROOM))
+        else {
+            return Err(OpenRefusal::NoMemory);
+        };
+        Ok(UdpMedium {
+            rt: *rt,
+            socket,
+            peers,
+            vxlan,
+            coming,
+            going,
+        })
+    }
+
+    /// How many peers there are.
+    pub fn peers(&self) -> usize
+        ensures { result ≡ length self.now.peers.items }
+    {
+        self.peers.len()
+    }
+
+    /// That something was dropped now.
+    fn dropped(&self) -> Taken {
+        Taken::Dropped(time_of(&self.rt))
+    }
+
+    /// Sends a datagram to an address. It may be lost.
+    fn send(&self, datagram: &[u8], address: SocketAddr) -> Given {
+        match self.socket.send_to(datagram, address) {
+            Ok(_) => Given::Sent,
+            Err(error) => given_of(&error),
+        }
+    }
+}
+
+impl Medium for UdpMedium {
+    ghost takings = { λ _. None };
+
+    ghost givings = { λ _. None };
+
+    fn take(&mut self, out: &mut Frame) -> Taken {
+        match self.socket.recv(self.coming.as_mut_slice()) {
+            Ok(count) if hand_over(self.vxlan, &self.coming[..count], out) => Taken::Frame,
+            Ok(_) => self.dropped(),
+            Err(error) => match trouble_of(error.kind()) {
+                Trouble::Silence => Taken::Silence,
+                Trouble::Interrupted | Trouble::Lost => self.dropped(),
+                Trouble::Fault => Taken::Fault,
+            },
+        }
+    }
+
+    /// A peer that there is none of gets nothing.
+    fn give(&mut self, peer: usize, frame: &[u8]) -> Given {
+        let Some(address) = self.peers.get(peer) else {
+            return Given::Lost;
+        };
+        let address = *address;
+        match self.vxlan {
+            None => self.send(frame, address),
+            Some(vni) => match wrap(&mut self.going, vni, frame) {
+                Ok(()) => self.send(self.going.as_slice(), address),
+                Err(NoMemory) => Given::Lost,
+            },
+        }
+    }
+}
