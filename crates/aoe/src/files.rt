@@ -5,6 +5,7 @@ ghost use Rattle.aoe_base.specs.Faults.{Rose};
 ghost use Rattle.aoe_disk.specs.Calls.{IsRange};
 ghost use Rattle.aoe_disk.specs.State.{DiskState};
 
+use crate::progress::Progress;
 use aoe_base::{Failed, SECTOR_LEN};
 use aoe_disk::Disk;
 use aoe_keep::{KEEP_SECTORS, may_hold_keep};
@@ -86,6 +87,9 @@ pub struct FileDisk {
     /// A sync failed. Linux then takes what it couldn't write for written: the next sync would be Ok
     /// without it, and a read may find what stood there before. So each later call fails.
     is_lost: bool,
+
+    /// Where the copying of a mirror to this side is shown.
+    progress: Option<Progress>,
     ghost bounded: { sectors ≤ 2 ^ 40 },
 }
 
@@ -109,7 +113,30 @@ impl FileDisk {
             sectors: sectors.min(MAX_SECTORS),
             faults: 0,
             is_lost: false,
+            progress: None,
         })
+    }
+
+    /// Shows how far the copying of a mirror to this disk is, where standard error is a terminal.
+    pub fn show_copying(&mut self, rt: &HostRuntime)
+        ensures sectors { self.new.sectors ≡ self.old.sectors }
+        ensures faults { self.new.faults ≡ self.old.faults }
+        ensures lost { self.new.is_lost ≡ self.old.is_lost }
+    {
+        self.progress = Progress::on_terminal(rt);
+    }
+
+    /// A call that isn't one of the copying, or its last one: nothing is shown any more.
+    #[cold]
+    #[inline(never)]
+    fn end_progress(&mut self)
+        ensures sectors { self.new.sectors ≡ self.old.sectors }
+        ensures faults { self.new.faults ≡ self.old.faults }
+        ensures lost { self.new.is_lost ≡ self.old.is_lost }
+    {
+        if let Some(progress) = self.progress.take() {
+            progress.close(self.sectors);
+        }
     }
 
     /// Why the file isn't taken for a keep, where it isn't. A keep's first change would destroy what
@@ -230,6 +257,11 @@ impl Disk for FileDisk {
         if self.is_lost {
             return Err(self.fail());
         }
+        if let Some(progress) = &mut self.progress
+            && !progress.goes_on(at, piece)
+        {
+            self.end_progress();
+        }
         let offset = at * SECTOR_LEN as u64;
         match self.file.write_at(piece, offset) {
             Ok(n) if n == piece.len() => Ok(()),
@@ -251,6 +283,11 @@ impl Disk for FileDisk {
         }
         let answer = self.file.sync_data();
         self.is_lost = answer.is_err();
+        if let Some(progress) = &mut self.progress
+            && (self.is_lost || !progress.is_synced(self.sectors))
+        {
+            self.end_progress();
+        }
         self.told(answer)
     }
 }

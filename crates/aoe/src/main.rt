@@ -6,8 +6,8 @@
 //!
 //! `aoe` (`top`, with `plan`, `mirror`, `tools`, `live` and `switch`) opens nothing and says no status; its contract is what
 //! the program promises. What a file, a socket, a stream and a clock do is in adapters (`files`,
-//! `wire`, `until`, `streams`, `clock`), which tell the proofs nothing of content. The program catches no signal
-//! and starts no thread.
+//! `wire`, `until`, `streams`, `clock`), which tell the proofs nothing of content; `progress` shows how far a
+//! mirror's start is. The program catches no signal and starts no thread.
 #![tactic(auto)]
 
 ghost use Rattle.std.specs.Prelude.{◌≡◌, ◌==◌, All, IfOk, IsSome, length, map, string_bytes};
@@ -19,6 +19,7 @@ mod files;
 mod live;
 mod mirror;
 mod plan;
+mod progress;
 mod status;
 mod streams;
 mod switch;
@@ -152,6 +153,19 @@ fn look_at_keeps(
         }
     }
     Ok(())
+}
+
+/// Shows how far the copying between a mirror's sides is, which are its first two files.
+fn show_copying(rt: &HostRuntime, disks: &mut [Option<FileDisk>])
+    requires { All IsSome disks.old }
+    ensures there { All IsSome disks.new }
+    ensures count { length disks.new ≡ length disks.old }
+{
+    'sides: for disk in disks.iter_mut().take(2) {
+        if let Some(disk) = disk {
+            disk.show_copying(rt);
+        }
+    }
 }
 
 /// Opens a link over UDP; the exit status where it can't be opened, which is said.
@@ -303,6 +317,9 @@ fn run_named(
         Ok(links) => links,
         Err(code) => return code,
     };
+    if is_mirror {
+        show_copying(rt, disks.as_mut_slice());
+    }
     let status = run_over(rt, words, disks.as_mut_slice(), links.as_mut_slice());
     tell_offloaded(rt, links.as_slice());
     tell(rt, status)
