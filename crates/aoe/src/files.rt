@@ -5,6 +5,7 @@ ghost use Rattle.aoe_base.specs.Faults.{Rose};
 ghost use Rattle.aoe_disk.specs.Calls.{IsRange};
 ghost use Rattle.aoe_disk.specs.State.{DiskState};
 
+use crate::log::FileLog;
 use crate::progress::Progress;
 use aoe_base::{Failed, SECTOR_LEN};
 use aoe_disk::Disk;
@@ -22,10 +23,10 @@ const MAX_SECTORS: u64 = 1 << 40;
 const KEEP_LEN: usize = 8192;
 
 /// Why a file can't be a disk.
-#[derive(Clone, Copy)]
+#[derive(Drop)]
 pub enum FileRefusal {
     /// It can't be opened for reading and writing, or doesn't tell its size.
-    Unopened,
+    Unopened(io::Error),
 
     /// It is neither a file nor a block device.
     Kind,
@@ -48,8 +49,8 @@ pub enum KeepDoubt {
 }
 
 impl From<io::Error> for FileRefusal {
-    fn from(_: io::Error) -> FileRefusal {
-        FileRefusal::Unopened
+    fn from(error: io::Error) -> FileRefusal {
+        FileRefusal::Unopened(error)
     }
 }
 
@@ -57,7 +58,7 @@ impl From<TryLockError> for FileRefusal {
     fn from(error: TryLockError) -> FileRefusal {
         match error {
             TryLockError::WouldBlock => FileRefusal::InUse,
-            TryLockError::Error(_) => FileRefusal::Unopened,
+            TryLockError::Error(error) => FileRefusal::Unopened(error),
         }
     }
 }
@@ -90,6 +91,9 @@ pub struct FileDisk {
 
     /// Where the copying of a mirror to this side is shown.
     progress: Option<Progress>,
+
+    /// Where each failed call is said.
+    log: Option<FileLog>,
     ghost bounded: { sectors ≤ 2 ^ 40 },
 }
 
@@ -114,7 +118,24 @@ impl FileDisk {
             faults: 0,
             is_lost: false,
             progress: None,
+            log: None,
         })
+    }
+
+    /// Says each failed call from now on.
+    pub fn log_to(&mut self, log: FileLog)
+        ensures sectors { self.new.sectors ≡ self.old.sectors }
+        ensures faults { self.new.faults ≡ self.old.faults }
+        ensures lost { self.new.is_lost ≡ self.old.is_lost }
+    {
+        self.log = Some(log);
+    }
+
+    /// How many calls failed, up to the greatest u64.
+    pub fn faults(&self) -> u64
+        ensures { result ≡ self.now.faults }
+    {
+        self.faults
     }
 
     /// Shows how far the copying of a mirror to this disk is, where standard error is a terminal.
@@ -154,21 +175,24 @@ impl FileDisk {
         }
     }
 
-    /// Counts a failed call.
+    /// Counts a failed call, with the system's reason where it was made, and says it.
     #[cold]
     #[inline(never)]
-    fn fail(&mut self) -> Failed
+    fn fail(&mut self, call: &str, why: Option<&io::Error>) -> Failed
         ensures cause { Rose self.old.faults self.new.faults }
         ensures count { self.old.faults ≤ self.new.faults }
         ensures sectors { self.new.sectors ≡ self.old.sectors }
         ensures lost { self.new.is_lost ≡ self.old.is_lost }
     {
         self.faults = self.faults.saturating_add(1);
+        if let Some(log) = &self.log {
+            log.say(call, why);
+        }
         Failed
     }
 
     /// What a call of the file answered, whose failure is counted.
-    fn told(&mut self, answer: io::Result<()>) -> Result<(), Failed>
+    fn told(&mut self, call: &str, answer: io::Result<()>) -> Result<(), Failed>
         ensures told { is_ok result ≡ is_ok answer }
         ensures cause { OnErr result (Rose self.old.faults self.new.faults) }
         ensures count { self.old.faults ≤ self.new.faults }
@@ -177,7 +201,7 @@ impl FileDisk {
     {
         match answer {
             Ok(()) => Ok(()),
-            Err(_) => Err(self.fail()),
+            Err(error) => Err(self.fail(call, Some(&error))),
         }
     }
 
@@ -197,7 +221,7 @@ impl FileDisk {
         let answer = self
             .file
             .read_exact_at(&mut out[done..], offset + done as u64);
-        self.told(answer)
+        self.told("a read", answer)
     }
 
     /// Writes what a call left, of which the front `done` bytes were written. It stands apart as
@@ -213,7 +237,7 @@ impl FileDisk {
         ensures lost { self.new.is_lost ≡ self.old.is_lost }
     {
         let answer = self.file.write_all_at(&piece[done..], offset + done as u64);
-        self.told(answer)
+        self.told("a write", answer)
     }
 }
 
@@ -234,14 +258,14 @@ impl Disk for FileDisk {
         ensures stays_lost { self.new.is_lost ≡ self.old.is_lost }
     {
         if self.is_lost {
-            return Err(self.fail());
+            return Err(self.fail("a read", None));
         }
         let offset = at * SECTOR_LEN as u64;
         match self.file.read_at(out, offset) {
             Ok(n) if n == out.len() => Ok(()),
             Ok(n) => self.read_on(offset, n, out),
             Err(error) if error.kind() == ErrorKind::Interrupted => self.read_on(offset, 0, out),
-            Err(_) => Err(self.fail()),
+            Err(error) => Err(self.fail("a read", Some(&error))),
         }
     }
 
@@ -255,7 +279,7 @@ impl Disk for FileDisk {
         ensures stays_lost { self.new.is_lost ≡ self.old.is_lost }
     {
         if self.is_lost {
-            return Err(self.fail());
+            return Err(self.fail("a write", None));
         }
         if let Some(progress) = &mut self.progress
             && !progress.goes_on(at, piece)
@@ -267,7 +291,7 @@ impl Disk for FileDisk {
             Ok(n) if n == piece.len() => Ok(()),
             Ok(n) => self.write_on(offset, n, piece),
             Err(error) if error.kind() == ErrorKind::Interrupted => self.write_on(offset, 0, piece),
-            Err(_) => Err(self.fail()),
+            Err(error) => Err(self.fail("a write", Some(&error))),
         }
     }
 
@@ -279,7 +303,7 @@ impl Disk for FileDisk {
         ensures lost { OnErr result (IsTrue self.new.is_lost) }
     {
         if self.is_lost {
-            return Err(self.fail());
+            return Err(self.fail("a sync", None));
         }
         let answer = self.file.sync_data();
         self.is_lost = answer.is_err();
@@ -288,6 +312,6 @@ impl Disk for FileDisk {
         {
             self.end_progress();
         }
-        self.told(answer)
+        self.told("a sync", answer)
     }
 }

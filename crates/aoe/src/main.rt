@@ -14,9 +14,11 @@ ghost use Rattle.std.specs.Prelude.{◌≡◌, ◌==◌, All, IfOk, IsSome, leng
 ghost use Rattle.std.specs.List.{slice_split};
 ghost use Rattle.aoe_words.specs.Words.{file_names, port_words};
 
+mod arguments;
 mod clock;
 mod files;
 mod live;
+mod log;
 mod mirror;
 mod plan;
 mod progress;
@@ -33,13 +35,15 @@ use aoe_tap::{OpenRefusal as TapRefusal, TapMedium};
 use aoe_udp::{OpenRefusal, UdpMedium};
 use aoe_wire::WireLink;
 use aoe_words::{Command, PortWords, files_of, ports_of, read_words, stop_of};
+use arguments::words;
 use clock::SystemClock;
 use files::{FileDisk, FileRefusal, KeepDoubt};
+use log::{Log, say};
 use status::Status;
 use std::fs::File;
 use std::io::{BufReader, ErrorKind};
 use std::process::ExitCode;
-use std::{env, io};
+use std::io;
 use streams::{Input, Output};
 use top::aoe;
 use until::Until;
@@ -50,21 +54,6 @@ const READ_AHEAD: usize = 65536;
 
 /// A folder that is always there.
 const ROOT: &str = "/";
-
-/// The arguments behind the program's name.
-fn words(rt: &HostRuntime) -> io::Result<Vec<String>> {
-    let mut words = Vec::new(rt.alloc());
-    for word in env::args(rt)?.skip(1) {
-        words.push(word)?;
-    }
-    Ok(words)
-}
-
-/// Says a text on standard error.
-fn say(rt: &HostRuntime, text: &[u8]) {
-    let mut stderr = rt.stderr();
-    let _ = stderr.write_all(text);
-}
 
 /// Says what is wrong with what has this name, and gives the exit status.
 fn tell_name(rt: &HostRuntime, wrong: &[u8], name: &[u8], code: u8) -> u8 {
@@ -80,10 +69,21 @@ fn tell_unopened(rt: &HostRuntime, name: &[u8], code: u8) -> u8 {
     tell_name(rt, b"cannot open ", name, code)
 }
 
+/// Says that a file can't be opened, and the system's reason, and gives the exit status.
+fn tell_failed(rt: &HostRuntime, name: &[u8], error: &io::Error) -> u8 {
+    say(rt, b"aoe: cannot open ");
+    say(rt, name);
+    if let Ok(reason) = format!(in rt.alloc(); ": {error}") {
+        say(rt, reason.as_bytes());
+    }
+    say(rt, b"\n");
+    5
+}
+
 /// Says why the file with this name can't be a disk, and gives the exit status.
 fn tell_refused(rt: &HostRuntime, name: &[u8], refusal: FileRefusal) -> u8 {
     match refusal {
-        FileRefusal::Unopened => tell_unopened(rt, name, 5),
+        FileRefusal::Unopened(error) => tell_failed(rt, name, &error),
         FileRefusal::Kind => tell_name(rt, b"neither a file nor a block device: ", name, 5),
         FileRefusal::InUse => tell_name(rt, b"in use: ", name, 5),
     }
@@ -108,24 +108,6 @@ fn hold_streams(rt: &HostRuntime) -> io::Result<(File, File, File)> {
     ))
 }
 
-/// Opens the files with these names; the exit status where one can't be opened, which is said.
-fn open_all(rt: &HostRuntime, names: &[String]) -> Result<Vec<Option<FileDisk>>, u8>
-    ensures count { IfOk result (λ disks. length disks.items ≡ length names.now) }
-    ensures there { IfOk result (λ disks. All IsSome disks.items) }
-{
-    let mut disks = Vec::new(rt.alloc());
-    'names: for name in names {
-        let disk = match FileDisk::open(rt, name.as_str()) {
-            Ok(disk) => disk,
-            Err(refusal) => return Err(tell_refused(rt, name.as_bytes(), refusal)),
-        };
-        if disks.push(Some(disk)).is_err() {
-            return Err(tell(rt, Status::NoMemory));
-        }
-    }
-    Ok(disks)
-}
-
 /// Whether the file with this number is to be a keep: the last of a mirror's four, and of any other
 /// command each second one.
 fn is_keep(is_mirror: bool, number: usize) -> bool {
@@ -134,6 +116,48 @@ fn is_keep(is_mirror: bool, number: usize) -> bool {
     } else {
         number % 2 == 1
     }
+}
+
+/// Opens the file with this number; the exit status where it can't be opened, which is said. The copying
+/// to a mirror's first two files is shown, and where there is a log it gets what fails.
+fn open_file(
+    rt: &HostRuntime,
+    is_mirror: bool,
+    number: usize,
+    name: &str,
+    log: &mut Option<Log>,
+) -> Result<FileDisk, u8> {
+    let mut disk = match FileDisk::open(rt, name) {
+        Ok(disk) => disk,
+        Err(refusal) => return Err(tell_refused(rt, name.as_bytes(), refusal)),
+    };
+    if is_mirror && number < 2 {
+        disk.show_copying(rt);
+    }
+    Ok(match log {
+        Some(log) => log.watch(disk, name, is_keep(is_mirror, number)),
+        None => disk,
+    })
+}
+
+/// Opens the files with these names; the exit status where one can't be opened, which is said.
+fn open_all(
+    rt: &HostRuntime,
+    is_mirror: bool,
+    names: &[String],
+    log: &mut Option<Log>,
+) -> Result<Vec<Option<FileDisk>>, u8>
+    ensures count { IfOk result (λ disks. length disks.items ≡ length names.now) }
+    ensures there { IfOk result (λ disks. All IsSome disks.items) }
+{
+    let mut disks = Vec::new(rt.alloc());
+    'names: for name in names {
+        let disk = open_file(rt, is_mirror, disks.len(), name.as_str(), log)?;
+        if disks.push(Some(disk)).is_err() {
+            return Err(tell(rt, Status::NoMemory));
+        }
+    }
+    Ok(disks)
 }
 
 /// Looks at each file that is to be a keep; the exit status where one holds other data, which is said.
@@ -153,19 +177,6 @@ fn look_at_keeps(
         }
     }
     Ok(())
-}
-
-/// Shows how far the copying between a mirror's sides is, which are its first two files.
-fn show_copying(rt: &HostRuntime, disks: &mut [Option<FileDisk>])
-    requires { All IsSome disks.old }
-    ensures there { All IsSome disks.new }
-    ensures count { length disks.new ≡ length disks.old }
-{
-    'sides: for disk in disks.iter_mut().take(2) {
-        if let Some(disk) = disk {
-            disk.show_copying(rt);
-        }
-    }
 }
 
 /// Opens a link over UDP; the exit status where it can't be opened, which is said.
@@ -302,13 +313,15 @@ fn run_named(
     requires count { length names.now ≡ length (file_names (map string_bytes words.now)) }
     requires links { length ends.now ≡ length (port_words (map string_bytes words.now)) }
 {
-    let mut disks = match open_all(rt, names) {
+    let command = match read_words(rt.alloc(), words) {
+        Ok(command) => command,
+        Err(NoMemory) => return tell(rt, Status::NoMemory),
+    };
+    let is_mirror = matches!(command, Some(Command::Mirror(_)));
+    let mut log = Log::asked(rt);
+    let mut disks = match open_all(rt, is_mirror, names, &mut log) {
         Ok(disks) => disks,
         Err(code) => return code,
-    };
-    let is_mirror = match read_words(rt.alloc(), words) {
-        Ok(command) => matches!(command, Some(Command::Mirror(_))),
-        Err(NoMemory) => return tell(rt, Status::NoMemory),
     };
     if let Err(code) = look_at_keeps(rt, is_mirror, names, disks.as_slice()) {
         return code;
@@ -317,11 +330,16 @@ fn run_named(
         Ok(links) => links,
         Err(code) => return code,
     };
-    if is_mirror {
-        show_copying(rt, disks.as_mut_slice());
+    if let (Some(log), Some(Command::Serve(serve))) = (&mut log, &command) {
+        log.start(serve, ends);
     }
     let status = run_over(rt, words, disks.as_mut_slice(), links.as_mut_slice());
     tell_offloaded(rt, links.as_slice());
+    if let (Some(log), [link]) = (&log, links.as_slice())
+        && matches!(command, Some(Command::Serve(_)))
+    {
+        log.end(disks.as_slice(), link);
+    }
     tell(rt, status)
 }
 
@@ -337,8 +355,9 @@ fn run_words(rt: &HostRuntime, words: &[String]) -> u8 {
     let Ok(stop) = stop_of(rt.alloc(), words) else {
         return tell(rt, Status::NoMemory);
     };
-    let Ok(_streams) = hold_streams(rt) else {
-        return tell_unopened(rt, ROOT.as_bytes(), 5);
+    let _streams = match hold_streams(rt) {
+        Ok(streams) => streams,
+        Err(error) => return tell_failed(rt, ROOT.as_bytes(), &error),
     };
     run_named(rt, words, names.as_slice(), ends.as_slice(), stop)
 }

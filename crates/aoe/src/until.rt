@@ -19,6 +19,8 @@ pub struct Until<L: Link> {
     stop: Option<String>,
     before_look: u32,
     turns: u64,
+    came: u64,
+    sent: u64,
 }
 
 impl<L: Link> Until<L> {
@@ -29,12 +31,24 @@ impl<L: Link> Until<L> {
             stop,
             before_look: 0,
             turns: 0,
+            came: 0,
+            sent: 0,
         }
     }
 
     /// What it is over.
     pub fn link(&self) -> &L {
         &self.link
+    }
+
+    /// How many frames came.
+    pub fn came(&self) -> u64 {
+        self.came
+    }
+
+    /// How many frames were sent.
+    pub fn sent(&self) -> u64 {
+        self.sent
     }
 
     /// Whether the file is there. Where that can't be found out, it isn't.
@@ -58,6 +72,7 @@ impl<L: Link> Link for Until<L> {
     ghost faults = { λ l. L.faults l.link };
 
     fn send(&mut self, frame: &[u8]) -> Result<(), Failed> {
+        self.sent = self.sent.saturating_add(1);
         self.link.send(frame)
     }
 
@@ -76,6 +91,9 @@ impl<L: Link> Link for Until<L> {
             Got::Frame => self.before_look - 1,
             Got::Quiet | Got::Ended => 0,
         };
+        if got == Got::Frame {
+            self.came = self.came.saturating_add(1);
+        }
         Ok(got)
     }
 }

@@ -1,0 +1,69 @@
+//! The words that the program is run with: its arguments, and what the environment adds to them.
+use std::env;
+use std::env::VarError;
+use std::io;
+use std::io::ErrorKind;
+
+/// The ends of a link: the option of each, and the variable of the environment that stands for it.
+const ENDS: [(&str, &str); 2] = [("--local", "AOE_LOCAL"), ("--peers", "AOE_PEERS")];
+
+/// Whether the command of this name has one link.
+fn has_link(name: &str) -> bool {
+    matches!(
+        name,
+        "serve" | "discover" | "stat" | "cfg" | "mask" | "reserve" | "flush" | "get" | "put"
+    )
+}
+
+/// Whether a word is this option, or this option with its value.
+fn is_option(word: &str, option: &str) -> bool {
+    match word.strip_prefix(option) {
+        Some(rest) => rest.is_empty() || rest.as_bytes()[0] == b'=',
+        None => false,
+    }
+}
+
+fn gives(words: &[String], option: &str) -> bool {
+    words.iter().any(|word| is_option(word.as_str(), option))
+}
+
+/// What a variable of the environment holds, where it is set and holds something.
+fn variable(rt: &HostRuntime, name: &str) -> io::Result<Option<String>> {
+    match env::var(rt, name) {
+        Ok(value) if !value.is_empty() => Ok(Some(value)),
+        Err(VarError::OutOfMemory) => Err(io::Error::from(ErrorKind::OutOfMemory)),
+        Ok(_) | Err(VarError::NotPresent | VarError::NotUnicode) => Ok(None),
+    }
+}
+
+/// Adds the ends of the link that aren't given, from the environment, where the command has a link that isn't
+/// a tap file.
+fn add_ends(rt: &HostRuntime, words: &mut Vec<String>) -> io::Result<()> {
+    let is_asked = match words.first() {
+        Some(name) => has_link(name.as_str()),
+        None => false,
+    };
+    if !is_asked || gives(words.as_slice(), "--tap") {
+        return Ok(());
+    }
+    'ends: for (option, name) in ENDS {
+        if gives(words.as_slice(), option) {
+            continue;
+        }
+        if let Some(value) = variable(rt, name)? {
+            words.push(format!(in rt.alloc(); "{option}")?)?;
+            words.push(value)?;
+        }
+    }
+    Ok(())
+}
+
+/// The words.
+pub fn words(rt: &HostRuntime) -> io::Result<Vec<String>> {
+    let mut words = Vec::new(rt.alloc());
+    for word in env::args(rt)?.skip(1) {
+        words.push(word)?;
+    }
+    add_ends(rt, &mut words)?;
+    Ok(words)
+}

@@ -1,0 +1,159 @@
+//! What a service's log gets on standard error, where the environment asks for it.
+use crate::files::FileDisk;
+use crate::until::Until;
+use crate::wire::Wire;
+use aoe_base::put_macs;
+use aoe_disk::Disk;
+use aoe_keep::Keep;
+use aoe_wire::WireLink;
+use aoe_words::{PortWords, Serve};
+use std::alloc::AllocError;
+use std::io::Write;
+use std::{env, io};
+
+/// The variable of the environment that asks for it by the value 1.
+const ASKED: &str = "AOE_LOG";
+
+/// Says a text on standard error.
+pub fn say(rt: &HostRuntime, text: &[u8]) {
+    let mut stderr = rt.stderr();
+    let _ = stderr.write_all(text);
+}
+
+/// Says the failed calls of a file.
+#[derive(Drop)]
+pub struct FileLog {
+    rt: HostRuntime,
+    name: String,
+}
+
+impl FileLog {
+    /// Says that a call failed, and why; or that it wasn't made, behind a sync that failed.
+    pub fn say(&self, call: &str, why: Option<&io::Error>) {
+        let name = self.name.as_str();
+        let text = match why {
+            Some(error) => format!(in self.rt.alloc(); "aoe: {name}: {call} failed: {error}\n"),
+            None => format!(in self.rt.alloc(); "aoe: {name}: {call} failed behind a sync\n"),
+        };
+        if let Ok(text) = text {
+            say(&self.rt, text.as_bytes());
+        }
+    }
+}
+
+/// The log of a run. Its first line is gathered while files and links are opened. What it has no memory for
+/// isn't said.
+#[derive(Drop)]
+pub struct Log {
+    rt: HostRuntime,
+    line: Vec<u8>,
+}
+
+impl Log {
+    /// None where none is asked for.
+    pub fn asked(rt: &HostRuntime) -> Option<Log> {
+        let value = env::var(rt, ASKED).ok()?;
+        if value.as_str() != "1" {
+            return None;
+        }
+        Some(Log {
+            rt: *rt,
+            line: Vec::new(rt.alloc()),
+        })
+    }
+
+    fn add(&mut self, text: &[u8]) {
+        let _ = self.line.extend_from_slice(text);
+    }
+
+    fn add_text(&mut self, text: Result<String, AllocError>) {
+        if let Ok(text) = text {
+            self.add(text.as_bytes());
+        }
+    }
+
+    /// Adds a keep's lists, where it can be mounted, and gives its disk back.
+    fn add_keep(&mut self, disk: FileDisk, name: &str) -> FileDisk {
+        match Keep::mount(disk) {
+            Ok(keep) => {
+                let (masks, reserves) = (keep.lists().masks.len(), keep.lists().reserves.len());
+                self.add_text(format!(in self.rt.alloc();
+                    " {name} {masks} masks {reserves} reserves;"
+                ));
+                keep.close()
+            }
+            Err((_, disk)) => {
+                self.add_text(format!(in self.rt.alloc(); " {name} without lists;"));
+                disk
+            }
+        }
+    }
+
+    /// Adds a file, and gives it back. From then on each of its failed calls is said.
+    pub fn watch(&mut self, disk: FileDisk, name: &str, is_keep: bool) -> FileDisk {
+        let mut disk = if is_keep {
+            self.add_keep(disk, name)
+        } else {
+            let sectors = disk.sectors();
+            self.add_text(format!(in self.rt.alloc(); " {name} {sectors} sectors,"));
+            disk
+        };
+        if let Ok(name) = format!(in self.rt.alloc(); "{name}") {
+            disk.log_to(FileLog { rt: self.rt, name });
+        }
+        disk
+    }
+
+    /// Adds what carries the frames.
+    fn add_link(&mut self, words: &PortWords) {
+        match words {
+            PortWords::Udp {
+                local,
+                peers,
+                vxlan,
+            } => {
+                self.add(b" ");
+                self.add(local.bytes());
+                self.add(b" to ");
+                self.add(peers.bytes());
+                if let Some(vni) = vxlan {
+                    self.add_text(format!(in self.rt.alloc(); " in VXLAN {vni}"));
+                }
+            }
+            PortWords::Tap { file } => {
+                self.add(b" ");
+                self.add(file.bytes());
+            }
+        }
+    }
+
+    /// Says the shelf that is served: its files, its ports and its link.
+    pub fn start(&mut self, serve: &Serve, ends: &[PortWords]) {
+        let shelf = serve.shelf;
+        if let Ok(text) = format!(in self.rt.alloc(); "aoe: shelf {shelf}:") {
+            say(&self.rt, text.as_bytes());
+        }
+        self.add(b" ports ");
+        let _ = put_macs(&mut self.line, serve.ports.as_slice());
+        self.add(b";");
+        'ends: for words in ends {
+            self.add_link(words);
+        }
+        self.add(b"\n");
+        say(&self.rt, self.line.as_slice());
+    }
+
+    /// Says what came of the shelf.
+    pub fn end(&self, disks: &[Option<FileDisk>], link: &Until<WireLink<Wire>>) {
+        let mut failed = 0u64;
+        'disks: for disk in disks.iter().flatten() {
+            failed = failed.saturating_add(disk.faults());
+        }
+        let (came, sent) = (link.came(), link.sent());
+        if let Ok(text) = format!(in self.rt.alloc();
+            "aoe: {came} frames came, {sent} were sent, {failed} calls of files failed\n"
+        ) {
+            say(&self.rt, text.as_bytes());
+        }
+    }
+}
