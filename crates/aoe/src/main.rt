@@ -34,7 +34,7 @@ use aoe_base::{Blob, NoMemory};
 use aoe_tap::{OpenRefusal as TapRefusal, TapMedium};
 use aoe_udp::{OpenRefusal, UdpMedium};
 use aoe_wire::WireLink;
-use aoe_words::{Command, PortWords, files_of, ports_of, read_words, stop_of};
+use aoe_words::{Command, PortWords, Wrong, files_of, ports_of, read_words, slip_of, stop_of};
 use arguments::words;
 use clock::SystemClock;
 use files::{FileDisk, FileRefusal, KeepDoubt};
@@ -273,6 +273,32 @@ fn tell(rt: &HostRuntime, status: Status) -> u8 {
     status.code()
 }
 
+/// Says why the arguments are no command, and where to read more.
+fn say_slip(rt: &HostRuntime, words: &[String]) {
+    let Ok(Some(slip)) = slip_of(rt.alloc(), words) else {
+        return;
+    };
+    say(rt, b"aoe: ");
+    if let Some(place) = slip.word
+        && let Some(word) = words.get(place)
+    {
+        say(rt, word.as_bytes());
+        say(rt, b": ");
+    }
+    let wrong = slip.wrong;
+    if let Ok(text) = format!(in rt.alloc(); "{wrong}\n") {
+        say(rt, text.as_bytes());
+    }
+    say(rt, b"aoe: see aoe ");
+    if wrong != Wrong::Command
+        && let Some(name) = words.first()
+    {
+        say(rt, name.as_bytes());
+        say(rt, b" ");
+    }
+    say(rt, b"--help\n");
+}
+
 /// Runs the command over its files and links, the standard streams and the clock.
 fn run_over(
     rt: &HostRuntime,
@@ -340,7 +366,12 @@ fn run_named(
     {
         log.end(disks.as_slice(), link);
     }
-    tell(rt, status)
+    let is_usage = matches!(status, Status::Usage);
+    let code = tell(rt, status);
+    if is_usage {
+        say_slip(rt, words);
+    }
+    code
 }
 
 /// Runs the command that the arguments spell on its files, its links and the standard streams, and gives

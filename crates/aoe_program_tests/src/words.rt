@@ -1,12 +1,14 @@
 mod accepted;
 mod refused;
+mod slips;
 
 use aoe_base::{Blob, Mac, NoMemory, Ports, TargetId};
 use aoe_lists::Dir;
 use aoe_vlan::PortKind;
 use aoe_words::{
     Answer, Asking, Cfg, Command, Flush, Get, Live, Mask, PortKinds, PortWords, Put, Reserve,
-    Serve, Soak, Switch, Tool, files_of, ports_of, read_words, stop_of,
+    Serve, Soak, Switch, Tool, files_of, ports_of, read_words, slip_of,
+    stop_of,
 };
 use arrayvec::ArrayVec;
 use std::alloc::{AllocError, Global};

@@ -9,7 +9,7 @@ use std::alloc::{AllocError, Global};
 
 /// How an argument stands in a command.
 #[derive(Clone, Copy)]
-enum Place {
+pub(crate) enum Place {
     /// A word that has to stand there.
     Needed,
 
@@ -29,10 +29,10 @@ enum Place {
 use Place::{Allowed, AllowedSeveral, Needed, Optional, Several};
 
 /// An argument's name and its place.
-type Argument = (&'static str, Place);
+pub(crate) type Argument = (&'static str, Place);
 
 /// A command's name and its arguments.
-type Form = (&'static str, &'static [Argument]);
+pub(crate) type Form = (&'static str, &'static [Argument]);
 
 /// The number of a shelf.
 const SHELF: Argument = ("shelf", Needed);
@@ -87,7 +87,7 @@ const TURNS: Argument = ("turns", Optional);
 
 /// All commands. A function that names a `const` is proved with its whole value, and one that names
 /// a `static` isn't.
-static FORMS: [Form; 15] = [
+pub(crate) static FORMS: [Form; 15] = [
     (
         "answer",
         &[SHELF, ("slot", Needed), FILES, PORT, MTU, CACHE],

@@ -9,7 +9,8 @@
 //! goes to which place is the work of the crate `clap`; numbers and addresses are read as
 //! everywhere.
 //!
-//! It opens nothing, and says nothing of what is wrong: arguments are a command or none.
+//! It opens nothing. Arguments are a command or none; [`slip_of`] says what is wrong with those that
+//! are none.
 #![tactic(auto)]
 
 mod app;
@@ -19,6 +20,7 @@ mod link;
 mod lists;
 mod ports;
 mod read;
+mod slip;
 mod switch;
 mod tools;
 mod values;
@@ -30,3 +32,4 @@ pub use command::{
 };
 pub use law::plain_words_law;
 pub use read::{files_of, ports_of, read_words, stop_of};
+pub use slip::{Slip, Wrong, slip_of};

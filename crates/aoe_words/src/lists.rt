@@ -24,7 +24,7 @@ pub(crate) fn read_text(text: &[u8]) -> Option<ArrayVec<u8, MAX_CONFIG>>
 }
 
 /// The directive that a word spells: `add=MAC` or `del=MAC`.
-fn read_dir(text: &[u8]) -> Option<Dir>
+pub(crate) fn read_dir(text: &[u8]) -> Option<Dir>
     ensures { result ≡ dir_of text.now }
 {
     if text.len() < ACTION_LEN {

@@ -77,7 +77,7 @@ fn read_trunk(text: &[u8]) -> Option<PortKind>
 }
 
 /// The port that a word spells: `access:VID` or `trunk:VID,VID ..`.
-fn read_kind(word: &[u8]) -> Option<PortKind>
+pub(crate) fn read_kind(word: &[u8]) -> Option<PortKind>
     ensures value { result ≡ kind_of word.now }
     ensures range { IfSome result (λ kind. is_numbered kind ≡ true) }
 {
