@@ -16,6 +16,7 @@ use Rattle.aoe_serve.specs.declared.over_stream.AnswerEnd.{AnswerEnd}
 use Rattle.aoe_serve.specs.declared.over_stream.AnswerEnd.TheVariants as answer
 use Rattle.aoe_serve.specs.declared.over_link.ServeEnd.TheVariants as serve
 use Rattle.aoe_serve.specs.Exporting.{AtFirst, HasRun, Outside, Tells}
+use Rattle.aoe_serve.specs.declared.over_stream.Format.{Format}
 use Rattle.aoe_serve.specs.declared.plan.Plan.TheVariants as plan
 use Rattle.aoe_serve.specs.declared.plan.RunEnd.{RunEnd}
 use Rattle.aoe_serve.specs.declared.plan.RunEnd.TheVariants as end
@@ -23,7 +24,7 @@ use Rattle.aoe_words.specs.declared.command.Answer.{Answer as Answers}
 use Rattle.aoe_words.specs.declared.command.Serve.{Serve as Serves}
 use Rattle.aoe_words.specs.declared.command.Command.TheVariants.{Answer, Serve}
 use Rattle.aoe_world.specs.Replay.{IsFaultless}
-use Rattle.aoe.specs.Commands.{limit}
+use Rattle.aoe.specs.Commands.{format_of, limit}
 use Rattle.aoe.specs.Ending.{after_syncs, ended_by}
 use Rattle.aoe.specs.Run.{OnSlot, Ran}
 use Rattle.aoe.specs.declared.status.Status.{Status}
@@ -72,16 +73,16 @@ left h fs (Some rest) came all gave =
     let whole : stream fs ≡ stream (frames h) ++ rest = cc in
     record { rest = rest; is = refl; stands = behind-frames h fs rest came all whole }
 
-answered-whole : (e : AnswerEnd) (left' held held' : Option (List ℕ)) (old new : List Slot) (fs : List (List ℕ))
-    → Answered e (Some (stream fs)) left' held held' old new → All IsFrame fs → length fs < 4294967295
+answered-whole : (format : Format) (e : AnswerEnd) (left' held held' : Option (List ℕ)) (old new : List Slot) (fs : List (List ℕ))
+    → Answered format e (Some (stream fs)) left' held held' old new → All IsFrame fs → length fs < 4294967295
     → (ended_by (end.Answered e) ≡ status.SourceFault → ⊥) → (ended_by (end.Answered e) ≡ status.SinkFault → ⊥) → ended_by (end.Answered e) ≡ status.Ok
-answered-whole answer.Ended left' held held' old new fs r all few source sink = refl
-answered-whole answer.SourceFault left' held held' old new fs r all few source sink = absurd (source refl)
-answered-whole answer.SinkFault left' held held' old new fs r all few source sink = absurd (sink refl)
-answered-whole answer.Limit left' held held' old new fs r all few source sink =
+answered-whole format answer.Ended left' held held' old new fs r all few source sink = refl
+answered-whole format answer.SourceFault left' held held' old new fs r all few source sink = absurd (source refl)
+answered-whole format answer.SinkFault left' held held' old new fs r all few source sink = absurd (sink refl)
+answered-whole format answer.Limit left' held held' old new fs r all few source sink =
     let l = left r.arrivals fs r.behind r.whole all r.gave in
     absurd (omega (arith, r.stops.0, l.stands.few))
-answered-whole (answer.Stream at) left' held held' old new fs r all few source sink =
+answered-whole format (answer.Stream at) left' held held' old new fs r all few source sink =
     let l = left r.arrivals fs r.behind r.whole all r.gave in
     let P : Option (List ℕ) → Type 0 = λ o. IfSome o IsBroken in
     let broken : IsBroken l.rest = subst P l.is r.stops.2 in
@@ -113,21 +114,21 @@ no-fault before after fine rose = let more = rose fine.room in omega (arith, fin
 
 module _ {D S K L : Type 0} (state : D → DiskState) (t : Tells S K L) (s : Status) (a b : Outside S K L) (disks disks' : List (Option D))
     (fine : (slot : ℕ) → OnSlot (λ file file' _ _. IsFaultless (state file).faults (state file').faults) slot disks disks') where
-  answers-by : (e : RunEnd) (old new : List Slot) (fs : List (List ℕ)) → HasRun t plan.Answer e a b old new → s ≡ ended_by e
+  answers-by : (format : Format) (e : RunEnd) (old new : List Slot) (fs : List (List ℕ)) → HasRun t (plan.Answer format) e a b old new → s ≡ ended_by e
       → t.left a.source ≡ Some (stream fs) → All IsFrame fs → length fs < 4294967295
       → s ≢ status.SourceFault → s ≢ status.SinkFault → s ≡ status.Ok
-  answers-by (end.Served e) old new fs ran is left_is all few source sink = absurd ran
-  answers-by (end.Answered e) old new fs ran is left_is all few source sink =
-      let P : Option (List ℕ) → Type 0 = λ l. Answered e l (t.left b.source) (t.held a.sink) (t.held b.sink) old new in
-      is ∙ answered-whole e (t.left b.source) (t.held a.sink) (t.held b.sink) old new fs (subst P left_is ran.answered) all few (λ x. source (is ∙ x))
+  answers-by format (end.Served e) old new fs ran is left_is all few source sink = absurd ran
+  answers-by format (end.Answered e) old new fs ran is left_is all few source sink =
+      let P : Option (List ℕ) → Type 0 = λ l. Answered format e l (t.left b.source) (t.held a.sink) (t.held b.sink) old new in
+      is ∙ answered-whole format e (t.left b.source) (t.held a.sink) (t.held b.sink) old new fs (subst P left_is ran.answered) all few (λ x. source (is ∙ x))
       (λ x. sink (is ∙ x))
 
   pub answers : (asked : Answers) (fs : List (List ℕ)) → Ran state (Answer asked) t s a b disks disks' → t.left a.source ≡ Some (stream fs) → All IsFrame fs
       → length fs < 4294967295
       → s ≢ status.SourceFault → s ≢ status.SinkFault → s ≡ status.Ok
   answers asked fs r left_is all few source sink =
-      let synced = all-synced state _ _ _ t plan.Answer r.exported a b disks disks' r.run fine in
-      answers-by r.exported.end r.run.first r.run.run.middle fs r.run.run.ran
+      let synced = all-synced state _ _ _ t (plan.Answer (format_of asked.captures)) r.exported a b disks disks' r.run fine in
+      answers-by (format_of asked.captures) r.exported.end r.run.first r.run.run.middle fs r.run.run.ran
       (r.ends ∙ all-synced-same (ended_by r.exported.end) r.exported.unsynced synced) left_is all few source sink
 
   serves-by : (e : RunEnd) (limit idle : ℕ) (old new : List Slot) → HasRun t (plan.Serve limit idle) e a b old new → s ≡ ended_by e → s ≢ status.LinkFault 0

@@ -37,7 +37,7 @@ pub record Stands {D : Type 0} (state : D → DiskState) (first last : List Slot
   pub kept : BothTell KeepsSettled b.device.store.contents (state file').contents
   pub mounted : HasMounted (state keep) a.device.keep a.device.lists
 
-stands-first : {D : Type 0} (state : D → DiskState) (most : ℕ) (name : ℕ → Station) (a b : Slot) (first last : List Slot) (file file' keep keep' : D)
+stands-first : {D : Type 0} (state : D → DiskState) (most : Option ℕ) (name : ℕ → Station) (a b : Slot) (first last : List Slot) (file file' keep keep' : D)
     → IsOver state most name file file' keep keep' a b
     → Stands state (a ∷ first) (b ∷ last) 0 file file' keep keep'
 stands-first state most name a b first last file file' keep keep' over = record {
@@ -62,7 +62,7 @@ record Over {D : Type 0} (state : D → DiskState) (disks disks' : List (Option 
   stands : (slot : ℕ) → OnSlot (Stands state first last slot) slot disks disks'
   has : (slot : ℕ) → slot < length first → Disks slot disks disks'
 
-over-then : {D : Type 0} (state : D → DiskState) (most : ℕ) (name : ℕ → Station) (a b : Slot) (first last : List Slot) (file file' keep keep' : D)
+over-then : {D : Type 0} (state : D → DiskState) (most : Option ℕ) (name : ℕ → Station) (a b : Slot) (first last : List Slot) (file file' keep keep' : D)
     (disks disks' : List (Option D))
     → IsOver state most name file file' keep keep' a b → Over state disks disks' first last
     → Over state (Some file ∷ Some keep ∷ disks) (Some file' ∷ Some keep' ∷ disks') (a ∷ first) (b ∷ last)
@@ -78,7 +78,7 @@ over-then state most name a b first last file file' keep keep' disks disks' over
     disk zero below = disks-first file file' keep keep' disks disks'
     disk (suc slot) below = disks-then slot (Some file) (Some keep) (Some file') (Some keep') disks disks' (rest.has slot (omega (arith, below)))
 
-over : {D : Type 0} (state : D → DiskState) (most : ℕ) (name : ℕ → ℕ → Station) (minor : ℕ) (disks disks' : List (Option D)) (first last : List Slot)
+over : {D : Type 0} (state : D → DiskState) (most : Option ℕ) (name : ℕ → ℕ → Station) (minor : ℕ) (disks disks' : List (Option D)) (first last : List Slot)
     → OverFiles state most name minor disks disks' first last → Over state disks disks' first last
 over state most name minor (Some f ∷ Some k ∷ disks) (Some f' ∷ Some k' ∷ disks') (a ∷ first) (b ∷ last) x = over-then state most
     (name minor) a b first last f f' k k' disks disks' x.0 (over state most name (minor + 1) disks disks' first last x.1)
@@ -156,7 +156,7 @@ sync-failed : (r : Result (Unit {0}) Failed) (old new : DiskState) → is_err r 
 sync-failed (Ok done) old new e sync = absurd cc
 sync-failed (Err failed) old new e sync = sync.call.cause
 
-module _ {D S K L : Type 0} (state : D → DiskState) (most : ℕ) (name : ℕ → ℕ → Station) (minor : ℕ) (t : Tells S K L) (p : Plan) (e : Exported) (a b : Outside S K L) (disks disks' : List (Option D))
+module _ {D S K L : Type 0} (state : D → DiskState) (most : Option ℕ) (name : ℕ → ℕ → Station) (minor : ℕ) (t : Tells S K L) (p : Plan) (e : Exported) (a b : Outside S K L) (disks disks' : List (Option D))
     (x : IsExported state most name minor t p e a b disks disks') where
   all-over : Over state disks disks' x.first x.last
   all-over = over state most name minor disks disks' x.first x.last x.over

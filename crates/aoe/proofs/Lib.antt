@@ -5,3 +5,4 @@ mod OnSlots
 mod Refusals
 mod Switched
 mod Mirrors
+mod Upkeeps

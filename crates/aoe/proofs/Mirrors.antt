@@ -1,5 +1,5 @@
 -- A run over a mirror, by its status.
-use Rattle.std.proofs.Common.{◌≡◌, ◌≢◌, ◌≤◌, ◌<◌, ◌⊎◌, ℕ, zero, suc, true, false, List, length, Option, Some, None, IfSome, Result, Ok, Err, refl, sym, ap, subst, ◌∙◌, arith, ne_eqb}
+use Rattle.std.proofs.Common.{◌≡◌, ◌≢◌, ◌≤◌, ◌<◌, ◌⊎◌, ℕ, zero, suc, true, List, length, Option, Some, None, IfSome, Result, Ok, Err, refl, sym, ap, subst, ◌∙◌, arith, ne_eqb}
 use Rattle.std.proofs.lemmas.Bool.{OnTrue_at}
 use Rattle.std.specs.Prelude.{◌↔◌, All, IfErr, IfOk, IsSome, OnErr}
 use Rattle.aoe_base.specs.Faults.{Rose}
@@ -17,6 +17,7 @@ use Rattle.aoe_serve.specs.declared.over_mirror.MirrorEnd.{MirrorEnd}
 use Rattle.aoe_serve.specs.declared.over_mirror.MirrorStop.{MirrorStop}
 use Rattle.aoe_serve.specs.declared.over_mirror.MirrorStop.TheVariants as stop
 use Rattle.aoe_serve.specs.declared.over_stream.AnswerEnd.TheVariants as answer
+use Rattle.aoe_serve.specs.declared.over_stream.Format.TheVariants as format
 use Rattle.aoe_serve.specs.declared.plan.Plan.TheVariants as plan
 use Rattle.aoe_serve.specs.declared.plan.RunEnd.{RunEnd}
 use Rattle.aoe_serve.specs.declared.plan.RunEnd.TheVariants.{Answered, Served}
@@ -87,7 +88,7 @@ blamed-disk P (Some k) disk p e = let same : k ≡ disk = cc in subst P same p
 
 module _ {D S K L : Type 0} (state : D → DiskState) (name : ℕ → Station) (t : Tells S K L) (a b : Outside S K L) (given back : MirrorDisks D) where
   abbrev pub Law : Result MirrorEnd MirrorStop → Type 0
-  Law (Ok e) = IsMirrored state name t plan.Answer e a b given back
+  Law (Ok e) = IsMirrored state name t (plan.Answer format.Replies) e a b given back
   Law (Err why) = Stops state why given back
 
   pub unequal : (r : Result MirrorEnd MirrorStop) → Law r → (first second : ℕ) → (mirrored_as r ≡ status.MirrorSides first second)
@@ -163,13 +164,13 @@ module _ {D S K L : Type 0} (state : D → DiskState) (name : ℕ → Station) (
   equal (Err (stop.Mirror mirror.Failed)) law told = absurd cc
   equal (Err (stop.Mirror mirror.NoMemory)) law told = absurd cc
 
-  pub law-of : (r : Result MirrorEnd MirrorStop) → IfOk r (λ e. IsMirrored state name t plan.Answer e a b given back)
+  pub law-of : (r : Result MirrorEnd MirrorStop) → IfOk r (λ e. IsMirrored state name t (plan.Answer format.Replies) e a b given back)
       → IfErr r (λ why. Stops state why given back) → Law r
   law-of (Ok e) ran stopped = ran
   law-of (Err why) ran stopped = stopped
 
   -- its frames come as a stream
-  ended-status : (end : RunEnd) (unsynced : Option ℕ) (old new : List Slot) → HasRun t plan.Answer end a b old new
+  ended-status : (end : RunEnd) (unsynced : Option ℕ) (old new : List Slot) → HasRun t (plan.Answer format.Replies) end a b old new
       → is_mirror_status (after_sync (ended_by end) unsynced) ≡ true
   ended-status (Answered answer.Ended) None old new ran = refl
   ended-status (Answered answer.Ended) (Some k) old new ran = refl
@@ -179,7 +180,7 @@ module _ {D S K L : Type 0} (state : D → DiskState) (name : ℕ → Station) (
   ended-status (Answered answer.Limit) unsynced old new ran = refl
   ended-status (Served x) unsynced old new ran = absurd ran
 
-  pub mirror-status : (r : Result MirrorEnd MirrorStop) → IfOk r (λ e. IsMirrored state name t plan.Answer e a b given back)
+  pub mirror-status : (r : Result MirrorEnd MirrorStop) → IfOk r (λ e. IsMirrored state name t (plan.Answer format.Replies) e a b given back)
       → is_mirror_status (mirrored_as r) ≡ true
   mirror-status (Ok e) ran = ended-status e.end e.unsynced _ _ ran.run.ran
   mirror-status (Err stop.NoMemory) ran = refl
@@ -191,11 +192,11 @@ module _ {D S K L : Type 0} (state : D → DiskState) (name : ℕ → Station) (
   mirror-status (Err (stop.Mirror mirror.Failed)) ran = refl
   mirror-status (Err (stop.Mirror mirror.NoMemory)) ran = refl
 
-  answered-links : (end : RunEnd) (old new : List Slot) → HasRun t plan.Answer end a b old new → b.links ≡ a.links
+  answered-links : (end : RunEnd) (old new : List Slot) → HasRun t (plan.Answer format.Replies) end a b old new → b.links ≡ a.links
   answered-links (Answered x) old new ran = ran.links
   answered-links (Served x) old new ran = absurd ran
 
-  pub same-links : (r : Result MirrorEnd MirrorStop) → IfOk r (λ e. IsMirrored state name t plan.Answer e a b given back)
+  pub same-links : (r : Result MirrorEnd MirrorStop) → IfOk r (λ e. IsMirrored state name t (plan.Answer format.Replies) e a b given back)
       → OnErr r (b.links ≡ a.links) → b.links ≡ a.links
   same-links (Ok e) ran links = answered-links e.end _ _ ran.run.ran
   same-links (Err why) ran links = links
@@ -269,7 +270,7 @@ stopped-same P a b (Err why) p source sink links = (p, source, sink, links)
 
 pub runs-mirror : {D S K L : Type 0} (state : D → DiskState) (asked : Mirror) (t : Tells S K L) (a b : Outside S K L) (s : Status)
     (r : Result MirrorEnd MirrorStop) (given back : MirrorDisks D) (disks disks' : List (Option D)) → s ≡ mirrored_as r → disks ≡ four_of given
-    → disks' ≡ four_of back → IfOk r (λ e. IsMirrored state (target_of (mirror_rack asked) asked.id.minor) t plan.Answer e a b given back)
+    → disks' ≡ four_of back → IfOk r (λ e. IsMirrored state (target_of (mirror_rack asked) asked.id.minor) t (plan.Answer format.Replies) e a b given back)
     → IfErr r (λ why. Stops state why given back)
     → OnErr r (b.source ≡ a.source) → OnErr r (b.sink ≡ a.sink) → OnErr r (b.links ≡ a.links) → RunsMirror state asked t s a b disks disks'
 runs-mirror state asked t a b s r given back disks disks' is were are ran stopped source sink links =
@@ -304,6 +305,7 @@ of-mirror (command.Get x) e p = absurd cc
 of-mirror (command.Put x) e p = absurd cc
 of-mirror (command.Live x) e p = absurd cc
 of-mirror (command.Switch x) e p = absurd cc
+of-mirror (command.Keep x) e p = absurd cc
 
 pub within-mirror : {D S K L : Type 0} (state : D → DiskState) (c : Command) (t : Tells S K L) (s : Status) (a b : Outside S K L)
     (disks disks' : List (Option D)) → ((asked : Mirror) → c ≡ command.Mirror asked → RunsMirror state asked t s a b disks disks')

@@ -1,5 +1,5 @@
 -- The disks of a slot.
-use Rattle.std.proofs.Common.{◌≡◌, ◌+◌, ◌*◌, ℕ, suc, List, [], ◌∷◌, length, Option, Some, refl, sym, ap, subst, ◌∙◌, arith}
+use Rattle.std.proofs.Common.{◌≡◌, ◌≤◌, ◌+◌, ◌*◌, ℕ, suc, List, [], ◌∷◌, length, Option, Some, refl, sym, ap, subst, ◌∙◌, arith}
 use Rattle.std.specs.Prelude.{slice_get}
 use Rattle.aoe.specs.Ending.{file_at, keep_at}
 use Rattle.aoe.specs.Run.{OnSlot}
@@ -26,10 +26,17 @@ module _ {D : Type 0} (R : D → D → D → D → Type 0) where
       on f f' k k' (sym (file-behind x y disks slot) ∙ ef) (sym (file-behind x' y' disks' slot) ∙ ef') (sym (keep-behind x y disks slot) ∙ ek)
       (sym (keep-behind x' y' disks' slot) ∙ ek')
 
-  -- where there are no disks there are none of a slot
+  -- where there is one disk at most there is no keep of a slot
+  pub on-few : (slot : ℕ) (disks disks' : List (Option D)) → length disks ≤ 1 → OnSlot R slot disks disks'
+  on-few slot [] disks' few f f' k k' ef ef' ek ek' = absurd cc
+  on-few slot (d ∷ []) disks' few f f' k k' ef ef' ek ek' =
+      let behind : keep_at slot ≡ suc (2 * slot) = omega arith in
+      let none : slice_get (d ∷ []) (suc (2 * slot)) ≡ Some (Some k) = sym (ap (slice_get (d ∷ [])) behind) ∙ ek in
+      absurd cc
+  on-few slot (d ∷ e ∷ disks) disks' few f f' k k' ef ef' ek ek' = absurd (omega (arith, few))
+
   pub on-none : (slot : ℕ) (disks disks' : List (Option D)) → length disks ≡ 0 → OnSlot R slot disks disks'
-  on-none slot [] disks' empty f f' k k' ef ef' ek ek' = absurd cc
-  on-none slot (d ∷ disks) disks' empty f f' k k' ef ef' ek ek' = absurd (omega (arith, empty))
+  on-none slot disks disks' empty = on-few slot disks disks' (omega (arith, empty))
 
 pub on-map : {D : Type 0} (R T : D → D → D → D → Type 0) (slot : ℕ) (disks disks' : List (Option D)) → ((f f' k k' : D) → R f f' k k' → T f f' k k')
     → OnSlot R slot disks disks' → OnSlot T slot disks disks'

@@ -34,7 +34,7 @@ use Rattle.aoe.specs.Tools.{is_copy_status, is_tool_status}
 use Rattle.aoe.specs.declared.status.Status.{Status}
 use Rattle.aoe.specs.declared.status.Status.TheVariants as status
 use Rattle.aoe.proofs.Exits.{Stands, all-settled, stands, unsynced-rose, unsynced-within}
-use Rattle.aoe.proofs.OnSlots.{on-first, on-map, on-none, on-then}
+use Rattle.aoe.proofs.OnSlots.{on-few, on-first, on-map, on-none, on-then}
 
 -- Which disk is a keep.
 
@@ -354,10 +354,11 @@ no-disk-switched switch.SinkFault disk e = cc
 no-disk-switched (switch.Stream offset) disk e = cc
 no-disk-switched switch.Limit disk e = cc
 
--- over files, or without any
+-- over files, without any, or over a keep alone
 data Runs {D S K L : Type 0} (state : D → DiskState) (t : Tells S K L) (s : Status) (a b : Outside S K L) (disks disks' : List (Option D)) : Type 0 where
   over_files : (rack : Rack) (p : Plan) → RanFiles state rack p t s a b disks disks' → Runs state t s a b disks disks'
   over_none : length disks ≡ 0 → ((disk : ℕ) → s ≢ status.DiskFault disk) → Runs state t s a b disks disks'
+  over_one : length disks ≡ 1 → ((disk : ℕ) → s ≡ status.DiskFault disk → disk ≡ 0) → Runs state t s a b disks disks'
 
 runs-of : {D S K L : Type 0} (state : D → DiskState) (command : Command) (t : Tells S K L) (s : Status) (a b : Outside S K L) (disks disks' : List (Option D))
     → is_mirror (Some command) ≡ false → length disks ≡ file_count command
@@ -372,6 +373,7 @@ runs-of state (command.Get asked) t s a b disks disks' other count run = over_no
 runs-of state (command.Put asked) t s a b disks disks' other count run = over_none count (λ disk e. let f = sym (ap is_copy_status e) ∙ run.0 in absurd cc)
 runs-of state (command.Live asked) t s a b disks disks' other count run = over_none count (λ disk e. let f = sym (ap is_live_status e) ∙ run.0 in absurd cc)
 runs-of state (command.Switch asked) t s a b disks disks' other count run = over_none count (λ disk e. no-disk-switched run.0.end disk (sym run.0.ends ∙ e))
+runs-of state (command.Keep action) t s a b disks disks' other count run = over_one count (λ disk e. (run.0.blames disk e).0)
 
 module _ {D S K L : Type 0} (state : D → DiskState) (command : Command) (t : Tells S K L) (s : Status) (a b : Outside S K L) (disks disks' : List (Option D))
     (run : refused_slot s ≡ None → s ≢ status.NoMemory → Ran state command t s a b disks disks')
@@ -392,6 +394,7 @@ module _ {D S K L : Type 0} (state : D → DiskState) (command : Command) (t : T
         where
           over : Runs state t s a b disks disks' → OnSlot (λ _ _ keep keep'. KeepIs state s slot keep keep') slot disks disks'
           over (over_none empty fine) = on-none (λ _ _ keep keep'. KeepIs state s slot keep keep') slot disks disks' empty
+          over (over_one one first) = on-few (λ _ _ keep keep'. KeepIs state s slot keep keep') slot disks disks' (omega (arith, one))
           over (over_files rack p r) =
               let x = r.run in
               on-map (Stands state x.first x.last slot) (λ _ _ keep keep'. KeepIs state s slot keep keep') slot disks disks'
@@ -448,6 +451,7 @@ module _ {D S K L : Type 0} (state : D → DiskState) (command : Command) (t : T
 
       over : Runs state t s a b disks disks' → disk < length disks
       over (over_none empty fine) = absurd (fine disk e)
+      over (over_one one first) = omega (arith, one, first disk e)
       over (over_files rack p r) =
           let u = unsynced-disk r.exported.end r.exported.unsynced disk (sym e ∙ r.ends) in
           omega (arith, u.2, unsynced-within state _ _ _ t _ r.exported a b disks disks' r.run u.0 u.1)
@@ -461,6 +465,7 @@ module _ {D S K L : Type 0} (state : D → DiskState) (command : Command) (t : T
     where
       over : Runs state t s a b disks disks' → OnSlot (λ file file' _ _. Rose (state file).faults (state file').faults) slot disks disks'
       over (over_none empty fine) = absurd (fine (file_at slot) e)
+      over (over_one one first) = on-few (λ file file' _ _. Rose (state file).faults (state file').faults) slot disks disks' (omega (arith, one))
       over (over_files rack p r) = unsynced-rose state _ _ _ t _ r.exported a b disks disks' r.run slot
           (unsynced-at r.exported.end r.exported.unsynced slot (sym e ∙ r.ends))
 
@@ -469,6 +474,7 @@ module _ {D S K L : Type 0} (state : D → DiskState) (command : Command) (t : T
     where
       over : Runs state t s a b disks disks' → OnSlot (λ _ file' _ _. IfSome (state file').contents NothingLoose) slot disks disks'
       over (over_none empty fine) = on-none (λ _ file' _ _. IfSome (state file').contents NothingLoose) slot disks disks' empty
+      over (over_one one first) = on-few (λ _ file' _ _. IfSome (state file').contents NothingLoose) slot disks disks' (omega (arith, one))
       over (over_files rack p r) = all-settled state _ _ _ t _ r.exported a b disks disks' r.run slot
           (synced-at r.exported.end r.exported.unsynced (sym e ∙ r.ends))
 
@@ -486,6 +492,7 @@ pairs-only (command.Get asked) e = absurd cc
 pairs-only (command.Put asked) e = absurd cc
 pairs-only (command.Live asked) e = absurd cc
 pairs-only (command.Switch asked) e = absurd cc
+pairs-only (command.Keep action) e = absurd cc
 
 -- what is so of the command that the arguments spell is so of the one that was read
 pub of-command : (P : Option Command → Type 0) (o o' : Option Command) (command : Command) → o ≡ Some command → o ≡ o' → P o' → P (Some command)

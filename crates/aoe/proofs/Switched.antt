@@ -1,5 +1,5 @@
 -- A run of a switch that had learnt nothing.
-use Rattle.std.proofs.Common.{◌≡◌, ℕ, List, [], ◌∷◌, ◌++◌, length, Option, ap, subst, sym, append-nil}
+use Rattle.std.proofs.Common.{◌≡◌, ℕ, List, [], ◌∷◌, ◌++◌, length, Option, ap, subst, append-nil}
 use Rattle.std.specs.Prelude.{All}
 use Rattle.aoe_io.specs.Bytes.{Took, TookSome}
 use Rattle.aoe_vlan.specs.Running.{IsPiece, Ran, Stops, Writes, came, given_bytes, pieces, switched_behind}

@@ -1,19 +1,26 @@
 -- What each command exports, and how its frames come.
-use Rattle.std.specs.Prelude.{ℕ, ◌||◌, Bool, true, false, [], ◌∷◌, Option, None, Some}
+use Rattle.std.specs.Prelude.{ℕ, ◌||◌, Bool, true, false, [], ◌∷◌, Option, None, Some, if◌then◌else◌}
 use Rattle.aoe_target.specs.declared.station.Station.{Station}
 use Rattle.aoe_serve.specs.Files.{named}
 use Rattle.aoe_serve.specs.declared.over_files.Rack.{Rack}
+use Rattle.aoe_serve.specs.declared.over_stream.Format.{Format}
+use Rattle.aoe_serve.specs.declared.over_stream.Format.TheVariants as format
 use Rattle.aoe_serve.specs.declared.plan.Plan.{Plan}
 use Rattle.aoe_serve.specs.declared.plan.Plan.TheVariants as plan
 use Rattle.aoe_words.specs.declared.command.Command.{Command}
-use Rattle.aoe_words.specs.declared.command.Command.TheVariants.{Answer, Ask, Get, Live, Mirror, Put, Replay, Serve}
+use Rattle.aoe_words.specs.declared.command.Command.TheVariants.{Answer, Ask, Get, Keep, Live, Mirror, Put, Replay, Serve}
 use Rattle.aoe_words.specs.declared.command.Answer.{Answer as Answers}
 use Rattle.aoe_words.specs.declared.command.Mirror.{Mirror as Mirrors}
 use Rattle.aoe_words.specs.declared.command.Serve.{Serve as Serves}
 
--- What the slot of `answer` has, and what is done with it: its frames come and go as streams.
+-- what `capture` writes, or else `answer`
+abbrev pub format_of : Bool → Format
+format_of captures = if captures then format.Capture else format.Replies
+
+-- What the slot of `answer` or `capture` has, and what is done with it: its frames come as a stream.
 abbrev pub answer_plan : Answers → Rack × Plan
-answer_plan answer = (record { first = answer.id; ports = record { items = answer.port ∷ [] }; mtu = answer.mtu; cache = answer.cache }, plan.Answer)
+answer_plan answer =
+    (record { first = answer.id; ports = record { items = answer.port ∷ [] }; mtu = answer.mtu; cache = answer.cache; durable = answer.durable }, plan.Answer (format_of answer.captures))
 
 -- the number of frames or turns that ends a run; where none does, more than ever come: at a million each second, those of 584,000 years
 abbrev pub limit : Option ℕ → ℕ
@@ -22,11 +29,11 @@ limit (Some n) = n
 
 -- What the slots of `serve` have in common, which are numbered from 0 on, and what is done with them: their frames come and go by a link.
 abbrev pub serve_plan : Serves → Rack × Plan
-serve_plan serve = (record { first = record { major = serve.shelf; minor = 0 }; ports = serve.ports; mtu = serve.mtu; cache = serve.cache }, plan.Serve (limit serve.frames) (limit serve.idle))
+serve_plan serve = (record { first = record { major = serve.shelf; minor = 0 }; ports = serve.ports; mtu = serve.mtu; cache = serve.cache; durable = serve.durable }, plan.Serve (limit serve.frames) (limit serve.idle))
 
 -- What the slot of `mirror` has: its frames come and go as streams, and its store holds nothing back.
 abbrev pub mirror_rack : Mirrors → Rack
-mirror_rack mirror = record { first = mirror.id; ports = record { items = mirror.port ∷ [] }; mtu = mirror.mtu; cache = 0 }
+mirror_rack mirror = record { first = mirror.id; ports = record { items = mirror.port ∷ [] }; mtu = mirror.mtu; cache = 0; durable = false }
 
 -- it exports files as slots, a pair of disks each: a file and its keep
 abbrev pub exports : Option Command → Bool
@@ -38,6 +45,11 @@ exports command = false
 abbrev pub is_mirror : Option Command → Bool
 is_mirror (Some (Mirror asked)) = true
 is_mirror command = false
+
+-- it works on a keep alone
+abbrev pub is_upkeep : Option Command → Bool
+is_upkeep (Some (Keep action)) = true
+is_upkeep command = false
 
 -- it asks by the first link
 abbrev pub is_tool : Option Command → Bool

@@ -5,3 +5,4 @@ pub mod Switching
 pub mod Tools
 pub mod Live
 pub mod Mirror
+pub mod Keeping

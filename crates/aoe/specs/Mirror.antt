@@ -1,5 +1,5 @@
 -- A run of `mirror`, by its status. Its disks are the sides 0 and 1, 2 that says which side leads, and 3 the keep.
-use Rattle.std.specs.Prelude.{ℕ, ◌≡◌, ◌≢◌, ◌≤◌, ◌<◌, ◌==◌, ◌⊎◌, ◌↔◌, Bool, true, false, List, [], ◌∷◌, Option, Some, IfOk, IfErr, IfSome, Result, if◌then◌else◌}
+use Rattle.std.specs.Prelude.{ℕ, ◌≡◌, ◌≢◌, ◌≤◌, ◌==◌, ◌⊎◌, ◌↔◌, Bool, true, false, List, [], ◌∷◌, Option, Some, IfOk, IfErr, IfSome, Result, if◌then◌else◌}
 use Rattle.aoe_base.specs.Faults.{Rose}
 use Rattle.aoe_disk.specs.State.{DiskState}
 use Rattle.aoe_mirror.specs.Sides.{both}
@@ -8,6 +8,7 @@ use Rattle.aoe_serve.specs.Mirroring.{AreEqual, IsMirrored, Stops, faults_of}
 use Rattle.aoe_serve.specs.declared.over_mirror.MirrorDisks.{MirrorDisks}
 use Rattle.aoe_serve.specs.declared.over_mirror.MirrorEnd.{MirrorEnd}
 use Rattle.aoe_serve.specs.declared.over_mirror.MirrorStop.{MirrorStop}
+use Rattle.aoe_serve.specs.declared.over_stream.Format.TheVariants as format
 use Rattle.aoe_serve.specs.declared.plan.Plan.TheVariants as plan
 use Rattle.aoe_words.specs.declared.command.Mirror.{Mirror}
 use Rattle.aoe.specs.Commands.{mirror_rack, target_of}
@@ -56,7 +57,7 @@ pub record RunsMirror {D S K L : Type 0} (state : D → DiskState) (asked : Mirr
   pub are : disks' ≡ four_of back
   pub answer : Result MirrorEnd MirrorStop
   pub ends : s ≡ mirrored_as answer
-  pub ran : IfOk answer (λ e. IsMirrored state (target_of (mirror_rack asked) asked.id.minor) t plan.Answer e a b given back)
+  pub ran : IfOk answer (λ e. IsMirrored state (target_of (mirror_rack asked) asked.id.minor) t (plan.Answer format.Replies) e a b given back)
   pub stopped : IfErr answer (λ why. Stops state why given back × (b.source ≡ a.source) × (b.sink ≡ a.sink) × (b.links ≡ a.links))
   -- exactly when sides and a mark disk are refused
   pub unequal : (first second : ℕ)

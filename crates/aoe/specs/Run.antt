@@ -5,6 +5,7 @@ use Rattle.aoe_disk.specs.State.{Contents, DiskState, is_loose}
 use Rattle.aoe_keep.specs.Found.{found}
 use Rattle.aoe_keep.specs.declared.refusal.MountRefusal.{MountRefusal}
 use Rattle.aoe_lists.specs.Settings.{Settings}
+use Rattle.aoe_serve.specs.Backing.{held_back}
 use Rattle.aoe_serve.specs.Exporting.{AtFirst, IsExported, Outside, Tells}
 use Rattle.aoe_serve.specs.Files.{GivesBack}
 use Rattle.aoe_serve.specs.declared.plan.Exported.{Exported}
@@ -23,6 +24,7 @@ use Rattle.aoe_words.specs.declared.command.Tool.{Tool}
 use Rattle.aoe_tools.specs.Runs.{Told}
 use Rattle.aoe.specs.Commands.{answer_plan, serve_plan, target_of}
 use Rattle.aoe.specs.Ending.{file_at, keep_at, refused_as, refused_slot, replayed_as, status_of}
+use Rattle.aoe.specs.Keeping.{RunsKeep}
 use Rattle.aoe.specs.Live.{is_live_status}
 use Rattle.aoe.specs.Mirror.{is_mirror_status}
 use Rattle.aoe.specs.Switching.{Switches}
@@ -33,7 +35,7 @@ use Rattle.aoe.specs.declared.status.Status.TheVariants as status
 -- A run over files and their keeps, which were all mounted: it ended so, and the status says how.
 pub record RanFiles {D S K L : Type 0} (state : D → DiskState) (rack : Rack) (p : Plan) (t : Tells S K L) (s : Status) (a b : Outside S K L) (disks disks' : List (Option D)) : Type 0 where
   pub exported : Exported
-  pub run : IsExported state rack.cache (target_of rack) rack.first.minor t p exported a b disks disks'
+  pub run : IsExported state (held_back rack.durable rack.cache) (target_of rack) rack.first.minor t p exported a b disks disks'
   pub ends : s ≡ status_of exported
 
 -- A run of the script that a source gave to its end, with its text on the sink: it ended so, and the status says how. But for a whole run
@@ -51,7 +53,7 @@ pub record RanSoak {K : Type 0} (held : K → Option (List ℕ)) (asked : Soak) 
   pub leaves : LeavesSink end sink sink'
   pub ends : s ≡ replayed_as end
 
--- a run of a command: over files, of the script that the source gives, of the script of `soak`, of a tool, or of a switch
+-- a run of a command: over files, of the script that the source gives, of the script of `soak`, of a tool, of a switch, or on a keep alone
 abbrev pub Ran : {D S K L : Type 0} → (D → DiskState) → Command → Tells S K L → Status → Outside S K L → Outside S K L → List (Option D) → List (Option D)
     → Type 0
 Ran state (command.Answer answer) t s a b disks disks' = RanFiles state (answer_plan answer).0 (answer_plan answer).1 t s a b disks disks'
@@ -65,6 +67,8 @@ Ran state (command.Put asked) t s a b disks disks' = (is_copy_status s ≡ true)
 Ran state (command.Live asked) t s a b disks disks' = (is_live_status s ≡ true) × (b.source ≡ a.source) × (disks' ≡ disks)
 Ran state (command.Switch asked) t s a b disks disks' =
     Switches asked.ports.items s (t.left a.source) (t.left b.source) (t.held a.sink) (t.held b.sink) × (b.links ≡ a.links) × (disks' ≡ disks)
+Ran state (command.Keep action) t s a b disks disks' =
+    RunsKeep state action s (t.held a.sink) (t.held b.sink) disks disks' × (b.source ≡ a.source) × (b.links ≡ a.links)
 
 -- a tool ran over the first link and a clock, and a sink took what it says
 abbrev pub Asked : {K L : Type 0} → (K → Option (List ℕ)) → (L → L → Told) → Tool → Status → K → K → List L → List L → Type 0

@@ -1,8 +1,7 @@
 //! The words that the program is run with: its arguments, and what the environment adds to them.
-use std::env;
 use std::env::VarError;
-use std::io;
 use std::io::ErrorKind;
+use std::{env, io};
 
 /// The ends of a link: the option of each, and the variable of the environment that stands for it.
 const ENDS: [(&str, &str); 2] = [("--local", "AOE_LOCAL"), ("--peers", "AOE_PEERS")];

@@ -74,16 +74,15 @@ impl Log {
 
     /// Adds a keep's lists, where it can be mounted, and gives its disk back.
     fn add_keep(&mut self, disk: FileDisk, name: &str) -> FileDisk {
+        let rt = self.rt;
         match Keep::mount(disk) {
             Ok(keep) => {
                 let (masks, reserves) = (keep.lists().masks.len(), keep.lists().reserves.len());
-                self.add_text(format!(in self.rt.alloc();
-                    " {name} {masks} masks {reserves} reserves;"
-                ));
+                self.add_text(format!(in rt.alloc(); " {name} {masks} masks {reserves} reserves;"));
                 keep.close()
             }
             Err((_, disk)) => {
-                self.add_text(format!(in self.rt.alloc(); " {name} without lists;"));
+                self.add_text(format!(in rt.alloc(); " {name} without lists;"));
                 disk
             }
         }
@@ -91,21 +90,23 @@ impl Log {
 
     /// Adds a file, and gives it back. From then on each of its failed calls is said.
     pub fn watch(&mut self, disk: FileDisk, name: &str, is_keep: bool) -> FileDisk {
+        let rt = self.rt;
         let mut disk = if is_keep {
             self.add_keep(disk, name)
         } else {
             let sectors = disk.sectors();
-            self.add_text(format!(in self.rt.alloc(); " {name} {sectors} sectors,"));
+            self.add_text(format!(in rt.alloc(); " {name} {sectors} sectors,"));
             disk
         };
-        if let Ok(name) = format!(in self.rt.alloc(); "{name}") {
-            disk.log_to(FileLog { rt: self.rt, name });
+        if let Ok(name) = format!(in rt.alloc(); "{name}") {
+            disk.log_to(FileLog { rt, name });
         }
         disk
     }
 
     /// Adds what carries the frames.
     fn add_link(&mut self, words: &PortWords) {
+        let rt = self.rt;
         match words {
             PortWords::Udp {
                 local,
@@ -117,7 +118,7 @@ impl Log {
                 self.add(b" to ");
                 self.add(peers.bytes());
                 if let Some(vni) = vxlan {
-                    self.add_text(format!(in self.rt.alloc(); " in VXLAN {vni}"));
+                    self.add_text(format!(in rt.alloc(); " in VXLAN {vni}"));
                 }
             }
             PortWords::Tap { file } => {
@@ -129,9 +130,10 @@ impl Log {
 
     /// Says the shelf that is served: its files, its ports and its link.
     pub fn start(&mut self, serve: &Serve, ends: &[PortWords]) {
+        let rt = self.rt;
         let shelf = serve.shelf;
-        if let Ok(text) = format!(in self.rt.alloc(); "aoe: shelf {shelf}:") {
-            say(&self.rt, text.as_bytes());
+        if let Ok(text) = format!(in rt.alloc(); "aoe: shelf {shelf}:") {
+            say(&rt, text.as_bytes());
         }
         self.add(b" ports ");
         let _ = put_macs(&mut self.line, serve.ports.as_slice());
@@ -140,7 +142,7 @@ impl Log {
             self.add_link(words);
         }
         self.add(b"\n");
-        say(&self.rt, self.line.as_slice());
+        say(&rt, self.line.as_slice());
     }
 
     /// Says what came of the shelf.

@@ -4,8 +4,8 @@
 //! for; files are opened and locked, and then sockets and tap files; [`aoe`] runs the command over them,
 //! the standard streams and a clock; the text of its [`Status`] goes to standard error.
 //!
-//! `aoe` (`top`, with `plan`, `mirror`, `tools`, `live` and `switch`) opens nothing and says no status; its contract is what
-//! the program promises. What a file, a socket, a stream and a clock do is in adapters (`files`,
+//! `aoe` (`top`, with `plan`, `mirror`, `tools`, `live`, `switch` and `upkeep`) opens nothing and says no status;
+//! its contract is what the program promises. What a file, a socket, a stream and a clock do is in adapters (`files`,
 //! `wire`, `until`, `streams`, `clock`), which tell the proofs nothing of content; `progress` shows how far a
 //! mirror's start is. The program catches no signal and starts no thread.
 #![tactic(auto)]
@@ -28,6 +28,7 @@ mod switch;
 mod tools;
 mod top;
 mod until;
+mod upkeep;
 mod wire;
 
 use aoe_base::{Blob, NoMemory};
@@ -41,9 +42,9 @@ use files::{FileDisk, FileRefusal, KeepDoubt};
 use log::{Log, say};
 use status::Status;
 use std::fs::File;
+use std::io;
 use std::io::{BufReader, ErrorKind};
 use std::process::ExitCode;
-use std::io;
 use streams::{Input, Output};
 use top::aoe;
 use until::Until;
@@ -108,13 +109,13 @@ fn hold_streams(rt: &HostRuntime) -> io::Result<(File, File, File)> {
     ))
 }
 
-/// Whether the file with this number is to be a keep: the last of a mirror's four, and of any other
-/// command each second one.
-fn is_keep(is_mirror: bool, number: usize) -> bool {
-    if is_mirror {
-        number == 3
-    } else {
-        number % 2 == 1
+/// Whether the file with this number is to be a keep: the last of a mirror's four, the only one of
+/// `keep`, and of any other command each second one.
+fn is_keep(command: Option<&Command>, number: usize) -> bool {
+    match command {
+        Some(Command::Mirror(_)) => number == 3,
+        Some(Command::Keep(_)) => true,
+        _ => number % 2 == 1,
     }
 }
 
@@ -122,7 +123,7 @@ fn is_keep(is_mirror: bool, number: usize) -> bool {
 /// to a mirror's first two files is shown, and where there is a log it gets what fails.
 fn open_file(
     rt: &HostRuntime,
-    is_mirror: bool,
+    command: Option<&Command>,
     number: usize,
     name: &str,
     log: &mut Option<Log>,
@@ -131,11 +132,11 @@ fn open_file(
         Ok(disk) => disk,
         Err(refusal) => return Err(tell_refused(rt, name.as_bytes(), refusal)),
     };
-    if is_mirror && number < 2 {
+    if matches!(command, Some(Command::Mirror(_))) && number < 2 {
         disk.show_copying(rt);
     }
     Ok(match log {
-        Some(log) => log.watch(disk, name, is_keep(is_mirror, number)),
+        Some(log) => log.watch(disk, name, is_keep(command, number)),
         None => disk,
     })
 }
@@ -143,7 +144,7 @@ fn open_file(
 /// Opens the files with these names; the exit status where one can't be opened, which is said.
 fn open_all(
     rt: &HostRuntime,
-    is_mirror: bool,
+    command: Option<&Command>,
     names: &[String],
     log: &mut Option<Log>,
 ) -> Result<Vec<Option<FileDisk>>, u8>
@@ -152,7 +153,7 @@ fn open_all(
 {
     let mut disks = Vec::new(rt.alloc());
     'names: for name in names {
-        let disk = open_file(rt, is_mirror, disks.len(), name.as_str(), log)?;
+        let disk = open_file(rt, command, disks.len(), name.as_str(), log)?;
         if disks.push(Some(disk)).is_err() {
             return Err(tell(rt, Status::NoMemory));
         }
@@ -163,13 +164,13 @@ fn open_all(
 /// Looks at each file that is to be a keep; the exit status where one holds other data, which is said.
 fn look_at_keeps(
     rt: &HostRuntime,
-    is_mirror: bool,
+    command: Option<&Command>,
     names: &[String],
     disks: &[Option<FileDisk>],
 ) -> Result<(), u8> {
     'files: for (number, (name, disk)) in names.iter().zip(disks.iter()).enumerate() {
         if let Some(disk) = disk
-            && is_keep(is_mirror, number)
+            && is_keep(command, number)
             && let Some(doubt) = disk.keep_doubt()
         {
             let disk = u32::try_from(number).unwrap_or(u32::MAX);
@@ -343,13 +344,12 @@ fn run_named(
         Ok(command) => command,
         Err(NoMemory) => return tell(rt, Status::NoMemory),
     };
-    let is_mirror = matches!(command, Some(Command::Mirror(_)));
     let mut log = Log::asked(rt);
-    let mut disks = match open_all(rt, is_mirror, names, &mut log) {
+    let mut disks = match open_all(rt, command.as_ref(), names, &mut log) {
         Ok(disks) => disks,
         Err(code) => return code,
     };
-    if let Err(code) = look_at_keeps(rt, is_mirror, names, disks.as_slice()) {
+    if let Err(code) = look_at_keeps(rt, command.as_ref(), names, disks.as_slice()) {
         return code;
     }
     let mut links = match open_links(rt, ends, stop) {

@@ -9,7 +9,7 @@ use crate::plan::{mirror_rack, mirrored_as};
 use crate::status::Status;
 use aoe_disk::Disk;
 use aoe_io::{Link, Sink, Source};
-use aoe_serve::{MirrorDisks, Plan, export_mirror};
+use aoe_serve::{Format, MirrorDisks, Plan, export_mirror};
 use aoe_words::Mirror;
 use std::alloc::Global;
 
@@ -88,7 +88,8 @@ pub(crate) fn run_mirror<S: Source, K: Sink, D: Disk + Drop, L: Link>(
 {
     let rack = mirror_rack(asked);
     let given = take_four(disks);
-    let (answer, back) = export_mirror(alloc, rack, Plan::Answer, source, sink, given, links);
+    let plan = Plan::Answer(Format::Replies);
+    let (answer, back) = export_mirror(alloc, rack, plan, source, sink, given, links);
     put_four(disks, back);
     mirrored_as(answer)
 }

@@ -2,14 +2,14 @@
 ghost use Rattle.std.specs.Prelude.{◌≡◌, ◌≤◌, ◌*◌, [], ◌∷◌, IfSome};
 ghost use Rattle.aoe_words.specs.Words.{CanAnswer, CanMirror, CanServe};
 ghost use Rattle.aoe_serve.specs.Exporting.{CanExport};
-ghost use Rattle.aoe.specs.Commands.{answer_plan, limit, mirror_rack, serve_plan};
+ghost use Rattle.aoe.specs.Commands.{answer_plan, format_of, limit, mirror_rack, serve_plan};
 ghost use Rattle.aoe.specs.Ending.{after_syncs, ended_by, excess_of, kept_out, mirrored_as, refused_as, replayed_as, status_of, stopped_by};
 
 use crate::status::{Status, What};
 use aoe_base::{Mac, Ports, TargetId};
 use aoe_keep::MountRefusal;
 use aoe_mirror::MirrorRefusal;
-use aoe_serve::{AnswerEnd, Exported, MirrorEnd, MirrorStop, Plan, Rack, RunEnd, ServeEnd};
+use aoe_serve::{AnswerEnd, Exported, Format, MirrorEnd, MirrorStop, Plan, Rack, RunEnd, ServeEnd};
 use aoe_words::{Answer, Mirror, Serve};
 use aoe_world::{ReplayEnd, ReplayLimit};
 
@@ -28,7 +28,18 @@ fn one_port(port: Mac) -> Ports
     ports
 }
 
-/// The slot of `answer`, and what is done with it.
+/// What a run writes: `capture`, or else `answer`.
+fn format_of(captures: bool) -> Format
+    ensures { result ≡ format_of captures }
+{
+    if captures {
+        Format::Capture
+    } else {
+        Format::Replies
+    }
+}
+
+/// The slot of `answer` or `capture`, and what is done with it.
 pub(crate) fn answer_plan(answer: Answer) -> (Rack, Plan)
     requires { CanAnswer answer }
     ensures plan { result ≡ answer_plan answer }
@@ -39,8 +50,9 @@ pub(crate) fn answer_plan(answer: Answer) -> (Rack, Plan)
         ports: one_port(answer.port),
         mtu: answer.mtu,
         cache: answer.cache,
+        durable: answer.durable,
     };
-    (rack, Plan::Answer)
+    (rack, Plan::Answer(format_of(answer.captures)))
 }
 
 /// The number of frames or turns that ends a run; where none does, more than ever come.
@@ -64,6 +76,7 @@ pub(crate) fn serve_plan(serve: Serve) -> (Rack, Plan)
         ports: serve.ports,
         mtu: serve.mtu,
         cache: serve.cache,
+        durable: serve.durable,
     };
     let plan = Plan::Serve {
         frames: limit(serve.frames),
@@ -76,13 +89,14 @@ pub(crate) fn serve_plan(serve: Serve) -> (Rack, Plan)
 pub(crate) fn mirror_rack(mirror: Mirror) -> Rack
     requires { CanMirror mirror }
     ensures rack { result ≡ mirror_rack mirror }
-    ensures possible { CanExport result Plan.Answer 2 0 }
+    ensures possible { CanExport result (Plan.Answer Format.Replies) 2 0 }
 {
     Rack {
         first: mirror.id,
         ports: one_port(mirror.port),
         mtu: mirror.mtu,
         cache: 0,
+        durable: false,
     }
 }
 

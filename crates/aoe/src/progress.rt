@@ -33,7 +33,10 @@ impl Progress {
             rt: *rt,
             written: 0,
             synced: 0,
-            due: rt.monotonic().ok()?.saturating_add(Duration::from_secs(PERIOD)),
+            due: rt
+                .monotonic()
+                .ok()?
+                .saturating_add(Duration::from_secs(PERIOD)),
             is_said: false,
         })
     }
@@ -70,7 +73,9 @@ impl Progress {
 
     fn say(&self, sectors: u64) {
         let copied = self.synced;
-        if let Ok(text) = format!(in self.rt.alloc(); "\raoe: copied {copied} of {sectors} sectors") {
+        if let Ok(text) = format!(in self.rt.alloc();
+            "\raoe: copied {copied} of {sectors} sectors"
+        ) {
             let _ = self.rt.stderr().write_all(text.as_bytes());
         }
     }

@@ -4,6 +4,7 @@ ghost use Rattle.aoe_tools.specs.One.{edits_by};
 ghost use Rattle.aoe_tools.specs.Runs.{told};
 ghost use Rattle.aoe_words.specs.Tools.{CanGet};
 ghost use Rattle.aoe_base.specs.Faults.{Blamed};
+ghost use Rattle.aoe_lists.specs.Settings.{max_directives};
 ghost use Rattle.aoe.specs.Tools.{CanAsk, CopiesIn, CopiesOut, RunsTool, Says, SaysConfig, SaysFlush, SaysFound, SaysMasks, SaysReserves, SaysStat, ask_of, copy_status, dirs_of, is_copy_status, is_tool_status, said, tool_status};
 
 use crate::status::{Status, What};
@@ -40,7 +41,7 @@ fn said(text: Result<Blob, NoMemory>) -> Result<Blob, ToolRefusal>
 /// The directives of an edit.
 fn dirs_of(asked: &Mask) -> Option<&[Dir]>
     ensures dirs { option_copied result ≡ dirs_of asked.now }
-    ensures few { length (edits_by (option_copied result)).1 ≤ 64 }
+    ensures few { length (edits_by (option_copied result)).1 ≤ max_directives }
 {
     match &asked.dirs {
         Some(dirs) => Some(dirs.as_slice()),

@@ -12,13 +12,15 @@ ghost use Rattle.aoe_words.specs.Words.{CanSoak, IsInRange, command, file_count,
 ghost use Rattle.aoe_words.specs.declared.command.Answer.{Answer as Answers};
 ghost use Rattle.aoe_words.specs.declared.command.Serve.{Serve as Serves};
 ghost use Rattle.aoe_words.specs.declared.command.Get.{Get as Gets};
+ghost use Rattle.aoe_words.specs.declared.command.KeepAction.{KeepAction};
 ghost use Rattle.aoe_words.specs.declared.command.Live.{Live as Lives};
 ghost use Rattle.aoe_words.specs.declared.command.Mirror.{Mirror as Mirrors};
 ghost use Rattle.aoe_words.specs.declared.command.Put.{Put as Puts};
 ghost use Rattle.aoe_words.specs.declared.command.Soak.{Soak as Soaks};
 ghost use Rattle.aoe_words.specs.declared.command.Tool.{Tool};
 ghost use Rattle.aoe_base.specs.Faults.{Blamed, Rose};
-ghost use Rattle.aoe.specs.Commands.{exports, is_live, is_mirror, reads_input, uses_clock};
+ghost use Rattle.aoe.specs.Commands.{exports, is_live, is_mirror, is_upkeep, reads_input, uses_clock};
+ghost use Rattle.aoe.specs.Keeping.{RunsKeep};
 ghost use Rattle.aoe.specs.Live.{AreBlamed, AtBoth, RunsLive, ends};
 ghost use Rattle.aoe.specs.Ending.{file_at, keep_at, refused_slot};
 ghost use Rattle.aoe.specs.Mirror.{RunsMirror};
@@ -30,6 +32,7 @@ use crate::plan::{answer_plan, refused_as, replayed_as, serve_plan, status_of};
 use crate::status::Status;
 use crate::switch::run_switch;
 use crate::tools::{run_get, run_put, run_tool};
+use crate::upkeep::run_keep;
 use aoe_base::NoMemory;
 use aoe_disk::Disk;
 use aoe_io::{Clock, Link, Sink, Source};
@@ -136,9 +139,11 @@ fn run_command<S: Source, K: Sink, D: Disk + Drop, L: Link, C: Clock>(
         record { left = S.left; held = K.held; turns = L.turns; given = L.given; taken = L.taken } result
         record { source = source.old; sink = sink.old; links = links.old } record { source = source.new; sink = sink.new; links = links.new }
         disks.old disks.new }
+    ensures keeps { (action : KeepAction) → command ≡ Command.Keep action
+        → RunsKeep D.state action result (K.held sink.old) (K.held sink.new) disks.old disks.new }
     ensures memory { result ≡ Status.NoMemory → (reads_input (Some command) ≡ false
         → source.new ≡ source.old) × (sink.new ≡ sink.old)
-        × (is_mirror (Some command) ≡ false → disks.new ≡ disks.old) × (uses_clock (Some command) ≡ false → links.new ≡ links.old) }
+        × (is_mirror (Some command) ≡ false → is_upkeep (Some command) ≡ false → disks.new ≡ disks.old) × (uses_clock (Some command) ≡ false → links.new ≡ links.old) }
     ensures asks { (tool : Tool) → command ≡ Command.Ask tool → Asked K.held (λ a b. told C.least C.answers L.turns L.given L.taken clock.old clock.new a b) tool result sink.old sink.new links.old links.new }
     ensures gets { (asked : Gets) → command ≡ Command.Get asked → IsGot K.held (λ a b. told C.least C.answers L.turns L.given L.taken clock.old clock.new a b) asked result sink.old sink.new links.old links.new }
     ensures puts { (asked : Puts) → command ≡ Command.Put asked → IsPut S.left (λ a b. told C.least C.answers L.turns L.given L.taken clock.old clock.new a b) asked result source.old source.new links.old links.new }
@@ -182,6 +187,7 @@ fn run_command<S: Source, K: Sink, D: Disk + Drop, L: Link, C: Clock>(
         Command::Ask(tool) => run_tool(alloc, &tool, sink, &mut links[0], clock),
         Command::Get(asked) => run_get(alloc, &asked, sink, &mut links[0], clock),
         Command::Put(asked) => run_put(alloc, &asked, source, &mut links[0], clock),
+        Command::Keep(action) => run_keep(alloc, action, sink, disks),
     }
 }
 
@@ -193,7 +199,8 @@ fn run_command<S: Source, K: Sink, D: Disk + Drop, L: Link, C: Clock>(
 /// the targets SHELF.0, SHELF.1 and so on over the pairs of disks and behind the ports that `--ports`
 /// names, until `--frames` frames came or `--idle` consecutive turns brought none. A frame carries as
 /// much as `--mtu` says. Each target holds back as many sectors that were written as `--cache` says,
-/// until it has no room or its store is synced.
+/// until it has no room or its store is synced. With `--durable` each write is synced before it is
+/// answered, and what it wrote outlives every loss of power until a later write to it.
 ///
 /// `mirror SHELF SLOT FILE FILE MARK KEEP` answers as `answer` does over two sides, the first two
 /// disks, either of which may fail. The third says which of them leads, and the fourth is the keep. The
@@ -220,12 +227,19 @@ fn run_command<S: Source, K: Sink, D: Disk + Drop, L: Link, C: Clock>(
 /// that was a source in its VLAN, to the VLAN's other ports where it wasn't, and never to a port of
 /// another VLAN.
 ///
+/// `keep KEEP ACTION` mounts a keep that no shelf serves, as the first disk. `show` puts a line on the
+/// sink with the lists that it holds and the number of their format; no sector is changed. `upgrade`
+/// writes the lists in the format that is written now, and `lock` and `unlock` set and clear their
+/// read-only mark: every crash finds them so afterwards, and where a call of the disk fails it finds
+/// them as they were or so.
+///
 /// Of `answer` and `serve` the second disk of each pair is the keep of the target's lists. All keeps are mounted first, and
 /// where one is refused nothing is read, written or sent. At the end each store is synced, however
 /// the run ended. There are as many disks as `files_of` names, and as many links as `ports_of`.
 ///
 /// Memory is taken while the arguments are read, and for the shelf and its stores before the first keep is
-/// mounted; then no more. A replay takes memory until its text is written, and so does a tool.
+/// mounted; then no more. A replay takes memory until its text is written, and so does a tool; `keep` takes
+/// it for its line.
 pub fn aoe<S: Source, K: Sink, D: Disk + Drop, L: Link, C: Clock>(
     alloc: Global,
     words: &[String],
@@ -266,6 +280,11 @@ pub fn aoe<S: Source, K: Sink, D: Disk + Drop, L: Link, C: Clock>(
         record { source = source.old; sink = sink.old; links = links.old } record { source = source.new; sink = sink.new; links = links.new }
         disks.old disks.new }
 
+    // A keep is shown or changed while no shelf runs over it, or there was no memory to read its command.
+    ensures keeps { (action : KeepAction) → command (map string_bytes words.now) ≡ Some (Command.Keep action)
+        → (result ≡ Status.NoMemory) × (sink.new ≡ sink.old) × (disks.new ≡ disks.old)
+        ⊎ RunsKeep D.state action result (K.held sink.old) (K.held sink.new) disks.old disks.new }
+
     // When a fault is told: an object whose fault isn't told had none, and one whose fault is told had one, since the first trouble ends
     // the run. Of a command that exports files as slots, the faults of files and keeps, and when a keep is refused.
     ensures source { Blamed (result ≡ Status.SourceFault) (S.faults source.old)
@@ -285,7 +304,8 @@ pub fn aoe<S: Source, K: Sink, D: Disk + Drop, L: Link, C: Clock>(
     ensures keep_bad { exports (command (map string_bytes words.now)) ≡ true → (slot bad : ℕ) → OnSlot (λ _ _ keep _. IfSome (D.state keep).contents (λ c.
         (result ≡ Status.KeepBad (keep_at slot) bad) ↔ IsBad (D.state keep) c result slot bad)) slot disks.old disks.new }
     ensures memory { result ≡ Status.NoMemory → (reads_input (command (map string_bytes words.now)) ≡ false → source.new ≡ source.old)
-        × (sink.new ≡ sink.old) × (is_mirror (command (map string_bytes words.now)) ≡ false → disks.new ≡ disks.old) × (uses_clock (command (map string_bytes words.now)) ≡ false → links.new ≡ links.old) }
+        × (sink.new ≡ sink.old) × (is_mirror (command (map string_bytes words.now)) ≡ false → is_upkeep (command (map string_bytes words.now)) ≡ false
+        → disks.new ≡ disks.old) × (uses_clock (command (map string_bytes words.now)) ≡ false → links.new ≡ links.old) }
 
     // What a tool asks, when it ends and what it says; or there was no memory to read its command.
     ensures asks { (tool : Tool) → command (map string_bytes words.now) ≡ Some (Command.Ask tool) → (result ≡ Status.NoMemory) × (links.new ≡ links.old)

@@ -44,7 +44,7 @@ impl<D: Disk> AnyStore<D> {
 }
 
 impl<D: Disk> Store for AnyStore<D> {
-    ghost use Rattle.std.specs.Prelude.{◌/◌, length, is_err};
+    ghost use Rattle.std.specs.Prelude.{◌/◌, false, length, is_err};
     ghost use Rattle.aoe_disk.specs.State.{BothTell};
     ghost use Rattle.aoe_disk.specs.Calls.{IsRange, Reads, SyncsTo};
     ghost use Rattle.aoe_store.specs.Store.{StoresTo};
@@ -54,6 +54,8 @@ impl<D: Disk> Store for AnyStore<D> {
     ghost use Rattle.aoe_cache.specs.Free.{FreesAll, KeepsFree, SpendsFree};
 
     ghost state = { λ s. any_state D.state s };
+
+    ghost lasts = { false };
 
     ghost under = { λ s. any_under D.state s };
 

@@ -93,7 +93,7 @@ impl Cached<MemDisk> {
 }
 
 impl<D: Disk> Store for Cached<D> {
-    ghost use Rattle.std.specs.Prelude.{◌/◌, Some, length, is_err};
+    ghost use Rattle.std.specs.Prelude.{◌/◌, Some, false, length, is_err};
     ghost use Rattle.aoe_disk.specs.Calls.{IsRange, Reads, SyncsTo};
     ghost use Rattle.aoe_store.specs.Store.{StoresTo};
     ghost use Rattle.aoe_store.specs.Under.{FreesUnder, ReadsUnder, SpendsUnder};
@@ -101,6 +101,8 @@ impl<D: Disk> Store for Cached<D> {
     ghost use Rattle.aoe_cache.specs.Free.{FreesAll, KeepsFree, SpendsFree, under_of};
 
     ghost state = { λ s. state_of D.state s };
+
+    ghost lasts = { false };
 
     ghost under = { λ s. Some (under_of D.state s) };
 

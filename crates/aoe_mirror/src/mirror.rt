@@ -164,13 +164,15 @@ impl<D: Disk> Mirror<D> {
 }
 
 impl<D: Disk> Store for Mirror<D> {
-    ghost use Rattle.std.specs.Prelude.{◌≡◌, None, OnErr, IsSome, length};
+    ghost use Rattle.std.specs.Prelude.{◌≡◌, None, OnErr, IsSome, false, length};
     ghost use Rattle.aoe_disk.specs.Calls.{IsRange, Reads, SyncsTo};
     ghost use Rattle.aoe_store.specs.Store.{StoresTo};
     ghost use Rattle.aoe_mirror.specs.Calls.{Blames, MirrorReads, MirrorSyncs, MirrorWrites};
     ghost use Rattle.aoe_mirror.specs.Mirror.{pair, state_of};
 
     ghost state = { λ m. state_of D.state m };
+
+    ghost lasts = { false };
 
     ghost under = { λ m. None };
 

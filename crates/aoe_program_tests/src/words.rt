@@ -7,8 +7,7 @@ use aoe_lists::Dir;
 use aoe_vlan::PortKind;
 use aoe_words::{
     Answer, Asking, Cfg, Command, Flush, Get, Live, Mask, PortKinds, PortWords, Put, Reserve,
-    Serve, Soak, Switch, Tool, files_of, ports_of, read_words, slip_of,
-    stop_of,
+    Serve, Soak, Switch, Tool, files_of, ports_of, read_words, slip_of, stop_of,
 };
 use arrayvec::ArrayVec;
 use std::alloc::{AllocError, Global};
@@ -170,14 +169,26 @@ fn ports(macs: &[Mac]) -> Ports {
     ports
 }
 
-/// What `answer` asks for.
-fn answer(major: u16, minor: u8, port: Mac, mtu: u32, cache: u32) -> Command {
+/// What `answer` asks for, or `capture`.
+fn over_stream(id: TargetId, port: Mac, mtu: u32, cache: u32, captures: bool) -> Command {
     Command::Answer(Answer {
-        id: TargetId { major, minor },
+        id,
         port,
         mtu,
         cache,
+        captures,
+        durable: false,
     })
+}
+
+/// What `answer` asks for.
+fn answer(major: u16, minor: u8, port: Mac, mtu: u32, cache: u32) -> Command {
+    over_stream(TargetId { major, minor }, port, mtu, cache, false)
+}
+
+/// What `capture` asks for.
+fn capture(major: u16, minor: u8, port: Mac, mtu: u32, cache: u32) -> Command {
+    over_stream(TargetId { major, minor }, port, mtu, cache, true)
 }
 
 /// What `serve` asks for.
@@ -196,6 +207,7 @@ fn serve(
         ports: ports(macs),
         mtu,
         cache,
+        durable: false,
         frames,
         idle,
     })
@@ -329,6 +341,7 @@ fn names_files_and_links(rt: HostRuntime) -> Result<(), Fail> {
         ("replay", ""),
         ("soak 7 2000", ""),
         ("answer 1 --mtu 1500 0 disk keep", "disk keep"),
+        ("capture 1 --mtu 1500 0 disk keep", "disk keep"),
         (
             "serve 1 d0 k0 --local 0.0.0.0:1 d1 --peers 10.0.0.1:1 k1",
             "d0 k0 d1 k1 0.0.0.0:1>10.0.0.1:1",

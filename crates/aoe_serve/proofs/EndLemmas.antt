@@ -1,5 +1,5 @@
 -- What a run leaves at its end.
-use Rattle.std.proofs.Common.{◌≡◌, ◌<◌, ◌+◌, ℕ, zero, suc, List, [], ◌∷◌, length, Option, Some, None, refl, sym, ap, subst, ◌∙◌, arith, get_or}
+use Rattle.std.proofs.Common.{◌≡◌, ◌<◌, ◌+◌, ℕ, zero, suc, List, [], ◌∷◌, length, Option, Some, None, true, refl, sym, ap, subst, ◌∙◌, arith, get_or}
 use Rattle.std.proofs.lemmas.Option.{slice_get_within}
 use Rattle.std.specs.Prelude.{IfSome, Result, Ok, Err, slice_get}
 use Rattle.std.specs.Option.{option_map}
@@ -17,6 +17,8 @@ use Rattle.aoe_target.specs.declared.station.Station.{Station}
 use Rattle.aoe_target.proofs.DeviceLemmas.{first_state}
 use Rattle.aoe_target.proofs.LawLemmas.{agrees_then, both_then, settles_agree}
 use Rattle.aoe_target.proofs.SectorLemmas.{settle_agrees, may_settle_agrees}
+use Rattle.aoe_serve.specs.Always.{AlwaysLasts, IsLasting}
+use Rattle.aoe_serve.specs.Lasting.{lasting_by}
 use Rattle.aoe_serve.specs.Ending.{EndsAfter, LeavesKnown, Outlives, after_last}
 use Rattle.aoe_serve.specs.Exporting.{FindsAll, HasRun, Outside, SyncsEach, SyncsSlot, Tells, arrivals_in}
 use Rattle.aoe_serve.specs.Files.{OverFiles}
@@ -94,7 +96,7 @@ both_leave None y told = tt
 both_leave (Some c) None told = tt
 both_leave (Some c) (Some k) told = leaves_known c k told
 
-outlived : (d : Device) (k : State) → Holds d k → Outlives d k
+pub outlived : (d : Device) (k : State) → Holds d k → Outlives d k
 outlived d k h = record { file = both_leave d.store.contents k.sectors h.sectors; keep = h.crash }
 
 -- on a disk in the store's place an unmarked sector isn't loose either, and is as it is known
@@ -115,15 +117,22 @@ outlived_under : (d : Device) (k : State) (disk : DiskState) → Holds d k → B
 outlived_under d k disk h kept = record { file = both_under d.store.contents disk.contents k.sectors h.sectors kept; keep = h.crash }
 
 -- frames came to a slot, whose lists every crash found before, and then its store was synced
+pub always_now : (a b : Slot) (h : List Met) → AlwaysLasts a b h → IsLasting a b h
+always_now a b [] always = always
+always_now a b (m ∷ h) always = always.0
+
 ends_after : (a m b : Slot) (h : List Met) (synced : Result (Unit {0}) Failed) → AlwaysFinds a.device.keep a.device.lists → IsServed a m h
-    → SyncsSlot synced m b → EndsAfter h synced a b
-ends_after a m b h synced finds served sync =
+    → (a.lasts ≡ true → AlwaysLasts a m h) → SyncsSlot synced m b → EndsAfter h synced a b
+ends_after a m b h synced finds served always sync =
     let at_end = λ (k : State) (hold : Holds a.device k). synced_slot synced m b (left_by a.station k h) sync (served.holds k hold) in
     record {
       holds = at_end;
       outlives = outlived b.device (after_last synced (left_by a.station (state_of a.device) h)) (at_end (state_of a.device) (first_state a.device finds));
       disk_outlives = λ disk kept. outlived_under b.device (after_last synced (left_by a.station (state_of a.device) h)) disk
           (at_end (state_of a.device) (first_state a.device finds)) kept;
+      lasting = λ lasts disk kept. outlived_under b.device (after_last synced (lasting_by a.station (state_of a.device) h)) disk
+          (synced_slot synced m b (lasting_by a.station (state_of a.device) h) sync
+          ((always_now a m h (always lasts)).holds (state_of a.device) (first_state a.device finds))) kept;
     }
 
 -- the slot that stands at a place
@@ -138,8 +147,8 @@ there (x ∷ slots) (suc i) below = let t = there slots i (omega (arith, below))
 
 pub served_in : {S K L : Type 0} (t : Tells S K L) (p : Plan) (e : RunEnd) (a b : Outside S K L) (old new : List Slot) (ran : HasRun t p e a b old new)
     → AreServed old new (arrivals_in t p e a b old new ran)
-served_in t plan.Answer (end.Answered e) a b old new ran = ran.answered.served
-served_in t plan.Answer (end.Served e) a b old new ran = absurd ran
+served_in t (plan.Answer format) (end.Answered e) a b old new ran = ran.answered.served
+served_in t (plan.Answer format) (end.Served e) a b old new ran = absurd ran
 served_in t (plan.Serve frames idle) (end.Answered e) a b old new ran = absurd ran
 served_in t (plan.Serve frames idle) (end.Served e) a b old new ran = ran.served.served
 
@@ -151,7 +160,7 @@ each_ends old middle new arrivals results finds served synced = record {
   count = synced.slots.count ∙ served.slots.count;
   each = λ i a b ea eb.
       let m = there middle i (omega (arith, slice_get_within new i b eb, synced.slots.count)) in
-      ends_after a m.slot b (at_slot i arrivals) (get_or results i (Ok tt)) (finds i a ea) (served.slots.each i a m.slot ea m.is)
+      ends_after a m.slot b (at_slot i arrivals) (get_or results i (Ok tt)) (finds i a ea) (served.slots.each i a m.slot ea m.is) (served.lasting.each i a m.slot ea m.is)
       (synced.slots.each i m.slot b m.is eb);
 }
 
@@ -166,7 +175,7 @@ finds_first : (s x : Slot) → AlwaysFinds s.device.keep s.device.lists → (let
 finds_first s x finds e = let same : s ≡ x = cc in subst (λ (y : Slot). AlwaysFinds y.device.keep y.device.lists) same finds
 
 -- every crash finds the lists of a slot over a keep that was mounted
-pub over_finds : {D : Type 0} (state : D → DiskState) (most : ℕ) (name : ℕ → ℕ → Station) (minor : ℕ) (disks disks' : List (Option D)) (first last : List Slot)
+pub over_finds : {D : Type 0} (state : D → DiskState) (most : Option ℕ) (name : ℕ → ℕ → Station) (minor : ℕ) (disks disks' : List (Option D)) (first last : List Slot)
     → OverFiles state most name minor disks disks' first last → FindsAll first
 over_finds state most name minor (Some f ∷ Some k ∷ disks) (Some f' ∷ Some k' ∷ disks') (a ∷ first)
     (b ∷ last) over zero s e = finds_first a s over.0.mounted.finds e

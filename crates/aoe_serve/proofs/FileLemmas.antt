@@ -1,5 +1,5 @@
 -- Files and their keeps become slots, and leave them.
-use Rattle.std.proofs.Common.{◌≡◌, ◌≤◌, ◌<◌, ◌+◌, ℕ, zero, suc, List, [], ◌∷◌, ◌++◌, length, Option, Some, None, false, refl, sym, ap, subst, ◌∙◌, arith}
+use Rattle.std.proofs.Common.{◌≡◌, ◌≤◌, ◌<◌, ◌+◌, ℕ, zero, suc, List, [], ◌∷◌, ◌++◌, length, Option, Some, None, Bool, false, refl, sym, ap, subst, ◌∙◌, arith}
 use Rattle.std.proofs.lemmas.Bool.{ne_eqb}
 use Rattle.std.specs.Prelude.{◌==◌, All, IsSome}
 use Rattle.aoe_base.specs.declared.address.Mac.{Mac}
@@ -8,7 +8,7 @@ use Rattle.aoe_cache.specs.declared.any.AnyStore.{AnyStore}
 use Rattle.aoe_disk.specs.State.{DiskState}
 use Rattle.aoe_keep.specs.Keep.{HasMounted, IsRefused}
 use Rattle.aoe_keep.specs.declared.refusal.MountRefusal.{MountRefusal}
-use Rattle.aoe_serve.specs.Backing.{over_file}
+use Rattle.aoe_serve.specs.Backing.{lasts_of, over_file}
 use Rattle.aoe_serve.specs.Slots.{slot_of, slots_of}
 use Rattle.aoe_shelf.specs.Shelf.{has_minor, refusal_of}
 use Rattle.aoe_target.specs.Mounted.{Mounted}
@@ -30,7 +30,7 @@ ends_with disks file keep = disks ++ Some file ∷ Some keep ∷ []
 
 -- One slot more.
 
-module _ {D : Type 0} (state : D → DiskState) (most : ℕ) where
+module _ {D : Type 0} (state : D → DiskState) (most : Option ℕ) where
   seated-more : (name : ℕ → ℕ → Station) (minor : ℕ) (disks : List (Option D)) (targets : List (Mounted (AnyStore D) D)) (file keep : D)
       (t : Mounted (AnyStore D) D) → AreSeated state most name minor disks targets
       → IsSeatedOn state (name (minor + length targets)) (over_file most file) keep t
@@ -114,7 +114,7 @@ given-front state (why.Keep slot refusal) disks disks' behind back = refused-fro
 
 -- The minor of the next slot.
 
-unused : {D : Type 0} (state : D → DiskState) (most major : ℕ) (ports : List Mac) (mtu minor m : ℕ) (disks : List (Option D))
+unused : {D : Type 0} (state : D → DiskState) (most : Option ℕ) (major : ℕ) (ports : List Mac) (mtu minor m : ℕ) (disks : List (Option D))
     (targets : List (Mounted (AnyStore D) D))
     → AreSeated state most (named major ports mtu) minor disks targets → minor + length targets ≤ m → has_minor targets m ≡ false
 unused state most major ports mtu minor m disks [] seated above = refl
@@ -123,7 +123,7 @@ unused state most major ports mtu minor m disks (t ∷ targets) (f, k, others, i
     let other : (t.station.id.minor == m) ≡ false = ne_eqb t.station.id.minor m (λ e. omega (arith, e, at, above)) in
     rw other (unused state most major ports mtu (minor + 1) m others targets rest (omega (arith, above)))
 
-pub free : {D : Type 0} (state : D → DiskState) (most major : ℕ) (ports : List Mac) (mtu minor slot : ℕ) (disks : List (Option D))
+pub free : {D : Type 0} (state : D → DiskState) (most : Option ℕ) (major : ℕ) (ports : List Mac) (mtu minor slot : ℕ) (disks : List (Option D))
     (targets : List (Mounted (AnyStore D) D))
     → AreSeated state most (named major ports mtu) minor disks targets → length targets ≡ slot → slot < 16 → refusal_of targets (minor + slot) ≡ None
 free state most major ports mtu minor slot disks targets seated at room =
@@ -133,7 +133,7 @@ free state most major ports mtu minor slot disks targets seated at room =
 
 -- The disks of the last slot, behind those of the others.
 
-module _ {D : Type 0} (state : D → DiskState) (most : ℕ) (all others pair : List (Option D)) (file keep : D) (parts : all ≡ others ++ pair)
+module _ {D : Type 0} (state : D → DiskState) (most : Option ℕ) (all others pair : List (Option D)) (file keep : D) (parts : all ≡ others ++ pair)
     (pair_is : pair ≡ Some file ∷ Some keep ∷ []) where
   joined : all ≡ ends_with others file keep
   joined = parts ∙ ap (λ (xs : List (Option D)). others ++ xs) pair_is
@@ -181,7 +181,7 @@ module _ {D : Type 0} (state : D → DiskState) (most : ℕ) (all others pair : 
       let file_same : file' ≡ file = unused-disk store' file' (same ∙ is) closed in
       subst R at (subst P (sym joined) (subst Q (sym pair_is') (refused-last state most name minor others others' targets refusal file file' keep keep' seated back file_same why)))
 
-pub back-then : {D : Type 0} (state : D → DiskState) (most : ℕ) (others' pair' : List (Option D)) (file' keep' : D) (old new : List (Mounted (AnyStore D) D))
+pub back-then : {D : Type 0} (state : D → DiskState) (most : Option ℕ) (others' pair' : List (Option D)) (file' keep' : D) (old new : List (Mounted (AnyStore D) D))
     → pair' ≡ Some file' ∷ Some keep' ∷ []
     → Leaves state most file' keep' old new → AreBack state most others' new → AreBack state most (others' ++ pair') old
 back-then {D} state most others' pair' file' keep' old new is l back =
@@ -207,10 +207,10 @@ same-first R same (x ∷ xs) = (same x, refl)
 
 -- From the mounting to the giving back.
 
-over-files : {D : Type 0} (state : D → DiskState) (most : ℕ) (name : ℕ → ℕ → Station) (minor : ℕ) (disks disks' : List (Option D))
+over-files : {D : Type 0} (state : D → DiskState) (most : Option ℕ) (name : ℕ → ℕ → Station) (minor : ℕ) (disks disks' : List (Option D))
     (first last : List (Mounted (AnyStore D) D)) → length last ≡ length first
     → AreSeated state most name minor disks first → AreBack state most disks' last
-    → OverFiles state most name minor disks disks' (slots_of (any_state state) state first) (slots_of (any_state state) state last)
+    → OverFiles state most name minor disks disks' (slots_of (lasts_of most) (any_state state) state first) (slots_of (lasts_of most) (any_state state) state last)
 over-files {D} state most name minor disks disks' [] [] count seated back =
     let P : List (Option D) → Type 0 = λ xs. OverFiles state most name minor xs disks' [] [] in
     let Q : List (Option D) → Type 0 = λ xs. OverFiles state most name minor [] xs [] [] in
@@ -219,13 +219,14 @@ over-files state most name minor disks disks' [] (b ∷ last) count seated back 
 over-files state most name minor disks disks' (a ∷ first) [] count seated back = absurd (omega (arith, count))
 over-files {D} state most name minor disks disks' (a ∷ first) (b ∷ last) count (file, keep, others, is, s, seated) (file', keep', others', is', l, back) =
     let P : List (Option D) → Type 0 =
-    λ xs. OverFiles state most name minor xs disks' (slots_of (any_state state) state (a ∷ first)) (slots_of (any_state state) state (b ∷ last)) in
+    λ xs. OverFiles state most name minor xs disks' (slots_of (lasts_of most) (any_state state) state (a ∷ first)) (slots_of (lasts_of most) (any_state state) state (b ∷ last)) in
     let Q : List (Option D) → Type 0 = λ xs. OverFiles state most name minor (Some file ∷ Some keep ∷ others) xs
-    (slots_of (any_state state) state (a ∷ first)) (slots_of (any_state state) state (b ∷ last)) in
+    (slots_of (lasts_of most) (any_state state) state (a ∷ first)) (slots_of (lasts_of most) (any_state state) state (b ∷ last)) in
     subst P (sym is) (subst Q (sym is') (
       record {
         station = s.station ∙ ap (name minor) (over-sectors state most file);
         store = ap (any_state state) s.store_is ∙ over-state state most file;
+        lasts = refl;
         mounted = s.mounted;
         file_back = l.under;
         keep_back = ap state l.disk;
@@ -234,24 +235,24 @@ over-files {D} state most name minor disks disks' (a ∷ first) (b ∷ last) cou
     ))
 
 -- a run adds no slot and takes none
-pub run-count : {T D S K L : Type 0} (store : T → DiskState) (keep : D → DiskState) (t : Tells S K L) (p : Plan) (e : RunEnd) (a b : Outside S K L)
-    (old new : List (Mounted T D)) → HasRun t p e a b (slots_of store keep old) (slots_of store keep new) → length new ≡ length old
-run-count store keep t p e a b old new ran =
-    let f = slot_of store keep in
-    sym (length-map new f) ∙ (served_in t p e a b (slots_of store keep old) (slots_of store keep new) ran).slots.count ∙ length-map old f
+pub run-count : {T D S K L : Type 0} (lasts : Bool) (store : T → DiskState) (keep : D → DiskState) (t : Tells S K L) (p : Plan) (e : RunEnd) (a b : Outside S K L)
+    (old new : List (Mounted T D)) → HasRun t p e a b (slots_of lasts store keep old) (slots_of lasts store keep new) → length new ≡ length old
+run-count lasts store keep t p e a b old new ran =
+    let f = slot_of lasts store keep in
+    sym (length-map new f) ∙ (served_in t p e a b (slots_of lasts store keep old) (slots_of lasts store keep new) ran).slots.count ∙ length-map old f
 
 -- a shelf was given these slots, ran, and gave them back
-pub exported : {D S K L : Type 0} (state : D → DiskState) (most most' : ℕ) (name name' : ℕ → ℕ → Station) (minor : ℕ) (t : Tells S K L) (p : Plan)
+pub exported : {D S K L : Type 0} (state : D → DiskState) (most most' : Option ℕ) (name name' : ℕ → ℕ → Station) (minor : ℕ) (t : Tells S K L) (p : Plan)
     (e : Exported) (a b : Outside S K L)
     (disks disks' : List (Option D)) (first last : List (Mounted (AnyStore D) D)) → most' ≡ most → name' ≡ name → length last ≡ length first
     → AreSeated state most' name' minor disks first → AreBack state most' disks' last
-    → HasRunAndSynced t p e a b (slots_of (any_state state) state first) (slots_of (any_state state) state last)
+    → HasRunAndSynced t p e a b (slots_of (lasts_of most') (any_state state) state first) (slots_of (lasts_of most') (any_state state) state last)
     → IsExported state most name minor t p e a b disks disks'
 exported {D} state most most' name name' minor t p e a b disks disks' first last room same count seated back run =
     let over = over-files state most' name' minor disks disks' first last count seated back in
-    let first_slots = slots_of (any_state state) state first in
-    let last_slots = slots_of (any_state state) state last in
-    subst (λ (m : ℕ). IsExported state m name minor t p e a b disks disks') room
+    let first_slots = slots_of (lasts_of most') (any_state state) state first in
+    let last_slots = slots_of (lasts_of most') (any_state state) state last in
+    subst (λ (m : Option ℕ). IsExported state m name minor t p e a b disks disks') room
     (subst (λ (n : ℕ → ℕ → Station). IsExported state most' n minor t p e a b disks disks') same (record {
       first = first_slots;
       last = last_slots;

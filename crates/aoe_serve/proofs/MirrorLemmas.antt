@@ -241,14 +241,14 @@ each_one R x y r = record { count = refl; each = at }
 pub ran_mirror : {D S K L : Type 0} (state : D → DiskState) (name : ℕ → Station) (faults : ℕ → ℕ) (t : Tells S K L) (p : Plan) (e : MirrorEnd)
     (a b : Outside S K L) (mirror : Mirrored D) (kept : Kept D) (back : MirrorDisks D) (targets targets' : List (Mounted (Mirrored D) D))
     → targets ≡ record { station = name (state_of state mirror).sectors; keep = kept; store = mirror } ∷ []
-    → HasRun t p e.end a b (slots_of (state_of state) state targets) (slots_of (state_of state) state targets')
+    → HasRun t p e.end a b (slots_of false (state_of state) state targets) (slots_of false (state_of state) state targets')
     → (left ended : Mirrored D) (keep : Kept D) → LeavesAlone left keep targets' → IsSince faults (pair state left)
     → EndsMirror (has_ended e.end) e.unsynced (pair state left) (pair state ended)
     → IsOf state back (pair state ended) → back.keep ≡ keep.disk
     → RanMirror state name faults t p e a b (pair state mirror) kept back
 ran_mirror {D} state name faults t p e a b mirror kept back targets targets' seated run left ended keep l since ends disks kept_back =
-    let first : Slot = record { station = name (state_of state mirror).sectors; device = record { lists = kept.lists; keep = state kept.disk; store = state_of state mirror } } in
-    let mid : Slot = slot_of (state_of state) state l.target in
+    let first : Slot = record { station = name (state_of state mirror).sectors; lasts = false; device = record { lists = kept.lists; keep = state kept.disk; store = state_of state mirror } } in
+    let mid : Slot = slot_of false (state_of state) state l.target in
     let last : Slot = record mid { device = record mid.device { store = shown (pair state ended) } } in
     let ran : HasRun t p e.end a b (first ∷ []) (mid ∷ []) = rw (seated, l.only) at run in
     let syncs : SyncsTo ends.answer mid.device.store (shown (pair state ended)) =

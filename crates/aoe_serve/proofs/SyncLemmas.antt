@@ -1,5 +1,5 @@
 -- One store is synced after the other.
-use Rattle.std.proofs.Common.{◌≡◌, ◌≤◌, ◌<◌, ◌+◌, ℕ, List, [], ◌∷◌, ◌++◌, length, length-append, Option, Some, None, refl, sym, ap, subst, ◌∙◌, arith, inl, inr, get_or}
+use Rattle.std.proofs.Common.{◌≡◌, ◌≤◌, ◌<◌, ◌+◌, ℕ, Bool, List, [], ◌∷◌, ◌++◌, length, length-append, Option, Some, None, refl, sym, ap, subst, ◌∙◌, arith, inl, inr, get_or}
 use Rattle.std.proofs.lemmas.Bool.{cases_lt}
 use Rattle.std.proofs.lemmas.List.{get_or_append_left, get_or_at, length-map}
 use Rattle.std.proofs.lemmas.Option.{same_Some, slice_get-map, slice_get_within}
@@ -20,14 +20,14 @@ pub record SyncsAt (slot : ℕ) (result : Result (Unit {0}) Failed) (old new : L
   pub syncs : (a b : Slot) → slice_get old slot ≡ Some a → slice_get new slot ≡ Some b → SyncsSlot result a b
   pub others : (i : ℕ) → (i ≡ slot → ⊥) → slice_get new i ≡ slice_get old i
 
-module _ {S D : Type 0} (store : S → DiskState) (keep : D → DiskState) (result : Result (Unit {0}) Failed) where
-  syncs_from : (a b : Mounted S D) → SyncsStore store result a b → SyncsSlot result (slot_of store keep a) (slot_of store keep b)
-  syncs_from a b s = record { syncs = s.syncs; rest = ap (slot_of store keep) s.rest }
+module _ {S D : Type 0} (lasts : Bool) (store : S → DiskState) (keep : D → DiskState) (result : Result (Unit {0}) Failed) where
+  syncs_from : (a b : Mounted S D) → SyncsStore store result a b → SyncsSlot result (slot_of lasts store keep a) (slot_of lasts store keep b)
+  syncs_from a b s = record { syncs = s.syncs; rest = ap (slot_of lasts store keep) s.rest }
 
   pub syncs_at : (slot : ℕ) (old new : List (Mounted S D)) → ChangesAt slot (SyncsStore store result) old new
-      → SyncsAt slot result (slots_of store keep old) (slots_of store keep new)
+      → SyncsAt slot result (slots_of lasts store keep old) (slots_of lasts store keep new)
   syncs_at slot old new c =
-      let f = slot_of store keep in
+      let f = slot_of lasts store keep in
       record {
         count = length-map new f ∙ length-changed slot _ old new c ∙ sym (length-map old f);
         syncs = λ a b ea eb.

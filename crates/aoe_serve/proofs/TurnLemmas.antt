@@ -13,6 +13,7 @@ use Rattle.aoe_shelf.specs.Slot.{ChangesAt}
 use Rattle.aoe_target.specs.History.{is_cut, keep_failed, store_failed}
 use Rattle.aoe_target.specs.Mounted.{Mounted}
 use Rattle.aoe_target.specs.Receive.{Replaces, fate_of, is_faulty, is_unkept}
+use Rattle.aoe_target.specs.Lasting.{TurnsFirm}
 use Rattle.aoe_target.specs.Turn.{Receives}
 use Rattle.aoe_target.specs.declared.heard.Heard.{Heard}
 use Rattle.aoe_target.specs.declared.heard.Heard.TheVariants as heard
@@ -59,10 +60,13 @@ replaced_later : (called failed : Bool) (old new : DiskState) → OnTrue called 
 replaced_later true failed old new run idle = run.calls.later
 replaced_later false failed old new run idle = let same : new.faults ≡ old.faults = ap (λ (d : DiskState). d.faults) (idle refl) in omega (arith, same)
 
-module _ {S D : Type 0} (store : S → DiskState) (keep : D → DiskState) (f : List ℕ) (h : Heard) (out : List ℕ) where
-  meets_from : (a b : Mounted S D) → Receives store keep a b f h out → Meets (slot_of store keep a) (slot_of store keep b) f (fate_of h out)
-  meets_from a b r = record {
+module _ {S D : Type 0} (lasts : Bool) (store : S → DiskState) (keep : D → DiskState) (f : List ℕ) (h : Heard) (out : List ℕ) where
+  meets_from : (a b : Mounted S D) → Receives store keep a b f h out → TurnsFirm lasts store h out b
+      → Meets (slot_of lasts store keep a) (slot_of lasts store keep b) f (fate_of h out)
+  meets_from a b r firm = record {
     station = r.station;
+    lasts = refl;
+    firm = firm;
     step = r.step;
     uncut = uncut h out;
     store_later = called_later _ (is_faulty h) (store a.store) (store b.store) r.call (λ e. ap store (r.idle e));
@@ -73,22 +77,27 @@ module _ {S D : Type 0} (store : S → DiskState) (keep : D → DiskState) (f : 
 
   -- a frame came to the slot, and the others are as they were
   pub meets_at : (slot : ℕ) (old new : List (Mounted S D)) → ChangesAt slot (λ a b. Receives store keep a b f h out) old new
-      → MeetsAt slot (slots_of store keep old) (slots_of store keep new) f (fate_of h out)
-  meets_at slot old new c = record {
-    count = length-map new (slot_of store keep) ∙ ap length c.others ∙ length-set old slot c.after ∙ sym (length-map old (slot_of store keep));
+      → ChangesAt slot (λ a b. TurnsFirm lasts store h out b) old new
+      → MeetsAt slot (slots_of lasts store keep old) (slots_of lasts store keep new) f (fate_of h out)
+  meets_at slot old new c d = record {
+    count = length-map new (slot_of lasts store keep) ∙ ap length c.others ∙ length-set old slot c.after ∙ sym (length-map old (slot_of lasts store keep));
     meets = λ a b ea eb.
-        let first : slot_of store keep c.before ≡ a =
-        same_Some (slot_of store keep c.before) a (sym (slice_get-map (slot_of store keep) old slot ∙ ap (option_map (slot_of store keep)) c.found) ∙ ea) in
+        let first : slot_of lasts store keep c.before ≡ a =
+        same_Some (slot_of lasts store keep c.before) a (sym (slice_get-map (slot_of lasts store keep) old slot ∙ ap (option_map (slot_of lasts store keep)) c.found) ∙ ea) in
         let there : slice_get new slot ≡ Some c.after =
         ap (λ (l : List (Mounted S D)). slice_get l slot) c.others ∙ get_set_same old slot c.after (slice_get_within old slot c.before c.found) in
-        let second : slot_of store keep c.after ≡ b =
-        same_Some (slot_of store keep c.after) b (sym (slice_get-map (slot_of store keep) new slot ∙ ap (option_map (slot_of store keep)) there) ∙ eb) in
+        let also : slice_get new slot ≡ Some d.after =
+        ap (λ (l : List (Mounted S D)). slice_get l slot) d.others ∙ get_set_same old slot d.after (slice_get_within old slot d.before d.found) in
+        let firm : TurnsFirm lasts store h out c.after =
+        subst (λ (x : Mounted S D). TurnsFirm lasts store h out x) (same_Some d.after c.after (sym also ∙ there)) d.change in
+        let second : slot_of lasts store keep c.after ≡ b =
+        same_Some (slot_of lasts store keep c.after) b (sym (slice_get-map (slot_of lasts store keep) new slot ∙ ap (option_map (slot_of lasts store keep)) there) ∙ eb) in
         subst (λ (x : Slot). Meets x b f (fate_of h out)) first
-        (subst (λ (x : Slot). Meets (slot_of store keep c.before) x f (fate_of h out)) second (meets_from c.before c.after c.change));
+        (subst (λ (x : Slot). Meets (slot_of lasts store keep c.before) x f (fate_of h out)) second (meets_from c.before c.after c.change firm));
     others = λ i other.
-        slice_get-map (slot_of store keep) new i
-        ∙ ap (option_map (slot_of store keep)) (ap (λ (l : List (Mounted S D)). slice_get l i) c.others ∙ get_set_other old slot i c.after other)
-        ∙ sym (slice_get-map (slot_of store keep) old i);
+        slice_get-map (slot_of lasts store keep) new i
+        ∙ ap (option_map (slot_of lasts store keep)) (ap (λ (l : List (Mounted S D)). slice_get l i) c.others ∙ get_set_other old slot i c.after other)
+        ∙ sym (slice_get-map (slot_of lasts store keep) old i);
   }
 
 -- the targets of a shelf change, and nothing else of it
@@ -96,6 +105,6 @@ pub rest_then : {S D : Type 0} (a b c : Rack S D) → b ≡ record a { targets =
     → c ≡ record a { targets = c.targets }
 rest_then a b c one two = two ∙ ap (λ (x : Rack _ _). record x { targets = c.targets }) one
 
-pub count_slots : {S D : Type 0} (store : S → DiskState) (keep : D → DiskState) (targets : List (Mounted S D))
-    → length (slots_of store keep targets) ≡ length targets
-count_slots store keep targets = length-map targets (slot_of store keep)
+pub count_slots : {S D : Type 0} (lasts : Bool) (store : S → DiskState) (keep : D → DiskState) (targets : List (Mounted S D))
+    → length (slots_of lasts store keep targets) ≡ length targets
+count_slots lasts store keep targets = length-map targets (slot_of lasts store keep)

@@ -1,8 +1,9 @@
 -- The arrivals of a run: the frames that came to a shelf, each with what became of it at each slot, the latest first.
-use Rattle.std.specs.Prelude.{ℕ, ◌≡◌, List, [], ◌∷◌, ◌++◌, All, length, get_or, false}
+use Rattle.std.specs.Prelude.{ℕ, ◌≡◌, List, [], ◌∷◌, ◌++◌, All, length, get_or, true, false}
 use Rattle.std.specs.List.{flat_map}
 use Rattle.aoe_target.specs.History.{Met, is_cut}
 use Rattle.aoe_target.specs.Law.{Fate, ignored, replied}
+use Rattle.aoe_serve.specs.Always.{AlwaysLasts}
 use Rattle.aoe_serve.specs.Slots.{EachSlot, IsServed, Meets, Slot}
 
 -- a frame, and what became of it at the slots in their order
@@ -49,7 +50,8 @@ pub record MeetAll (old new : List Slot) (frame : List ℕ) (fates : List Fate) 
   pub round : IsRound (length old) fates
   pub slots : EachSlot (λ i a b. Meets a b frame (fate_at i fates)) old new
 
--- these frames came to each slot of a shelf
+-- these frames came to each slot of a shelf; where the writes of a slot last, it held what was known behind each of them
 pub record AreServed (old new : List Slot) (arrivals : List Arrived) : Type 0 where
   pub rounds : AreRounds (length old) arrivals
   pub slots : EachSlot (λ i a b. IsServed a b (at_slot i arrivals)) old new
+  pub lasting : EachSlot (λ i a b. a.lasts ≡ true → AlwaysLasts a b (at_slot i arrivals)) old new

@@ -12,6 +12,7 @@ use Rattle.aoe_serve.specs.Serving.{Served}
 use Rattle.aoe_serve.specs.Slots.{EachSlot, Slot}
 use Rattle.aoe_serve.specs.declared.over_link.ServeEnd.{ServeEnd}
 use Rattle.aoe_serve.specs.declared.over_stream.AnswerEnd.{AnswerEnd}
+use Rattle.aoe_serve.specs.declared.over_stream.Format.{Format}
 use Rattle.aoe_serve.specs.Ending.{EndsAfter}
 use Rattle.aoe_serve.specs.Files.{OverFiles}
 use Rattle.aoe_serve.specs.declared.over_files.Rack.{Rack}
@@ -38,7 +39,7 @@ pub record Tells (S K L : Type 0) : Type 0 where
   pub taken : L → Option (List (List ℕ))
 
 abbrev pub is_served : Plan → Bool
-is_served plan.Answer = false
+is_served (plan.Answer format) = false
 is_served (plan.Serve frames idle) = true
 
 -- so many files can be exported so, with so many links
@@ -64,8 +65,8 @@ AtFirst R (x ∷ xs) (y ∷ ys) = R x y × (ys ≡ xs)
 AtFirst R _ _ = ⊥
 
 -- the source was answered on the sink
-pub record AnswersSource {S K L : Type 0} (t : Tells S K L) (e : AnswerEnd) (a b : Outside S K L) (old new : List Slot) : Type 0 where
-  pub answered : Answered e (t.left a.source) (t.left b.source) (t.held a.sink) (t.held b.sink) old new
+pub record AnswersSource {S K L : Type 0} (t : Tells S K L) (format : Format) (e : AnswerEnd) (a b : Outside S K L) (old new : List Slot) : Type 0 where
+  pub answered : Answered format e (t.left a.source) (t.left b.source) (t.held a.sink) (t.held b.sink) old new
   pub links : b.links ≡ a.links
 
 -- the first link was served
@@ -81,15 +82,15 @@ pub record ServesFirst {S K L : Type 0} (t : Tells S K L) (frames idle : ℕ) (e
 
 -- the plan was run over these slots
 abbrev pub HasRun : {S K L : Type 0} → Tells S K L → Plan → RunEnd → Outside S K L → Outside S K L → List Slot → List Slot → Type 0
-HasRun t plan.Answer (end.Answered e) a b old new = AnswersSource t e a b old new
+HasRun t (plan.Answer format) (end.Answered e) a b old new = AnswersSource t format e a b old new
 HasRun t (plan.Serve frames idle) (end.Served e) a b old new = ServesFirst t frames idle e a b old new
 HasRun t _ _ a b old new = ⊥
 
 -- the frames that came in the run
 abbrev pub arrivals_in : {S K L : Type 0} (t : Tells S K L) (p : Plan) (e : RunEnd) (a b : Outside S K L) (old new : List Slot) → HasRun t p e a b old new
     → List Arrived
-arrivals_in t plan.Answer (end.Answered e) a b old new ran = ran.answered.arrivals
-arrivals_in t plan.Answer (end.Served e) a b old new ran = []
+arrivals_in t (plan.Answer format) (end.Answered e) a b old new ran = ran.answered.arrivals
+arrivals_in t (plan.Answer format) (end.Served e) a b old new ran = []
 arrivals_in t (plan.Serve frames idle) (end.Answered e) a b old new ran = []
 arrivals_in t (plan.Serve frames idle) (end.Served e) a b old new ran = ran.served.arrivals
 
@@ -136,7 +137,7 @@ pub record RanSlots {S K L : Type 0} (t : Tells S K L) (p : Plan) (e : Exported)
 -- A run over files and their keeps: each pair was a slot, whose store holds back up to so many sectors, the plan was run over the slots, and
 -- then each was synced. At the end each slot holds what is known after the frames that came to it and the sync, and its disks outlive a
 -- loss of power.
-pub record IsExported {D S K L : Type 0} (state : D → DiskState) (most : ℕ) (name : ℕ → ℕ → Station) (minor : ℕ) (t : Tells S K L) (p : Plan) (e : Exported)
+pub record IsExported {D S K L : Type 0} (state : D → DiskState) (most : Option ℕ) (name : ℕ → ℕ → Station) (minor : ℕ) (t : Tells S K L) (p : Plan) (e : Exported)
     (a b : Outside S K L) (disks disks' : List (Option D)) : Type 0 where
   pub first : List Slot
   pub last : List Slot

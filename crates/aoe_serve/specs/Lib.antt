@@ -1,5 +1,7 @@
 pub mod Slots
+pub mod Lasting
 pub mod Arrivals
+pub mod Written
 pub mod Answering
 pub mod Serving
 pub mod ShelfLink
@@ -10,3 +12,4 @@ pub mod Files
 pub mod Ending
 pub mod Exporting
 pub mod Mirroring
+pub mod Always

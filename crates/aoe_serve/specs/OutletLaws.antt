@@ -12,6 +12,9 @@ use Rattle.aoe_io.specs.Stream.{framed, stream}
 use Rattle.aoe_serve.specs.Rounds.{Counts, Keeps, LinkTook, Outcome, SinkTook, TakesOn}
 use Rattle.aoe_serve.specs.Answering.{WritesTo}
 use Rattle.aoe_serve.specs.Serving.{Sends}
+use Rattle.aoe_serve.specs.Written.{pieces, recorded}
+use Rattle.aoe_serve.specs.declared.over_stream.Format.{Format}
+use Rattle.aoe_serve.specs.declared.over_stream.Format.TheVariants.{Replies, Capture}
 
 abbrev pub Frames : Type 0
 Frames = List (List ℕ)
@@ -32,21 +35,34 @@ same_faults result a b is counts = let P : Outcome → Type 0 = λ r. Counts r a
 pub stream-append : (xs ys : Frames) → stream (xs ++ ys) ≡ stream xs ++ stream ys
 stream-append xs ys = flat_map-append framed xs ys
 
-writes_more : (result : Outcome) (a b c : Option (List ℕ)) (xs ys : Frames) → Took a b (stream xs) → WritesTo result b c (stream ys)
-    → WritesTo result a c (stream (xs ++ ys))
-writes_more (Ok u) a b c xs ys one two = subst (λ (bytes : List ℕ). Took a c bytes) (sym (stream-append xs ys)) (Took-then a b c (stream xs) (stream ys) one two)
-writes_more (Err e) a b c xs ys one two = subst (λ (bytes : List ℕ). TookSome a c bytes) (sym (stream-append xs ys)) (TookSome-then a b c (stream xs) (stream ys) one two)
+pub pieces-append : (format : Format) (xs ys : Frames) → pieces format (xs ++ ys) ≡ pieces format xs ++ pieces format ys
+pieces-append Replies xs ys = stream-append xs ys
+pieces-append Capture xs ys = flat_map-append recorded xs ys
 
-pub sink_none : (held : Option (List ℕ)) (faults : ℕ) → SinkTook (Ok tt) held held faults faults []
-sink_none held faults = record { writes = Took-nothing held; counts = counts_none faults }
+writes_more : (format : Format) (result : Outcome) (a b c : Option (List ℕ)) (xs ys : Frames) → Took a b (pieces format xs) → WritesTo result b c (pieces format ys)
+    → WritesTo result a c (pieces format (xs ++ ys))
+writes_more format (Ok u) a b c xs ys one two =
+    subst (λ (bytes : List ℕ). Took a c bytes) (sym (pieces-append format xs ys)) (Took-then a b c (pieces format xs) (pieces format ys) one two)
+writes_more format (Err e) a b c xs ys one two =
+    subst (λ (bytes : List ℕ). TookSome a c bytes) (sym (pieces-append format xs ys)) (TookSome-then a b c (pieces format xs) (pieces format ys) one two)
 
-pub sink_more : (result : Outcome) (a b c : Option (List ℕ)) (l m n : ℕ) (xs ys : Frames) → SinkTook (Ok tt) a b l m xs → SinkTook result b c m n ys
-    → SinkTook result a c l n (xs ++ ys)
-sink_more result a b c l m n xs ys one two = record { writes = writes_more result a b c xs ys one.writes two.writes; counts = counts_more result l m n one.counts two.counts }
+nothing-taken : (format : Format) (held : Option (List ℕ)) → Took held held (pieces format [])
+nothing-taken Replies held = Took-nothing held
+nothing-taken Capture held = Took-nothing held
 
-pub sink_over : (e : Failed) (a b : Option (List ℕ)) (m n : ℕ) (xs ys : Frames) → SinkTook (Err e) a b m n xs → SinkTook (Err e) a b m n (xs ++ ys)
-sink_over e a b m n xs ys one = record {
-  writes = subst (λ (bytes : List ℕ). TookSome a b bytes) (sym (stream-append xs ys)) (TookSome-front a b (stream xs) (stream ys) one.writes);
+pub sink_none : (format : Format) (held : Option (List ℕ)) (faults : ℕ) → SinkTook format (Ok tt) held held faults faults []
+sink_none format held faults = record { writes = nothing-taken format held; counts = counts_none faults }
+
+pub sink_more : (format : Format) (result : Outcome) (a b c : Option (List ℕ)) (l m n : ℕ) (xs ys : Frames) → SinkTook format (Ok tt) a b l m xs
+    → SinkTook format result b c m n ys
+    → SinkTook format result a c l n (xs ++ ys)
+sink_more format result a b c l m n xs ys one two =
+    record { writes = writes_more format result a b c xs ys one.writes two.writes; counts = counts_more result l m n one.counts two.counts }
+
+pub sink_over : (format : Format) (e : Failed) (a b : Option (List ℕ)) (m n : ℕ) (xs ys : Frames) → SinkTook format (Err e) a b m n xs
+    → SinkTook format (Err e) a b m n (xs ++ ys)
+sink_over format e a b m n xs ys one = record {
+  writes = subst (λ (bytes : List ℕ). TookSome a b bytes) (sym (pieces-append format xs ys)) (TookSome-front a b (pieces format xs) (pieces format ys) one.writes);
   counts = one.counts;
 }
 
@@ -119,3 +135,16 @@ module _ {O : Type 0} (Took : Outcome → O → O → Frames → Type 0) (more :
   takes_on (Ok u) result a b c xs ys one two = more result a b c xs ys one two
   takes_on (Err e) result a b c xs ys one two =
       subst (λ (r : Outcome). Took r a c (xs ++ ys)) (sym two.0) (subst (λ (o : O). Took (Err e) a o (xs ++ ys)) (sym two.1) (over e a b xs ys one))
+
+  -- the same after what was taken before
+  pub takes_none : ((a : O) → Took (Ok tt) a a []) → (given : Outcome) (a : O) → TakesOn Took given given a a []
+  takes_none none (Ok u) a = none a
+  takes_none none (Err e) a = (refl, refl)
+
+  pub takes_more : (first given result : Outcome) (a b c : O) (xs ys : Frames) → TakesOn Took first given a b xs → TakesOn Took given result b c ys
+      → TakesOn Took first result a c (xs ++ ys)
+  takes_more (Ok u) given result a b c xs ys one two = takes_on given result a b c xs ys one two
+  takes_more (Err e) given result a b c xs ys one two =
+      let P : Outcome → Type 0 = λ g. TakesOn Took g result b c ys in
+      let after : (result ≡ Err e) × (c ≡ b) = subst P one.0 two in
+      (after.0, after.1 ∙ one.1)

@@ -3,13 +3,14 @@ use Rattle.std.specs.Prelude.{ℕ, ◌≡◌, ◌≤◌, List, ◌++◌, length,
 use Rattle.aoe_base.specs.Faults.{Blamed}
 use Rattle.aoe_base.specs.declared.failure.Failed.{Failed}
 use Rattle.aoe_io.specs.Link.{Turn}
-use Rattle.aoe_io.specs.Stream.{stream}
 use Rattle.aoe_target.specs.Law.{Fate}
 use Rattle.aoe_serve.specs.Arrivals.{MeetAll, replies_of}
 use Rattle.aoe_serve.specs.Answering.{WritesTo}
 use Rattle.aoe_serve.specs.Serving.{Sends}
 use Rattle.aoe_serve.specs.ShelfLink.{with_room}
 use Rattle.aoe_serve.specs.Slots.{Slot}
+use Rattle.aoe_serve.specs.Written.{pieces}
+use Rattle.aoe_serve.specs.declared.over_stream.Format.{Format}
 
 -- that it was done, or failed
 abbrev pub Outcome : Type 0
@@ -26,9 +27,9 @@ pub record Counts (result : Outcome) (before after : ℕ) : Type 0 where
   pub later : before ≤ after
   pub blame : Blamed (is_err result ≡ true) before after
 
--- a sink took replies, or a part of them where it failed
-pub record SinkTook (result : Outcome) (held held' : Option (List ℕ)) (faults faults' : ℕ) (replies : List (List ℕ)) : Type 0 where
-  pub writes : WritesTo result held held' (stream replies)
+-- a sink took frames as they are written, or a part of them where it failed
+pub record SinkTook (format : Format) (result : Outcome) (held held' : Option (List ℕ)) (faults faults' : ℕ) (frames : List (List ℕ)) : Type 0 where
+  pub writes : WritesTo result held held' (pieces format frames)
   pub counts : Counts result faults faults'
 
 -- a link took replies, or the first of them where it failed, and gave no turn

@@ -1,68 +1,97 @@
 //! The store of a slot, over its file.
-ghost use Rattle.std.specs.Prelude.{◌≡◌, ◌≤◌, ℕ, IfErr, IfOk};
-ghost use Rattle.aoe_cache.specs.Any.{any_disk, any_state, any_under};
-ghost use Rattle.aoe_serve.specs.Backing.{over_file, room_of};
+ghost use Rattle.std.specs.Prelude.{◌≡◌, ◌≤◌, ℕ, IfErr, IfOk, IfSome, None, Option};
+ghost use Rattle.aoe_cache.specs.Any.{any_disk, any_state};
+ghost use Rattle.aoe_serve.specs.Backing.{IsBacking, held_back, lasts_of, over_file, seen_as};
 ghost use Rattle.aoe_serve.specs.Files.{IsUnder};
 
 use aoe_base::Failed;
 use aoe_cache::AnyStore;
 use aoe_disk::Disk;
-use aoe_store::Store;
+use aoe_store::{Direct, Durable, Store};
 use std::alloc::Global;
 use std::marker::{Brand, Model, PhantomData};
 
-/// How many sectors the stores of a shelf hold back at most; where it is 0 they write through.
+/// How many sectors the stores of a shelf hold back at most: none where their writes last, and no
+/// number where they write through.
 pub(crate) trait Most {
-    ghost most: { ℕ };
+    ghost most: { Option ℕ };
 }
 
 impl Most for Brand {
-    ghost most = { 0 };
+    ghost most = { None };
 }
 
-// The number of sectors that a store holds back, where it holds back any.
-fn room_of(most: u32) -> Option<u32>
-    ensures { result ≡ room_of most }
+/// How many sectors a store holds back at most.
+pub(crate) fn held_back(durable: bool, cache: u32) -> Option<u32>
+    ensures most { result ≡ held_back durable cache }
+    ensures limit { cache ≤ 65536 → IfSome result (λ n. n ≤ 65536) }
 {
-    match most {
+    if durable {
+        return Some(0);
+    }
+    match cache {
         0 => None,
         most => Some(most),
+    }
+}
+
+/// A store that needn't sync, or one whose writes last.
+#[derive(Drop)]
+enum FileStore<D: Disk> {
+    Any(AnyStore<D>),
+    Durable(Durable<Direct<D>>),
+}
+
+/// A store over the file that holds back up to so many sectors. Where there is no memory the file is
+/// given back.
+fn store_over<D: Disk>(alloc: Global, file: D, most: Option<u32>) -> Result<FileStore<D>, D>
+    requires { IfSome most (λ n. n ≤ 65536) }
+    ensures kind { IfOk result (λ store. IsBacking most store) }
+    ensures store { IfOk result (λ store. seen_as store ≡ over_file most file) }
+    ensures refused { IfErr result (λ d. d ≡ file) }
+{
+    match most {
+        Some(0) => Ok(FileStore::Durable(Durable::new(Direct::new(file)))),
+        room => match AnyStore::over(alloc, file, room) {
+            Ok(store) => Ok(FileStore::Any(store)),
+            Err((_, file)) => Err(file),
+        },
     }
 }
 
 /// A store over a file, which holds back as many sectors as `M` says.
 #[derive(Drop)]
 pub(crate) struct Backing<D: Disk, M: Most> {
-    store: AnyStore<D>,
+    store: FileStore<D>,
     most: PhantomData<M>,
 }
 
 impl<D: Disk, M: Most> Model for Backing<D, M> {
     ghost use Rattle.aoe_cache.specs.declared.any.AnyStore.{AnyStore};
-    ghost use Rattle.aoe_serve.specs.Backing.{HoldsBack};
+    ghost use Rattle.aoe_serve.specs.Backing.{IsBacking, seen_as};
 
     ghost Value = { AnyStore D };
 
-    ghost view = { λ b. b.store };
+    ghost view = { λ b. seen_as b.store };
 
-    ghost invariant = { λ b. HoldsBack M.most b.store };
+    ghost invariant = { λ b. IsBacking M.most b.store };
 }
 
 impl<D: Disk, M: Most> Backing<D, M> {
     /// A store over the file. All its memory is taken here; where there is none the file is given
     /// back.
-    pub(crate) fn new(alloc: Global, file: D, most: u32) -> Result<Backing<D, M>, D>
+    pub(crate) fn new(alloc: Global, file: D, most: Option<u32>) -> Result<Backing<D, M>, D>
         requires most { most ≡ M.most }
-        requires limit { most ≤ 65536 }
+        requires limit { IfSome most (λ n. n ≤ 65536) }
         ensures store { IfOk result (λ store. store ≡ over_file M.most file) }
         ensures refused { IfErr result (λ d. d ≡ file) }
     {
-        match AnyStore::over(alloc, file, room_of(most)) {
+        match store_over(alloc, file, most) {
             Ok(store) => Ok(Backing {
                 store,
                 most: PhantomData,
             }),
-            Err((_, file)) => Err(file),
+            Err(file) => Err(file),
         }
     }
 
@@ -72,8 +101,9 @@ impl<D: Disk, M: Most> Backing<D, M> {
         ensures under { IsUnder M.most (D.state result) (any_state D.state self) }
     {
         match self.store {
-            AnyStore::Direct(store) => store.close(),
-            AnyStore::Cached(store) => store.close(),
+            FileStore::Any(AnyStore::Direct(store)) => store.close(),
+            FileStore::Any(AnyStore::Cached(store)) => store.close(),
+            FileStore::Durable(store) => store.close().close(),
         }
     }
 }
@@ -81,21 +111,35 @@ impl<D: Disk, M: Most> Backing<D, M> {
 impl<D: Disk, M: Most> Store for Backing<D, M> {
     ghost state = { λ s. any_state D.state s };
 
-    ghost under = { λ s. any_under D.state s };
+    ghost lasts = { lasts_of M.most };
+
+    ghost under = { λ s. None };
 
     fn sectors(&self) -> u64 {
-        self.store.sectors()
+        match &self.store {
+            FileStore::Any(store) => store.sectors(),
+            FileStore::Durable(store) => store.sectors(),
+        }
     }
 
     fn read(&mut self, at: u64, out: &mut [u8]) -> Result<(), Failed> {
-        self.store.read(at, out)
+        match &mut self.store {
+            FileStore::Any(store) => store.read(at, out),
+            FileStore::Durable(store) => store.read(at, out),
+        }
     }
 
     fn write(&mut self, at: u64, piece: &[u8]) -> Result<(), Failed> {
-        self.store.write(at, piece)
+        match &mut self.store {
+            FileStore::Any(store) => store.write(at, piece),
+            FileStore::Durable(store) => store.write(at, piece),
+        }
     }
 
     fn sync(&mut self) -> Result<(), Failed> {
-        self.store.sync()
+        match &mut self.store {
+            FileStore::Any(store) => store.sync(),
+            FileStore::Durable(store) => store.sync(),
+        }
     }
 }

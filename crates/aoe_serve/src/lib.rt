@@ -2,7 +2,8 @@
 //!
 //! - [`answer`] takes the frames of a source's stream, and [`serve`] those of a link. Each frame
 //!   goes to every slot in order, and each reply goes out before the next frame is looked at.
-//!   Neither takes memory.
+//!   Neither takes memory. [`capture`] is `answer` with a capture file (`aoe_pcap`) of the frames and
+//!   their replies in place of the stream of the replies.
 //! - [`export`] makes a shelf of files for the time of one such run: it takes the memory of all
 //!   stores, mounts all keeps, runs the [`Plan`], syncs every store, and gives every disk back. A
 //!   store writes through, or holds back as many sectors as the [`Rack`] says (`aoe_cache`).
@@ -33,7 +34,7 @@ mod shelf_link;
 pub use over_files::{Rack, export};
 pub use over_link::{ServeEnd, serve};
 pub use over_mirror::{MirrorDisks, MirrorEnd, MirrorStop, export_mirror};
-pub use over_stream::{AnswerEnd, answer};
+pub use over_stream::{AnswerEnd, Format, answer, capture};
 pub use plan::{ExportRefusal, Exported, Plan, RunEnd};
 pub use run::run_slots;
 pub use shelf_link::ShelfLink;

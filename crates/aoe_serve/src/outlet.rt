@@ -2,14 +2,16 @@
 ghost use Rattle.std.specs.Prelude.{◌≡◌, ◌∷◌, ◌++◌, ℕ, List, [], Ok, Err};
 ghost use Rattle.aoe_base.specs.declared.failure.Failed.{Failed};
 ghost use Rattle.aoe_serve.specs.Rounds.{LinkTook, Outcome, SinkTook};
+ghost use Rattle.aoe_serve.specs.declared.over_stream.Format.TheVariants.{Capture, Replies};
 ghost use Rattle.aoe_serve.specs.OutletLaws.{link_more, link_none, link_over, sink_more, sink_none, sink_over};
 
 use aoe_base::Failed;
 use aoe_frame::Frame;
-use aoe_io::{Link, Sink, give_frame};
+use aoe_io::{Link, Sink, give_all, give_frame};
+use aoe_pcap::{RecordBytes, write_record};
 
-/// What takes replies, as `By` says: a sink their stream, a link the frames, a queue as many as it has
-/// room for.
+/// What takes replies, as `By` says: a sink their stream or their records in a capture file, a link the
+/// frames, a queue as many as it has room for.
 pub(crate) trait Outlet<By> {
     // How these replies were taken, in this order: all of them, or where it failed a part.
     ghost took: { Outcome → Self → Self → List (List ℕ) → Type 0 };
@@ -32,17 +34,36 @@ pub(crate) trait Outlet<By> {
 pub(crate) struct AsStream;
 
 impl<K: Sink> Outlet<AsStream> for K {
-    ghost took = { λ result a b replies. SinkTook result (K.held a) (K.held b) (K.faults a) (K.faults b) replies };
+    ghost took = { λ result a b replies. SinkTook Replies result (K.held a) (K.held b) (K.faults a) (K.faults b) replies };
 
     fn give(&mut self, reply: &Frame) -> Result<(), Failed> {
         give_frame(self, reply.as_slice())
     }
 
-    ghost none = { λ a. sink_none (K.held a) (K.faults a) };
+    ghost none = { λ a. sink_none Replies (K.held a) (K.faults a) };
 
-    ghost more = { λ result a b c xs ys one two. sink_more result _ _ _ _ _ _ xs ys one two };
+    ghost more = { λ result a b c xs ys one two. sink_more Replies result _ _ _ _ _ _ xs ys one two };
 
-    ghost over = { λ failed a b xs ys one. sink_over failed _ _ _ _ xs ys one };
+    ghost over = { λ failed a b xs ys one. sink_over Replies failed _ _ _ _ xs ys one };
+}
+
+/// The replies go out as the records of a capture file.
+pub(crate) struct AsRecords;
+
+impl<K: Sink> Outlet<AsRecords> for K {
+    ghost took = { λ result a b replies. SinkTook Capture result (K.held a) (K.held b) (K.faults a) (K.faults b) replies };
+
+    fn give(&mut self, reply: &Frame) -> Result<(), Failed> {
+        let mut record = RecordBytes::new();
+        write_record(reply.as_slice(), &mut record);
+        give_all(self, record.as_slice())
+    }
+
+    ghost none = { λ a. sink_none Capture (K.held a) (K.faults a) };
+
+    ghost more = { λ result a b c xs ys one two. sink_more Capture result _ _ _ _ _ _ xs ys one two };
+
+    ghost over = { λ failed a b xs ys one. sink_over Capture failed _ _ _ _ xs ys one };
 }
 
 /// The replies go out frame by frame.

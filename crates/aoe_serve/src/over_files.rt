@@ -1,11 +1,12 @@
 //! The call that exports files.
 ghost use Rattle.std.specs.Prelude.{◌≡◌, ◌≤◌, ℕ, All, Err, IfErr, IfOk, IsSome, OnErr, length};
 ghost use Rattle.aoe_base.specs.Faults.{Blamed};
+ghost use Rattle.aoe_serve.specs.Backing.{held_back};
 ghost use Rattle.aoe_serve.specs.Exporting.{AtFirst, CanExport, EndsAs, IsExported};
 ghost use Rattle.aoe_serve.specs.Files.{AreGivenBack, GivesBack, named};
 ghost use Rattle.aoe_keep.specs.declared.refusal.MountRefusal.{MountRefusal};
 
-use crate::backing::{Backing, Most};
+use crate::backing::{Backing, Most, held_back};
 use crate::mount::{mount, unmount};
 use crate::{AnswerEnd, ExportRefusal, Exported, Plan, RunEnd, ServeEnd, run_slots};
 use aoe_base::{NoMemory, Ports, TargetId};
@@ -28,6 +29,9 @@ pub struct Rack {
     /// How many sectors that were written a store holds back at most, until a flush or the last sync;
     /// 0 where each write goes to its file at once.
     pub cache: u32,
+
+    /// Whether each write is synced before it is answered; then nothing is held back.
+    pub durable: bool,
 }
 
 /// Exports each pair of the disks, a file and its keep, as a slot of a shelf, for one run.
@@ -37,7 +41,8 @@ pub struct Rack {
 /// the end the stores are synced in order, however the run ended. Each disk is given back, also where
 /// nothing was run.
 ///
-/// With a cache a loss of power takes the writes since the last flush, of as many sectors as the cache
+/// Where writes are to last, each sector of a write that was answered as done survives a loss of power
+/// from then on, until a later write to it. With a cache a loss of power takes the writes since the last flush, of as many sectors as the cache
 /// holds back at most. A host that flushes what it must not lose is as safe as without.
 pub fn export<D: Disk + Drop, S: Source, K: Sink, L: Link>(
     alloc: Global,
@@ -50,7 +55,7 @@ pub fn export<D: Disk + Drop, S: Source, K: Sink, L: Link>(
 ) -> Result<Exported, ExportRefusal>
     requires possible { CanExport rack plan (length disks.old) (length links.old) }
     requires there { All IsSome disks.old }
-    ensures ran { IfOk result (λ e. IsExported D.state rack.cache (named rack.first.major rack.ports.items rack.mtu) rack.first.minor
+    ensures ran { IfOk result (λ e. IsExported D.state (held_back rack.durable rack.cache) (named rack.first.major rack.ports.items rack.mtu) rack.first.minor
         record { left = S.left; held = K.held; turns = L.turns; given = L.given; taken = L.taken } plan e
         record { source = source.old; sink = sink.old; links = links.old } record { source = source.new; sink = sink.new; links = links.new }
         disks.old disks.new) }
@@ -88,10 +93,10 @@ fn export_at<M: Most, D: Disk + Drop, S: Source, K: Sink, L: Link>(
     disks: &mut [Option<D>],
     links: &mut [L],
 ) -> Result<Exported, ExportRefusal>
-    requires most { rack.cache ≡ M.most }
+    requires most { held_back rack.durable rack.cache ≡ M.most }
     requires possible { CanExport rack plan (length disks.old) (length links.old) }
     requires there { All IsSome disks.old }
-    ensures ran { IfOk result (λ e. IsExported D.state rack.cache (named rack.first.major rack.ports.items rack.mtu) rack.first.minor
+    ensures ran { IfOk result (λ e. IsExported D.state (held_back rack.durable rack.cache) (named rack.first.major rack.ports.items rack.mtu) rack.first.minor
         record { left = S.left; held = K.held; turns = L.turns; given = L.given; taken = L.taken } plan e
         record { source = source.old; sink = sink.old; links = links.old } record { source = source.new; sink = sink.new; links = links.new }
         disks.old disks.new) }
@@ -117,12 +122,19 @@ fn export_at<M: Most, D: Disk + Drop, S: Source, K: Sink, L: Link>(
         ports,
         mtu,
         cache,
+        durable,
     } = rack;
     let mut shelf: Shelf<Backing<D, M>, D> = match Shelf::new(alloc, first.major, ports, mtu) {
         Ok(shelf) => shelf,
         Err(NoMemory) => return Err(ExportRefusal::NoMemory),
     };
-    match mount(alloc, &mut shelf, first.minor, cache, disks) {
+    match mount(
+        alloc,
+        &mut shelf,
+        first.minor,
+        held_back(durable, cache),
+        disks,
+    ) {
         Ok(()) => {}
         Err(refusal) => return Err(refusal),
     }

@@ -53,7 +53,7 @@ pub fn serve<S: Store, D: Disk, L: Link>(
     idle: u64,
 ) -> ServeEnd
     ensures run { Served result frames idle (L.turns link.old) (L.turns link.new) (L.given link.old) (L.given link.new) (L.taken link.old) (L.taken link.new)
-        (slots_of S.state D.state shelf.old.targets) (slots_of S.state D.state shelf.new.targets) }
+        (slots_of S.lasts S.state D.state shelf.old.targets) (slots_of S.lasts S.state D.state shelf.new.targets) }
     ensures rest { shelf.new ≡ record shelf.old { targets = shelf.new.targets } }
     ensures count { L.faults link.old ≤ L.faults link.new }
     ensures link_blame { Blamed (result ≡ ServeEnd.LinkFault) (L.faults link.old)
@@ -68,7 +68,7 @@ pub fn serve<S: Store, D: Disk, L: Link>(
             Ok(Got::Ended) => return ServeEnd::Ended,
             Err(Failed) => return ServeEnd::LinkFault,
         }
-        match round::<S, D, AsFrames, L>(shelf, request.as_slice(), &mut reply, link) {
+        match round::<S, D, AsFrames, L>(shelf, request.as_slice(), &mut reply, link, Ok(())) {
             Ok(()) => {}
             Err(Failed) => return ServeEnd::LinkFault,
         }

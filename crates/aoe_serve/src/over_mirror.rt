@@ -102,10 +102,12 @@ impl<D: Disk, G: Given> Counted<D, G> {
 }
 
 impl<D: Disk, G: Given> Store for Counted<D, G> {
-    ghost use Rattle.std.specs.Prelude.{None};
+    ghost use Rattle.std.specs.Prelude.{None, false};
     ghost use Rattle.aoe_mirror.specs.Mirror.{state_of};
 
     ghost state = { λ s. state_of D.state s };
+
+    ghost lasts = { false };
 
     ghost under = { λ s. None };
 
@@ -298,7 +300,8 @@ fn run_over<D: Disk + Drop, G: Given, S: Source, K: Sink, L: Link>(
 /// is run over the slot, and the mirror is synced, however the run ended. Where that and the run went
 /// well, what is stale then is copied, too. Each disk is given back, also where nothing was run.
 ///
-/// A mirror holds nothing back, so `rack.cache` is 0.
+/// A mirror holds nothing back and syncs for a flush alone, so `rack.cache` is 0 and `rack.durable`
+/// isn't set.
 pub fn export_mirror<D: Disk + Drop, S: Source, K: Sink, L: Link>(
     alloc: Global,
     rack: Rack,
@@ -310,6 +313,7 @@ pub fn export_mirror<D: Disk + Drop, S: Source, K: Sink, L: Link>(
 ) -> (Result<MirrorEnd, MirrorStop>, MirrorDisks<D>)
     requires possible { CanExport rack plan 2 (length links.old) }
     requires through { rack.cache ≡ 0 }
+    requires plain { rack.durable ≡ false }
     ensures ran { IfOk result.0 (λ e. IsMirrored D.state (named rack.first.major rack.ports.items rack.mtu rack.first.minor)
         record { left = S.left; held = K.held; turns = L.turns; given = L.given; taken = L.taken } plan e
         record { source = source.old; sink = sink.old; links = links.old } record { source = source.new; sink = sink.new; links = links.new }
@@ -366,6 +370,7 @@ fn mirror_at<G: Given, D: Disk + Drop, S: Source, K: Sink, L: Link>(
         ports,
         mtu,
         cache: _,
+        durable: _,
     } = rack;
     let mut shelf: Shelf<Counted<D, G>, D> = match Shelf::new(alloc, first.major, ports, mtu) {
         Ok(shelf) => shelf,

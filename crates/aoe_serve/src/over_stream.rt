@@ -1,22 +1,35 @@
-//! The loop of `answer`: a frame from the source, its replies to the sink.
-ghost use Rattle.std.specs.Prelude.{◌≡◌, ◌≤◌, Err, IfErr, Ok, OnOk};
+//! The loop of `answer` and `capture`: a frame from the source, its replies to the sink.
+ghost use Rattle.std.specs.Prelude.{◌≡◌, ◌≤◌, ◌++◌, [], Err, IfErr, Ok, OnErr, OnOk, is_err, true};
 ghost use Rattle.aoe_base.specs.Faults.{Blamed};
-ghost use Rattle.aoe_io.specs.Bytes.{Gave};
+ghost use Rattle.aoe_io.specs.Bytes.{Gave, Took, TookSome};
 ghost use Rattle.aoe_io.specs.Stream.{framed, IsFrame};
+ghost use Rattle.aoe_pcap.specs.Capture.{head_bytes, written_head};
 ghost use Rattle.aoe_serve.specs.Rounds.{Round, SinkTook};
 ghost use Rattle.aoe_serve.specs.Answering.{Answered, Ends};
 ghost use Rattle.aoe_serve.specs.Slots.{slots_of};
+ghost use Rattle.aoe_serve.specs.Written.{noted, written};
 
-use crate::outlet::AsStream;
+use crate::outlet::{AsRecords, AsStream, Outlet};
 use crate::rounds::round;
 use aoe_base::Failed;
 use aoe_disk::Disk;
 use aoe_frame::Frame;
-use aoe_io::{Next, Sink, Source, StreamRefusal, next_frame};
+use aoe_io::{Next, Sink, Source, StreamRefusal, give_all, next_frame};
+use aoe_pcap::write_head;
 use aoe_shelf::Shelf;
 use aoe_store::Store;
 
-/// How the frames of a run of `answer` ended.
+/// What a run writes of the frames that come.
+#[derive(Clone, Copy, Debug, PartialEq, Eq)]
+pub enum Format {
+    /// The replies, as a stream.
+    Replies,
+
+    /// A capture file of each frame, and behind it of the replies to it.
+    Capture,
+}
+
+/// How the frames of a run of `answer` or `capture` ended.
 #[derive(Clone, Copy, Debug, PartialEq, Eq)]
 pub enum AnswerEnd {
     /// The source was read to its end.
@@ -35,9 +48,68 @@ pub enum AnswerEnd {
     Limit,
 }
 
-/// Takes one frame of the source, in front of which `offset` bytes stood, and gives the replies to
-/// it. An error is the end of the run.
+/// Writes the header of a capture file.
+fn give_head<K: Sink>(sink: &mut K) -> Result<(), Failed>
+    ensures all { OnOk result (Took (K.held sink.old) (K.held sink.new) (head_bytes written_head)) }
+    ensures some { OnErr result (TookSome (K.held sink.old) (K.held sink.new)
+        (head_bytes written_head)) }
+    ensures count { K.faults sink.old ≤ K.faults sink.new }
+    ensures blame { Blamed (is_err result ≡ true) (K.faults sink.old) (K.faults sink.new) }
+{
+    let mut head = Frame::new();
+    write_head(&mut head);
+    give_all(sink, head.as_slice())
+}
+
+/// Writes what stands in front of all frames.
+fn begin<K: Sink>(format: Format, sink: &mut K) -> Result<(), Failed>
+    ensures all { OnOk result (Took (K.held sink.old) (K.held sink.new) (written format [])) }
+    ensures some { OnErr result (TookSome (K.held sink.old) (K.held sink.new) (written format [])) }
+    ensures count { K.faults sink.old ≤ K.faults sink.new }
+    ensures blame { Blamed (is_err result ≡ true) (K.faults sink.old) (K.faults sink.new) }
+{
+    match format {
+        Format::Replies => Ok(()),
+        Format::Capture => give_head(sink),
+    }
+}
+
+/// Writes what stands for a frame in front of the replies to it.
+fn note<K: Sink>(format: Format, frame: &Frame, sink: &mut K) -> Result<(), Failed>
+    ensures { SinkTook format result (K.held sink.old) (K.held sink.new) (K.faults sink.old) (K.faults sink.new)
+        (noted format frame.now.items) }
+{
+    match format {
+        Format::Replies => Ok(()),
+        Format::Capture => <K as Outlet<AsRecords>>::give(sink, frame),
+    }
+}
+
+/// Hands a frame to every slot in turn, and writes what stands for it and the replies. Where the sink
+/// fails it is given no more, and the slots that are left get the frame all the same.
+fn hand<S: Store, D: Disk, K: Sink>(
+    format: Format,
+    shelf: &mut Shelf<S, D>,
+    frame: &Frame,
+    reply: &mut Frame,
+    sink: &mut K,
+) -> Result<(), Failed>
+    ensures round { Round (λ given. SinkTook format result (K.held sink.old) (K.held sink.new) (K.faults sink.old) (K.faults sink.new)
+        (noted format frame.now.items ++ given)) frame.now.items
+        (slots_of S.lasts S.state D.state shelf.old.targets) (slots_of S.lasts S.state D.state shelf.new.targets) }
+    ensures rest { shelf.new ≡ record shelf.old { targets = shelf.new.targets } }
+{
+    let noted = note(format, frame, sink);
+    match format {
+        Format::Replies => round::<S, D, AsStream, K>(shelf, frame.as_slice(), reply, sink, noted),
+        Format::Capture => round::<S, D, AsRecords, K>(shelf, frame.as_slice(), reply, sink, noted),
+    }
+}
+
+/// Takes one frame of the source, in front of which `offset` bytes stood, and writes it and the replies
+/// to it. An error is the end of the run.
 fn turn<S: Store, D: Disk, R: Source, K: Sink>(
+    format: Format,
     shelf: &mut Shelf<S, D>,
     source: &mut R,
     sink: &mut K,
@@ -48,10 +120,11 @@ fn turn<S: Store, D: Disk, R: Source, K: Sink>(
     ensures frame { OnOk result (IsFrame request.new.items) }
     ensures gave { OnOk result (Gave (R.left source.old) (R.left source.new)
         (framed request.new.items)) }
-    ensures round { OnOk result (Round (SinkTook (Ok tt) (K.held sink.old) (K.held sink.new) (K.faults sink.old) (K.faults sink.new)) request.new.items
-        (slots_of S.state D.state shelf.old.targets) (slots_of S.state D.state shelf.new.targets)) }
-    ensures ends { IfErr result (λ end. Ends end offset (R.left source.old) (R.left source.new) (K.held sink.old) (K.held sink.new)
-        (slots_of S.state D.state shelf.old.targets) (slots_of S.state D.state shelf.new.targets)) }
+    ensures round { OnOk result (Round (λ given. SinkTook format (Ok tt) (K.held sink.old) (K.held sink.new) (K.faults sink.old) (K.faults sink.new)
+        (noted format request.new.items ++ given)) request.new.items
+        (slots_of S.lasts S.state D.state shelf.old.targets) (slots_of S.lasts S.state D.state shelf.new.targets)) }
+    ensures ends { IfErr result (λ end. Ends format end offset (R.left source.old) (R.left source.new) (K.held sink.old) (K.held sink.new)
+        (slots_of S.lasts S.state D.state shelf.old.targets) (slots_of S.lasts S.state D.state shelf.new.targets)) }
     ensures rest { shelf.new ≡ record shelf.old { targets = shelf.new.targets } }
     ensures source_count { R.faults source.old ≤ R.faults source.new }
     ensures sink_count { K.faults sink.old ≤ K.faults sink.new }
@@ -66,10 +139,52 @@ fn turn<S: Store, D: Disk, R: Source, K: Sink>(
         Err(StreamRefusal::SourceFault) => return Err(AnswerEnd::SourceFault),
         Err(StreamRefusal::Stream { offset }) => return Err(AnswerEnd::Stream { offset }),
     }
-    match round::<S, D, AsStream, K>(shelf, request.as_slice(), reply, sink) {
+    match hand(format, shelf, request, reply, sink) {
         Ok(()) => Ok(()),
         Err(Failed) => Err(AnswerEnd::SinkFault),
     }
+}
+
+/// Answers the frames of the source's stream, and writes on the sink what the format says.
+pub(crate) fn answer_as<S: Store, D: Disk, R: Source, K: Sink>(
+    format: Format,
+    shelf: &mut Shelf<S, D>,
+    source: &mut R,
+    sink: &mut K,
+) -> AnswerEnd
+    ensures run { Answered format result (R.left source.old) (R.left source.new) (K.held sink.old) (K.held sink.new)
+        (slots_of S.lasts S.state D.state shelf.old.targets) (slots_of S.lasts S.state D.state shelf.new.targets) }
+    ensures rest { shelf.new ≡ record shelf.old { targets = shelf.new.targets } }
+    ensures source_count { R.faults source.old ≤ R.faults source.new }
+    ensures sink_count { K.faults sink.old ≤ K.faults sink.new }
+    ensures source_blame { Blamed (result ≡ AnswerEnd.SourceFault) (R.faults source.old)
+        (R.faults source.new) }
+    ensures sink_blame { Blamed (result ≡ AnswerEnd.SinkFault) (K.faults sink.old)
+        (K.faults sink.new) }
+{
+    match begin(format, sink) {
+        Ok(()) => {}
+        Err(Failed) => return AnswerEnd::SinkFault,
+    }
+    let mut request = Frame::new();
+    let mut reply = Frame::new();
+    let mut offset = 0u64;
+    'frames: for count in 0..u32::MAX {
+        match turn(
+            format,
+            shelf,
+            source,
+            sink,
+            offset,
+            &mut request,
+            &mut reply,
+        ) {
+            Ok(()) => {}
+            Err(end) => return end,
+        }
+        offset += 2 + request.len() as u64;
+    }
+    AnswerEnd::Limit
 }
 
 /// Answers the frames of the source's stream on the sink's, until the source ends or one of them
@@ -80,8 +195,8 @@ pub fn answer<S: Store, D: Disk, R: Source, K: Sink>(
     source: &mut R,
     sink: &mut K,
 ) -> AnswerEnd
-    ensures run { Answered result (R.left source.old) (R.left source.new) (K.held sink.old) (K.held sink.new)
-        (slots_of S.state D.state shelf.old.targets) (slots_of S.state D.state shelf.new.targets) }
+    ensures run { Answered Format.Replies result (R.left source.old) (R.left source.new) (K.held sink.old) (K.held sink.new)
+        (slots_of S.lasts S.state D.state shelf.old.targets) (slots_of S.lasts S.state D.state shelf.new.targets) }
     ensures rest { shelf.new ≡ record shelf.old { targets = shelf.new.targets } }
     ensures source_count { R.faults source.old ≤ R.faults source.new }
     ensures sink_count { K.faults sink.old ≤ K.faults sink.new }
@@ -90,15 +205,27 @@ pub fn answer<S: Store, D: Disk, R: Source, K: Sink>(
     ensures sink_blame { Blamed (result ≡ AnswerEnd.SinkFault) (K.faults sink.old)
         (K.faults sink.new) }
 {
-    let mut request = Frame::new();
-    let mut reply = Frame::new();
-    let mut offset = 0u64;
-    'frames: for count in 0..u32::MAX {
-        match turn(shelf, source, sink, offset, &mut request, &mut reply) {
-            Ok(()) => {}
-            Err(end) => return end,
-        }
-        offset += 2 + request.len() as u64;
-    }
-    AnswerEnd::Limit
+    answer_as(Format::Replies, shelf, source, sink)
+}
+
+/// Answers the frames of the source's stream as [`answer`] does, and writes a capture file (`aoe_pcap`)
+/// of the frames and the replies: its header, before the first frame is read, and then the record of
+/// each frame and those of the replies to it. A frame that the sink failed to take still goes to every
+/// slot. Takes no memory.
+pub fn capture<S: Store, D: Disk, R: Source, K: Sink>(
+    shelf: &mut Shelf<S, D>,
+    source: &mut R,
+    sink: &mut K,
+) -> AnswerEnd
+    ensures run { Answered Format.Capture result (R.left source.old) (R.left source.new) (K.held sink.old) (K.held sink.new)
+        (slots_of S.lasts S.state D.state shelf.old.targets) (slots_of S.lasts S.state D.state shelf.new.targets) }
+    ensures rest { shelf.new ≡ record shelf.old { targets = shelf.new.targets } }
+    ensures source_count { R.faults source.old ≤ R.faults source.new }
+    ensures sink_count { K.faults sink.old ≤ K.faults sink.new }
+    ensures source_blame { Blamed (result ≡ AnswerEnd.SourceFault) (R.faults source.old)
+        (R.faults source.new) }
+    ensures sink_blame { Blamed (result ≡ AnswerEnd.SinkFault) (K.faults sink.old)
+        (K.faults sink.new) }
+{
+    answer_as(Format::Capture, shelf, source, sink)
 }

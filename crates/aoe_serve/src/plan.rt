@@ -1,13 +1,13 @@
 //! What a run is to do, and how it ended.
-use crate::{AnswerEnd, ServeEnd};
+use crate::{AnswerEnd, Format, ServeEnd};
 use aoe_keep::MountRefusal;
 use thiserror::Error;
 
 /// What is done with the slots.
 #[derive(Clone, Copy, Debug, PartialEq, Eq)]
 pub enum Plan {
-    /// The frames of the source are answered on the sink.
-    Answer,
+    /// The frames of the source are answered on the sink, in this format.
+    Answer(Format),
 
     /// The first link is served, until `frames` frames came or `idle` consecutive turns were quiet.
     Serve { frames: u64, idle: u64 },

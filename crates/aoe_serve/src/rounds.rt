@@ -45,7 +45,7 @@ fn meet<S: Store, D: Disk, By, O: Outlet<By>>(
     given: Result<(), Failed>,
 ) -> Result<(), Failed>
     requires { slot < length shelf.old.targets }
-    ensures meets { (fate : Fate) × MeetsAt slot (slots_of S.state D.state shelf.old.targets) (slots_of S.state D.state shelf.new.targets) frame.now fate
+    ensures meets { (fate : Fate) × MeetsAt slot (slots_of S.lasts S.state D.state shelf.old.targets) (slots_of S.lasts S.state D.state shelf.new.targets) frame.now fate
         × TakesOn O.took given result outlet.old outlet.new (reply_of fate) }
     ensures len { length shelf.new.targets ≡ length shelf.old.targets }
     ensures rest { shelf.new ≡ record shelf.old { targets = shelf.new.targets } }
@@ -54,19 +54,20 @@ fn meet<S: Store, D: Disk, By, O: Outlet<By>>(
     give::<By, O>(heard, reply, outlet, given)
 }
 
-/// Hands a frame to every slot in turn, and gives the replies to the outlet. Where that fails it is
-/// given no more, and the slots that are left get the frame all the same.
+/// Hands a frame to every slot in turn, and gives the replies to the outlet. Where that fails, or did
+/// before, it is given no more, and the slots that are left get the frame all the same.
 pub(crate) fn round<S: Store, D: Disk, By, O: Outlet<By>>(
     shelf: &mut Shelf<S, D>,
     frame: &[u8],
     reply: &mut Frame,
     outlet: &mut O,
+    so_far: Result<(), Failed>,
 ) -> Result<(), Failed>
-    ensures round { Round (O.took result outlet.old outlet.new) frame.now
-        (slots_of S.state D.state shelf.old.targets) (slots_of S.state D.state shelf.new.targets) }
+    ensures round { Round (TakesOn O.took so_far result outlet.old outlet.new) frame.now
+        (slots_of S.lasts S.state D.state shelf.old.targets) (slots_of S.lasts S.state D.state shelf.new.targets) }
     ensures rest { shelf.new ≡ record shelf.old { targets = shelf.new.targets } }
 {
-    let mut given = Ok(());
+    let mut given = so_far;
     'slots: for slot in 0..shelf.count() {
         given = meet::<S, D, By, O>(shelf, slot, frame, reply, outlet, given);
     }

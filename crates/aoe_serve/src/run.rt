@@ -5,7 +5,8 @@ ghost use Rattle.aoe_base.specs.declared.failure.Failed.{Failed};
 ghost use Rattle.aoe_serve.specs.Exporting.{AtFirst, HasRun, RanSlots, SyncsEach, first_failed, first_of, is_served};
 ghost use Rattle.aoe_serve.specs.Slots.{slots_of};
 
-use crate::{AnswerEnd, Exported, Plan, RunEnd, ServeEnd, answer, serve};
+use crate::over_stream::answer_as;
+use crate::{AnswerEnd, Exported, Plan, RunEnd, ServeEnd, serve};
 use aoe_base::Failed;
 use aoe_disk::Disk;
 use aoe_io::{Link, Sink, Source};
@@ -14,7 +15,7 @@ use aoe_store::Store;
 
 /// Syncs the store of each slot in order, and gives the first slot whose sync failed.
 pub(crate) fn sync_each<S: Store, D: Disk>(shelf: &mut Shelf<S, D>) -> Option<u32>
-    ensures syncs { (results : List (Result (Unit {0}) Failed)) × SyncsEach results (slots_of S.state D.state shelf.old.targets) (slots_of S.state D.state shelf.new.targets)
+    ensures syncs { (results : List (Result (Unit {0}) Failed)) × SyncsEach results (slots_of S.lasts S.state D.state shelf.old.targets) (slots_of S.lasts S.state D.state shelf.new.targets)
         × (result ≡ first_failed results) }
     ensures rest { shelf.new ≡ record shelf.old { targets = shelf.new.targets } }
     ensures count { length shelf.new.targets ≡ length shelf.old.targets }
@@ -48,7 +49,7 @@ pub(crate) fn run<T: Store, D: Disk, S: Source, K: Sink, L: Link>(
     requires { is_served plan ≡ true → 0 < length links.old }
     ensures run { HasRun record { left = S.left; held = K.held; turns = L.turns; given = L.given; taken = L.taken } plan result
         record { source = source.old; sink = sink.old; links = links.old } record { source = source.new; sink = sink.new; links = links.new }
-        (slots_of T.state D.state shelf.old.targets) (slots_of T.state D.state shelf.new.targets) }
+        (slots_of T.lasts T.state D.state shelf.old.targets) (slots_of T.lasts T.state D.state shelf.new.targets) }
     ensures rest { shelf.new ≡ record shelf.old { targets = shelf.new.targets } }
     ensures source_count { S.faults source.old ≤ S.faults source.new }
     ensures sink_count { K.faults sink.old ≤ K.faults sink.new }
@@ -61,7 +62,7 @@ pub(crate) fn run<T: Store, D: Disk, S: Source, K: Sink, L: Link>(
         (L.faults a) (L.faults b)) links.old links.new }
 {
     match plan {
-        Plan::Answer => RunEnd::Answered(answer(shelf, source, sink)),
+        Plan::Answer(format) => RunEnd::Answered(answer_as(format, shelf, source, sink)),
         Plan::Serve { frames, idle } => RunEnd::Served(serve(shelf, &mut links[0], frames, idle)),
     }
 }
@@ -81,7 +82,7 @@ pub fn run_slots<T: Store, D: Disk, S: Source, K: Sink, L: Link>(
     requires { is_served plan ≡ true → 0 < length links.old }
     ensures ran { RanSlots record { left = S.left; held = K.held; turns = L.turns; given = L.given; taken = L.taken } plan result
         record { source = source.old; sink = sink.old; links = links.old } record { source = source.new; sink = sink.new; links = links.new }
-        (slots_of T.state D.state shelf.old.targets) (slots_of T.state D.state shelf.new.targets) }
+        (slots_of T.lasts T.state D.state shelf.old.targets) (slots_of T.lasts T.state D.state shelf.new.targets) }
     ensures count { length shelf.new.targets ≡ length shelf.old.targets }
     ensures rest { shelf.new ≡ record shelf.old { targets = shelf.new.targets } }
     ensures source_count { S.faults source.old ≤ S.faults source.new }

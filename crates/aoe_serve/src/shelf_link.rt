@@ -86,13 +86,19 @@ impl<S: Store, D: Disk> Link for ShelfLink<S, D> {
     fn send(&mut self, frame: &[u8]) -> Result<(), Failed>
         ensures never_fails { result ≡ Ok tt }
         ensures hands { Hands frame.now self.old.waiting self.new.waiting
-            (slots_of S.state D.state self.old.shelf.targets) (slots_of S.state D.state self.new.shelf.targets) }
+            (slots_of S.lasts S.state D.state self.old.shelf.targets) (slots_of S.lasts S.state D.state self.new.shelf.targets) }
         ensures rest { self.new ≡ record self.old {
           shelf = record self.old.shelf { targets = self.new.shelf.targets };
           waiting = self.new.waiting;
         } }
     {
-        round::<S, D, Queued, Replies>(&mut self.shelf, frame, &mut self.reply, &mut self.waiting)
+        round::<S, D, Queued, Replies>(
+            &mut self.shelf,
+            frame,
+            &mut self.reply,
+            &mut self.waiting,
+            Ok(()),
+        )
     }
 
     fn recv(&mut self, out: &mut Frame) -> Result<Got, Failed>

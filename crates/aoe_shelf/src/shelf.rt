@@ -56,6 +56,7 @@ impl<S: Store, D: Disk> Shelf<S, D> {
     ghost use Rattle.aoe_shelf.specs.Shelf.{refusal_of};
     ghost use Rattle.aoe_shelf.specs.Slot.{ChangesAt};
     ghost use Rattle.aoe_target.specs.Mounted.{station_of};
+    ghost use Rattle.aoe_target.specs.Lasting.{TurnsFirm};
     ghost use Rattle.aoe_target.specs.Turn.{Receives, TurnsDisk};
 
     /// A shelf with the number `major` and no target, whose frames carry up to `mtu` bytes.
@@ -146,6 +147,8 @@ impl<S: Store, D: Disk> Shelf<S, D> {
             self.old.targets self.new.targets }
         ensures under { ChangesAt slot
             (TurnsDisk S.state S.under frame.now result) self.old.targets self.new.targets }
+        ensures firm { ChangesAt slot (λ before after. TurnsFirm S.lasts S.state result out.new.items after)
+            self.old.targets self.new.targets }
         ensures count { length self.new.targets ≡ length self.old.targets }
         ensures rest { self.new ≡ record self.old { targets = self.new.targets } }
     {

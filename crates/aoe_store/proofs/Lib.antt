@@ -1,1 +1,2 @@
 pub mod Spoiling
+pub mod Lasting

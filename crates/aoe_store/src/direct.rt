@@ -35,11 +35,13 @@ impl<D: Disk> Direct<D> {
 }
 
 impl<D: Disk> Store for Direct<D> {
-    ghost use Rattle.std.specs.Prelude.{None, length};
+    ghost use Rattle.std.specs.Prelude.{None, false, length};
     ghost use Rattle.aoe_disk.specs.Calls.{IsRange, WritesTo};
     ghost use Rattle.aoe_store.specs.Store.{StoresTo};
 
     ghost state = { λ s. D.state s };
+
+    ghost lasts = { false };
 
     ghost under = { λ s. None };
 

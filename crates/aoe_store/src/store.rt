@@ -1,8 +1,8 @@
 //! What a store does.
-ghost use Rattle.std.specs.Prelude.{◌≡◌, ◌/◌, Option, length, is_err};
+ghost use Rattle.std.specs.Prelude.{◌≡◌, ◌/◌, Bool, Option, length, is_err};
 ghost use Rattle.aoe_disk.specs.State.{BothTell, DiskState, IsDisk};
 ghost use Rattle.aoe_disk.specs.Calls.{IsRange, Reads, SyncsTo};
-ghost use Rattle.aoe_store.specs.Store.{StoresTo};
+ghost use Rattle.aoe_store.specs.Lasting.{StoresAs};
 ghost use Rattle.aoe_store.specs.Under.{FreesUnder, ReadsUnder, SpendsUnder, Under};
 
 use aoe_base::Failed;
@@ -13,6 +13,9 @@ use aoe_disk::Arm;
 pub trait Store {
     // Its size and faults, and its contents, its schedule of failures and its calls where it tells them.
     ghost state: { Self → DiskState };
+
+    // Whether a write that is Ok lasts: no crash changes it.
+    ghost lasts: { Bool };
 
     // Of a store that writes later its disk, without what it holds back.
     ghost under: { Self → Option Under };
@@ -29,10 +32,11 @@ pub trait Store {
         ensures under { BothTell (ReadsUnder (is_err result)) (under self.old) (under self.new) };
 
     /// Writes `piece`, whole sectors, to those from `at` on. Where the write fails each of them has any
-    /// bytes and is loose, or is as it was, and all others are as they were.
+    /// bytes and is loose, or is as it was, and all others are as they were. Of a store whose writes last
+    /// none of the sectors is loose where it is Ok.
     fn write(&mut self, at: u64, piece: &[u8]) -> Result<(), Failed>
         requires { IsRange at (length piece.now) (state self.old).sectors }
-        ensures stores { StoresTo at piece.now result (state self.old) (state self.new) }
+        ensures stores { StoresAs lasts at piece.now result (state self.old) (state self.new) }
         ensures under { BothTell (SpendsUnder (length piece.now / 512) (is_err result)) (under self.old) (under self.new) };
 
     /// Brings what was written to the medium. Where the sync fails it may have done so in part.

@@ -1,9 +1,9 @@
 -- What a target does with a frame is a step of the law.
-use Rattle.std.proofs.Common.{◌≡◌, cond, ℕ, Bool, true, false, List, drop, refl, sym, ap, subst, ◌∙◌}
+use Rattle.std.proofs.Common.{◌≡◌, cond, ℕ, Bool, true, false, List, Option, drop, refl, sym, ap, subst, ◌∙◌}
 use Rattle.std.specs.Prelude.{is_some, IfSome, Some}
 use Rattle.std.specs.Bool.{OnTrue}
 use Rattle.std.specs.Option.{option_map}
-use Rattle.aoe_disk.specs.State.{DiskState}
+use Rattle.aoe_disk.specs.State.{Contents, DiskState}
 use Rattle.aoe_disk.specs.Calls.{IsRun}
 use Rattle.aoe_keep.specs.Found.{Finds}
 use Rattle.aoe_frame.specs.Header.{head, fields}
@@ -22,7 +22,10 @@ use Rattle.aoe_target.specs.Verdict.{verdict, judged}
 use Rattle.aoe_target.specs.Reply.{spelled, repeated}
 use Rattle.aoe_target.specs.Sectors.{sectors_of}
 use Rattle.aoe_target.specs.Device.{Device, State, Holds, MayStand}
-use Rattle.aoe_target.specs.Law.{Fate, ignored, silent, replied, IsStep, Allows, AllowsAta, AllowsStep, step_of, after, after_ata, after_step}
+use Rattle.aoe_lists.specs.Step.{Step}
+use Rattle.aoe_lists.specs.Step as step
+use Rattle.aoe_target.specs.Law.{Fate, cut, ignored, silent, replied, Edits, IsStep, Allows, AllowsAta, AllowsStep, step_of, after, after_ata, after_step}
+use Rattle.aoe_target.specs.Lasting.{IsFirmAfter, LeavesFirm}
 use Rattle.aoe_target.specs.Receive.{fate_of, KeepsStep, Leaves}
 use Rattle.aoe_target.proofs.LawLemmas.{allows_less, both_ata, both_then}
 use Rattle.aoe_target.proofs.DeviceLemmas.{stepped}
@@ -98,3 +101,22 @@ module _ (station : Station) (d d' : Device) (k : State) (f : List ℕ) (h : Hol
         sectors = both_then (option_map sectors_of d'.store.contents) (option_map (after_ata f a.answer (replied e out)) known) (option_map (after_ata f a.answer (replied e out)) k.sectors)
             leaves (both_ata (replied e out) f a.answer station (fields f) a.args known k.sectors allows h.sectors);
       })
+
+-- a step of the lists writes no sector
+pub step_firm : (station : Station) (f : List ℕ) (s : Step) (fate : Fate) (told : Option Contents) → AllowsStep station f s fate → IsFirmAfter fate told
+step_firm station f step.Silent fate told e = subst (λ (x : Fate). IsFirmAfter x told) (sym e) tt
+step_firm station f (step.Reply error args) fate told e = subst (λ (x : Fate). IsFirmAfter x told) (sym e) tt
+step_firm station f (step.Change next args) ignored told allowed = tt
+step_firm station f (step.Change next args) silent told allowed = tt
+step_firm station f (step.Change next args) cut told allowed = tt
+step_firm station f (step.Change next args) (replied e reply) told allowed = edited e allowed
+  where
+    edited : (e : Effect) → Edits station f args e reply → LeavesFirm e told
+    edited effect.None edits = tt
+    edited (effect.Wrote span) edits = absurd edits
+    edited effect.Synced edits = tt
+    edited effect.Edited edits = tt
+    edited (effect.WriteFault span) edits = tt
+    edited effect.ReadFault edits = tt
+    edited effect.SyncFault edits = tt
+    edited effect.EditFault edits = tt

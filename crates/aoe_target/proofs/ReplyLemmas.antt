@@ -1,13 +1,14 @@
 -- The bytes of a reply with data, and what a write leaves.
-use Rattle.std.proofs.Common.{◌≡◌, ◌≤◌, ◌+◌, ◌-◌, ◌*◌, ℕ, List, ◌++◌, length, take, drop, Option, Some, None, sym, ap, subst, ◌∙◌, arith, append_assoc, length-drop}
+use Rattle.std.proofs.Common.{◌≡◌, ◌≤◌, ◌+◌, ◌-◌, ◌*◌, ◌/◌, ℕ, Bool, true, false, List, ◌++◌, length, take, drop, Option, Some, None, Result, Ok, Err, sym, ap, subst, ◌∙◌, arith, append_assoc, length-drop}
 use Rattle.std.specs.Prelude.{IfSome}
 use Rattle.std.specs.Option.{option_map}
 use Rattle.std.proofs.lemmas.List.{take-append-drop}
 use Rattle.aoe_base.specs.declared.sectors.Span.{Span}
-use Rattle.aoe_disk.specs.State.{Contents, HasShape, BothTell, sector}
+use Rattle.aoe_disk.specs.State.{Contents, DiskState, HasShape, BothTell, sector}
 use Rattle.aoe_disk.specs.Calls.{Puts}
 use Rattle.aoe_disk.proofs.Touching.{sector-read}
 use Rattle.aoe_store.specs.Store.{MaySpoil}
+use Rattle.aoe_store.specs.Lasting.{AreFirm, MayLose, PutsToLast, StoresAs}
 use Rattle.aoe_frame.specs.Header.{padded}
 use Rattle.aoe_frame.specs.declared.header.Header.{Header}
 use Rattle.aoe_ata.specs.Args.{args_bytes}
@@ -20,7 +21,7 @@ use Rattle.aoe_target.specs.Reply.{reply_head, spelled, data_reply, data_of}
 use Rattle.aoe_target.specs.Sectors.{Agrees, Tells, sectors_of, puts, spoils}
 use Rattle.aoe_target.specs.Law.{Gives}
 use Rattle.aoe_target.proofs.PieceLemmas.{data_in}
-use Rattle.aoe_target.proofs.SectorLemmas.{agrees_same, both_agree, put_same, spoil_agrees}
+use Rattle.aoe_target.proofs.SectorLemmas.{agrees_same, both_agree, lasting_agrees, lost_agrees, put_same, spoil_agrees}
 
 -- header and registers, then the data, then the padding
 pub data_reply_is : (station : Station) (h : Header) (args : AtaArgs) (bytes begun whole out : List ℕ)
@@ -51,17 +52,46 @@ gives_read station k h args span whole out front size out_is told =
         ap (λ (l : List ℕ). sector l i) (same ∙ told) ∙ sector-read c.bytes span.at (512 * span.count) i (omega (arith, low))
 
 -- a write, done and failed
-pub put_leaves : (span : Span) (piece bytes : List ℕ) (sectors : ℕ) (old new : Option Contents) → piece ≡ bytes → length piece ≡ 512 * span.count
-    → 1 ≤ span.count → span.at + span.count ≤ sectors
-    → IfSome old (HasShape sectors) → BothTell (Puts span.at piece) old new
-    → BothTell Agrees (option_map sectors_of new) (option_map (puts span bytes) (option_map sectors_of old))
-put_leaves span piece bytes sectors old new same size some end shape told =
-    let P : List ℕ → Type 0 = λ l. BothTell Agrees (option_map sectors_of new) (option_map (puts span l) (option_map sectors_of old)) in
-    subst P same (both_agree (puts span piece) (Puts span.at piece) sectors old new shape told
-    (λ x y whole put. agrees_same (sectors_of y) (puts span piece (sectors_of x)) (put_same span piece x y sectors size some end whole put)))
+module _ (span : Span) (sectors : ℕ) (some : 1 ≤ span.count) (end : span.at + span.count ≤ sectors) where
+  put_leaves : (piece bytes : List ℕ) (old new : Option Contents) → piece ≡ bytes → length piece ≡ 512 * span.count → IfSome old (HasShape sectors)
+      → (R : Contents → Contents → Type 0) → ((x y : Contents) → HasShape sectors x → R x y → Agrees (sectors_of y) (puts span piece (sectors_of x)))
+      → BothTell R old new
+      → BothTell Agrees (option_map sectors_of new) (option_map (puts span bytes) (option_map sectors_of old))
+  put_leaves piece bytes old new same size shape R each told =
+      let P : List ℕ → Type 0 = λ l. BothTell Agrees (option_map sectors_of new) (option_map (puts span l) (option_map sectors_of old)) in
+      subst P same (both_agree (puts span piece) R sectors old new shape told each)
 
-pub spoil_leaves : (span : Span) (n sectors : ℕ) (old new : Option Contents) → n ≡ 512 * span.count → 1 ≤ span.count → span.at + span.count ≤ sectors
-    → IfSome old (HasShape sectors) → BothTell (MaySpoil span.at n) old new
-    → BothTell Agrees (option_map sectors_of new) (option_map (spoils span) (option_map sectors_of old))
-spoil_leaves span n sectors old new size some end shape told =
-    both_agree (spoils span) (MaySpoil span.at n) sectors old new shape told (λ x y whole may. spoil_agrees span n x y sectors size some end whole may)
+  pub stored_leaves : (T E : Type 0) (lasts : Bool) (piece bytes : List ℕ) (done : T) (old new : DiskState) → old.sectors ≡ sectors → piece ≡ bytes
+      → length piece ≡ 512 * span.count → (let result : Result T E = Ok done in StoresAs lasts span.at piece result old new)
+      → BothTell Agrees (option_map sectors_of new.contents) (option_map (puts span bytes) (option_map sectors_of old.contents))
+  stored_leaves T E true piece bytes done old new whole same size stores =
+      put_leaves piece bytes old.contents new.contents same size (rw (← whole) stores.call.before.shape) (PutsToLast span.at piece)
+      (λ x y shape put. lasting_agrees span piece x y sectors size end shape put) stores.contents
+  stored_leaves T E false piece bytes done old new whole same size stores =
+      put_leaves piece bytes old.contents new.contents same size (rw (← whole) stores.call.before.shape) (Puts span.at piece)
+      (λ x y shape put. agrees_same (sectors_of y) (puts span piece (sectors_of x)) (put_same span piece x y sectors size some end shape put)) stores.contents
+
+  pub failed_leaves : (T E : Type 0) (lasts : Bool) (piece : List ℕ) (failed : E) (old new : DiskState) → old.sectors ≡ sectors
+      → length piece ≡ 512 * span.count → (let result : Result T E = Err failed in StoresAs lasts span.at piece result old new)
+      → BothTell Agrees (option_map sectors_of new.contents) (option_map (spoils span) (option_map sectors_of old.contents))
+  failed_leaves T E true piece failed old new whole size stores =
+      both_agree (spoils span) (MayLose span.at (length piece)) sectors old.contents new.contents (rw (← whole) stores.call.before.shape) stores.contents
+      (λ x y shape lost. lost_agrees span (length piece) x y size lost)
+  failed_leaves T E false piece failed old new whole size stores =
+      both_agree (spoils span) (MaySpoil span.at (length piece)) sectors old.contents new.contents (rw (← whole) stores.call.before.shape) stores.contents
+      (λ x y shape may. spoil_agrees span (length piece) x y sectors size some end shape may)
+
+-- where writes last a crash changes no sector of one that was done
+pub stored_firm : (T E : Type 0) (lasts : Bool) (span : Span) (piece : List ℕ) (done : T) (old new : DiskState) → length piece ≡ 512 * span.count
+    → (let result : Result T E = Ok done in StoresAs lasts span.at piece result old new) → lasts ≡ true
+    → IfSome new.contents (AreFirm span.at span.count)
+stored_firm T E false span piece done old new size stores e = cc
+stored_firm T E true span piece done old new size stores e = told old.contents new.contents stores.contents
+  where
+    told : (x y : Option Contents) → BothTell (PutsToLast span.at piece) x y → IfSome y (AreFirm span.at span.count)
+    told None None t = tt
+    told None (Some y) t = absurd t
+    told (Some x) None t = tt
+    told (Some x) (Some y) t =
+        let m : length piece / 512 ≡ span.count = omega (arith, size) in
+        subst (λ (n : ℕ). AreFirm span.at n y) m t.firm

@@ -11,6 +11,7 @@ use Rattle.aoe_disk.specs.Sectors.{IsOutside, Touches}
 use Rattle.aoe_disk.proofs.Pieces.{is_loose-with_marks_inside, is_loose-with_marks_outside, length-spoiled_sector}
 use Rattle.aoe_disk.proofs.Touching.{sector-with_piece, sector-with_sector, sector-with_sector_other, puts_touch, settles_kept}
 use Rattle.aoe_store.specs.Store.{MaySpoil}
+use Rattle.aoe_store.specs.Lasting.{MayLose, PutsToLast}
 use Rattle.aoe_store.proofs.Spoiling.{may_spoil_touch}
 use Rattle.aoe_target.specs.Sectors.{Sectors, Same, Agrees, in_span, value_in, sectors_of, puts, spoils, left_by_fault, settles}
 
@@ -65,6 +66,22 @@ marked old new span m size e fits s =
     (λ low high. is_loose-with_marks_inside old span.at span.count fits s low high)
     (λ out. is_loose-with_marks_outside old span.at span.count fits s out))
 
+-- what is known of the sectors that were written, and of the others
+put_known : (span : Span) (piece : List ℕ) (old new : Contents) (sectors : ℕ) → length piece ≡ 512 * span.count → span.at + span.count ≤ sectors
+    → HasShape sectors old → new.bytes ≡ with_piece old.bytes (512 * span.at) piece → Touches span.at (length piece / 512) old new
+    → (s : ℕ) → Some (sector new.bytes s) ≡ (puts span piece (sectors_of old)).known s
+put_known span piece old new sectors size end shape bytes touch s =
+    let m : length piece / 512 ≡ span.count = omega (arith, size) in
+    by_span span s (λ t. Some (sector new.bytes s) ≡ cond t (Some (value_in span piece s)) (Some (sector old.bytes s)))
+    (λ low high.
+    let k : ℕ = s - span.at in
+    let place : span.at + k ≡ s = omega arith in
+    let there : sector (with_piece old.bytes (512 * span.at) piece) (span.at + k) ≡ sector piece k =
+    sector-with_piece old.bytes piece span.at k (omega (arith, shape.bytes, size)) (omega (arith, size)) in
+    let P : ℕ → Type 0 = λ i. sector (with_piece old.bytes (512 * span.at) piece) i ≡ sector piece k in
+    ap Some (ap (λ (l : List ℕ). sector l s) bytes ∙ subst P place there))
+    (λ out. let Q : ℕ → Type 0 = λ n. IsOutside span.at n s in ap Some (touch.same s (subst Q (sym m) out)))
+
 -- a write that is done
 pub put_same : (span : Span) (piece : List ℕ) (old new : Contents) (sectors : ℕ) → length piece ≡ 512 * span.count → 1 ≤ span.count
     → span.at + span.count ≤ sectors
@@ -74,15 +91,7 @@ put_same span piece old new sectors size some end shape put =
     let touch : Touches span.at (length piece / 512) old new =
     puts_touch span.at piece old new sectors shape (is_range span.at (length piece) span.count sectors size some end) put in
     record {
-      known = λ s. by_span span s (λ t. Some (sector new.bytes s) ≡ cond t (Some (value_in span piece s)) (Some (sector old.bytes s)))
-          (λ low high.
-          let k : ℕ = s - span.at in
-          let place : span.at + k ≡ s = omega arith in
-          let there : sector (with_piece old.bytes (512 * span.at) piece) (span.at + k) ≡ sector piece k =
-          sector-with_piece old.bytes piece span.at k (omega (arith, shape.bytes, size)) (omega (arith, size)) in
-          let P : ℕ → Type 0 = λ i. sector (with_piece old.bytes (512 * span.at) piece) i ≡ sector piece k in
-          ap Some (ap (λ (l : List ℕ). sector l s) put.bytes ∙ subst P place there))
-          (λ out. let Q : ℕ → Type 0 = λ n. IsOutside span.at n s in ap Some (touch.same s (subst Q (sym m) out)));
+      known = put_known span piece old new sectors size end shape put.bytes touch;
       marks = marked old.loose new.loose span (length piece / 512) m put.loose (omega (arith, shape.marks));
       settled = λ s. ap (λ (o : Option (List ℕ)). option_map (λ bytes. sector bytes s) o) put.settled;
       exact = ap is_some put.settled;
@@ -124,37 +133,59 @@ spoil_same span n old new sectors size some end shape told may =
           subst P (sym no) (ap Some (ap (λ (l : List ℕ). sector l s) e ∙ sector-with_sector_other old.bytes spoiled_sector span.at s length-spoiled_sector fits other))
     ]
 
+-- a write that failed, where it isn't known what that leaves
+pub lose_agrees : (span : Span) (n : ℕ) (old new : Contents) → n ≡ 512 * span.count → is_some old.settled ≡ false → Touches span.at (n / 512) old new
+    → Agrees (sectors_of new) (spoils span (sectors_of old))
+lose_agrees span n old new size untold touch = record {
+  known = λ s. by_span span s (λ t. IfSome (cond t (left_by_fault (is_some old.settled) (s == span.at) (Some (sector old.bytes s))) (Some (sector old.bytes s))) (λ v. Some (sector new.bytes s) ≡ Some v))
+      (λ low high.
+      let P : Bool → Type 0 = λ t. IfSome (left_by_fault t (s == span.at) (Some (sector old.bytes s))) (λ v. Some (sector new.bytes s) ≡ Some v) in
+      subst P (sym untold) (unknown (s == span.at) s))
+      (λ out. ap Some (touch.same s (outside s out)));
+  marks = λ s. by_span span s (λ t. (t || is_loose old.loose s) ≡ false → is_loose new.loose s ≡ false)
+      (λ low high e. absurd (no_truth e))
+      (λ out e. touch.kept s (outside s out) e);
+  exact = λ e. absurd (no_truth (sym e ∙ untold));
+}
+  where
+    outside : (s : ℕ) → IsOutside span.at span.count s → IsOutside span.at (n / 512) s
+    outside s out = let m : n / 512 ≡ span.count = omega (arith, size) in let Q : ℕ → Type 0 = λ k. IsOutside span.at k s in subst Q (sym m) out
+
+    unknown : (t : Bool) (s : ℕ) → IfSome (left_by_fault false t (Some (sector old.bytes s))) (λ v. Some (sector new.bytes s) ≡ Some v)
+    unknown true s = tt
+    unknown false s = tt
+
 -- a write that failed
 pub spoil_agrees : (span : Span) (n : ℕ) (old new : Contents) (sectors : ℕ) → n ≡ 512 * span.count → 1 ≤ span.count → span.at + span.count ≤ sectors
     → HasShape sectors old → MaySpoil span.at n old new → Agrees (sectors_of new) (spoils span (sectors_of old))
 spoil_agrees span n old new sectors size some end shape may = at (is_some old.settled) refl
   where
-    m : n / 512 ≡ span.count
-    m = omega (arith, size)
-
-    touch : Touches span.at (n / 512) old new
-    touch = may_spoil_touch span.at n old new sectors (is_range span.at n span.count sectors size some end) may
-
-    outside : (s : ℕ) → IsOutside span.at span.count s → IsOutside span.at (n / 512) s
-    outside s out = let Q : ℕ → Type 0 = λ k. IsOutside span.at k s in subst Q (sym m) out
-
     at : (t : Bool) → is_some old.settled ≡ t → Agrees (sectors_of new) (spoils span (sectors_of old))
     at true told = agrees_same (sectors_of new) (spoils span (sectors_of old)) (spoil_same span n old new sectors size some end shape told may)
-    at false untold = record {
-      known = λ s. by_span span s (λ t. IfSome (cond t (left_by_fault (is_some old.settled) (s == span.at) (Some (sector old.bytes s))) (Some (sector old.bytes s))) (λ v. Some (sector new.bytes s) ≡ Some v))
-          (λ low high.
-          let P : Bool → Type 0 = λ t. IfSome (left_by_fault t (s == span.at) (Some (sector old.bytes s))) (λ v. Some (sector new.bytes s) ≡ Some v) in
-          subst P (sym untold) (unknown (s == span.at) s))
-          (λ out. ap Some (touch.same s (outside s out)));
+    at false untold = lose_agrees span n old new size untold
+        (may_spoil_touch span.at n old new sectors (is_range span.at n span.count sectors size some end) may)
+
+-- the same of a store whose writes last
+untold_none : (x : Option (List ℕ)) → x ≡ None → is_some x ≡ false
+untold_none None e = refl
+untold_none (Some x) e = cc
+
+pub lasting_agrees : (span : Span) (piece : List ℕ) (old new : Contents) (sectors : ℕ) → length piece ≡ 512 * span.count
+    → span.at + span.count ≤ sectors
+    → HasShape sectors old → PutsToLast span.at piece old new → Agrees (sectors_of new) (puts span piece (sectors_of old))
+lasting_agrees span piece old new sectors size end shape put =
+    let m : length piece / 512 ≡ span.count = omega (arith, size) in
+    record {
+      known = λ s. known_same (Some (sector new.bytes s)) ((puts span piece (sectors_of old)).known s) (put_known span piece old new sectors size end shape put.bytes put.touches s);
       marks = λ s. by_span span s (λ t. (t || is_loose old.loose s) ≡ false → is_loose new.loose s ≡ false)
           (λ low high e. absurd (no_truth e))
-          (λ out e. touch.kept s (outside s out) e);
-      exact = λ e. absurd (no_truth (sym e ∙ untold));
+          (λ out e. let Q : ℕ → Type 0 = λ k. IsOutside span.at k s in put.touches.kept s (subst Q (sym m) out) e);
+      exact = λ e. absurd (no_truth (sym e ∙ untold_none old.settled put.untold.before));
     }
-      where
-        unknown : (t : Bool) (s : ℕ) → IfSome (left_by_fault false t (Some (sector old.bytes s))) (λ v. Some (sector new.bytes s) ≡ Some v)
-        unknown true s = tt
-        unknown false s = tt
+
+pub lost_agrees : (span : Span) (n : ℕ) (old new : Contents) → n ≡ 512 * span.count → MayLose span.at n old new
+    → Agrees (sectors_of new) (spoils span (sectors_of old))
+lost_agrees span n old new size lost = lose_agrees span n old new size (untold_none old.settled lost.untold.before) lost.touches
 
 settled_same : (x y : Option (List ℕ)) (now : List ℕ) → BothTell (λ _ settled. settled ≡ now) x y → is_some x ≡ true → (s : ℕ)
     → option_map (λ bytes. sector bytes s) y ≡ Some (sector now s)

@@ -9,3 +9,4 @@ pub mod Mounted
 pub mod History
 pub mod Told
 pub mod Turn
+pub mod Lasting

@@ -16,6 +16,7 @@ ghost use Rattle.aoe_target.specs.Law.{AllowsAta, Gives, AnswersSync, Verifies, 
 ghost use Rattle.aoe_target.specs.Receive.{Leaves, TurnsUnder, ata_calls, calls_for, is_fault};
 ghost use Rattle.aoe_target.specs.Mounted.{FitsStore};
 ghost use Rattle.aoe_target.specs.Told.{Names};
+ghost use Rattle.aoe_target.specs.Lasting.{LeavesFirm};
 
 use crate::reply::{DATA_AT, put_front, reply_apart, reply_ata, reply_page};
 use crate::verdict::args_of;
@@ -78,6 +79,7 @@ fn give<S: Store>(
         (S.state store.new) }
     ensures under { BothTell (ReadsUnder (is_fault result)) (S.under store.old)
         (S.under store.new) }
+    ensures firm { LeavesFirm result (S.state store.new).contents }
 {
     begin_data(station, header, args, span.count, out);
     match read_into(store, span, out) {
@@ -149,6 +151,7 @@ fn put<S: Store>(
         (S.state store.new) }
     ensures under { BothTell (SpendsUnder span.count (is_fault result)) (S.under store.old)
         (S.under store.new) }
+    ensures firm { S.lasts ≡ true → LeavesFirm result (S.state store.new).contents }
     ensures names { Names result wrote.new }
 {
     *wrote = span;
@@ -230,6 +233,7 @@ pub(crate) fn serve<S: Store>(
     ensures idle { calls_for decision.answer ≡ false → store.new ≡ store.old }
     ensures fault { is_fault result ≡ true → Rose (S.state store.old).faults
         (S.state store.new).faults }
+    ensures firm { S.lasts ≡ true → LeavesFirm result (S.state store.new).contents }
     ensures names { Names result wrote.new }
 {
     let args = &decision.args;

@@ -194,6 +194,7 @@ impl<S: Store, D: Disk> Target<S, D> {
     ghost use Rattle.aoe_target.specs.Law.{IsStep};
     ghost use Rattle.aoe_target.specs.Receive.{calls_store, store_calls, edits, fate_of, is_faulty, is_unkept, MovesUnder, Replaces};
     ghost use Rattle.aoe_target.specs.Mounted.{device_of, station_of};
+    ghost use Rattle.aoe_target.specs.Lasting.{TurnsFirm};
     ghost use Rattle.aoe_target.specs.Told.{heard_as, NamesIn};
     ghost use Rattle.aoe_target.specs.Turn.{Receives, TurnsDisk};
     ghost use Rattle.aoe_target.specs.Verdict.{verdict};
@@ -266,6 +267,7 @@ impl<S: Store, D: Disk> Target<S, D> {
             → Rose (S.state self.old.store).faults (S.state self.new.store).faults }
         ensures under { MovesUnder (verdict self.old.station self.old.keep.lists frame.now) (is_faulty result)
             (S.state self.old.store).contents (S.under self.old.store) (S.under self.new.store) }
+        ensures firm { TurnsFirm S.lasts S.state result out.new.items self.new }
 
         // The lists of the keep are replaced where the verdict says so, and then once.
         ensures edit { OnTrue (edits self.old.station self.old.keep.lists frame.now (verdict self.old.station self.old.keep.lists frame.now))
@@ -287,6 +289,7 @@ impl<S: Store, D: Disk> Target<S, D> {
             (heard_as result span.new) out.new.items }
         ensures under { TurnsDisk S.state S.under frame.now
             (heard_as result span.new) self.old self.new }
+        ensures firm { TurnsFirm S.lasts S.state (heard_as result span.new) out.new.items self.new }
     {
         let heard = self.hear(frame, out, span);
         tell_of(heard)
@@ -297,6 +300,7 @@ impl<S: Store, D: Disk> Target<S, D> {
     fn hear(&mut self, frame: &[u8], out: &mut Frame, span: &mut Span) -> Heard
         ensures receives { Receives S.state D.state self.old self.new frame.now result out.new.items }
         ensures under { TurnsDisk S.state S.under frame.now result self.old self.new }
+        ensures firm { TurnsFirm S.lasts S.state result out.new.items self.new }
         ensures names { NamesIn result span.new }
     {
         let Some(header) = header_of(frame) else {

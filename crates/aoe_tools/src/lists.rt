@@ -2,6 +2,7 @@
 ghost use Rattle.std.specs.Prelude.{◌≡◌, ◌≤◌, Err, length, option_copied};
 ghost use Rattle.aoe_base.specs.Faults.{Blamed};
 ghost use Rattle.aoe_initiator.specs.Response.{CanFill};
+ghost use Rattle.aoe_lists.specs.Settings.{max_directives};
 ghost use Rattle.aoe_tools.specs.One.{AsksOne, args_of, edits_by, told_len};
 ghost use Rattle.aoe_tools.specs.Runs.{RunsConfig, RunsMasks, RunsReserves, told};
 
@@ -92,7 +93,7 @@ pub fn mask<L: Link, C: Clock>(
     link: &mut L,
     clock: &mut C,
 ) -> Result<Args, ToolRefusal>
-    requires { length (edits_by (option_copied dirs)).1 ≤ 64 }
+    requires { length (edits_by (option_copied dirs)).1 ≤ max_directives }
     ensures run { RunsMasks result (option_copied dirs.entry) id ask.now
         (told C.least C.answers L.turns L.given L.taken clock.old clock.new link.old link.new) }
     ensures count { L.faults link.old ≤ L.faults link.new }
@@ -118,7 +119,7 @@ pub fn reserve<L: Link, C: Clock>(
     clock: &mut C,
 ) -> Result<Args, ToolRefusal>
     requires command { rcmd ≤ 2 }
-    requires few { length list.now ≤ 64 }
+    requires few { length list.now ≤ max_directives }
     ensures run { RunsReserves result rcmd list.now id ask.now
         (told C.least C.answers L.turns L.given L.taken clock.old clock.new link.old link.new) }
     ensures count { L.faults link.old ≤ L.faults link.new }

@@ -4,6 +4,7 @@ ghost use Rattle.aoe_base.specs.Addresses.{broadcast};
 ghost use Rattle.aoe_frame.specs.Header.{header_bytes};
 ghost use Rattle.aoe_initiator.specs.declared.op.Op.TheVariants as op;
 ghost use Rattle.aoe_initiator.specs.Request.{request};
+ghost use Rattle.aoe_lists.specs.Settings.{max_directives};
 
 use aoe_base::{BROADCAST, Mac, TargetId};
 use aoe_frame::{Frame, Header, pad, write_header};
@@ -56,7 +57,7 @@ pub(crate) fn mask_request(
     tag: u32,
     out: &mut Frame,
 )
-    requires { length dirs.now ≤ 64 }
+    requires { length dirs.now ≤ max_directives }
     ensures { out.new.items ≡ request (op.Masks edit
         (record { items = dirs.now })) id broadcast port tag }
 {
@@ -75,7 +76,7 @@ pub(crate) fn reserve_request(
     tag: u32,
     out: &mut Frame,
 )
-    requires { length list.now ≤ 64 }
+    requires { length list.now ≤ max_directives }
     ensures { out.new.items ≡ request (op.Reserve rcmd
         (record { items = list.now })) id broadcast port tag }
 {

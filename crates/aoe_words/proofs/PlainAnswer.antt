@@ -54,7 +54,7 @@ module _ (x1 x2 x3 x4 : ℕ) (t1 t2 t3 t4 : Text) (p1 : is_plain (x1 ∷ t1) ≡
     where
       go : (m n : Option ℕ)
           → option_map with_rows (option_map Answer (option_and_then (λ major. option_and_then (λ minor.
-          Some (record { id = record { major = major; minor = minor }; port = default_port; mtu = 1500; cache = 0 })) n) m))
+          Some (record { id = record { major = major; minor = minor }; port = default_port; mtu = 1500; cache = 0; captures = false; durable = false })) n) m))
           ≡ option_map spelling (option_and_then (λ major. option_and_then (λ minor. Some record { major = major; minor = minor }) n) m)
       go None n = refl
       go (Some major) None = refl

@@ -48,7 +48,7 @@ level_clean s names h words has below w e f b st d c =
 
 -- `answer`, as clap has it once it is built
 abbrev pub leaf : Shape
-leaf = built_leaf (record answer_app.top { no_binary_name = true; disable_help_subcommand = true })
+leaf = built_leaf (record (answer_app (codes "answer")).top { no_binary_name = true; disable_help_subcommand = true })
 
 pub enters : (words : List Text) → entered (built aoe_app) (Some (codes "answer", words)) ≡ Some (codes "answer", rows_after leaf.rules [] words)
 unfolding aoe_app

@@ -3,9 +3,9 @@ use Rattle.std.specs.Prelude.{Some, true, codes, List, [], ◌∷◌, map}
 use Rattle.std.specs.Borrow.{Bor}
 use Rattle.clap.specs.Words.{App, Rule, Text, new_app, new_rule, with_rule, with_subcommand}
 use Rattle.clap.specs.declared.builder.ArgAction.{ArgAction}
-use Rattle.clap.specs.declared.builder.ArgAction.TheVariants.{Set, Append}
+use Rattle.clap.specs.declared.builder.ArgAction.TheVariants.{Set, Append, SetTrue}
 use Rattle.aoe_words.specs.declared.app.Place.{Place}
-use Rattle.aoe_words.specs.declared.app.Place.TheVariants.{Needed, Several, Allowed, AllowedSeveral, Optional}
+use Rattle.aoe_words.specs.declared.app.Place.TheVariants.{Needed, Several, Allowed, AllowedSeveral, Optional, Flag}
 
 -- a word that has to stand there
 abbrev pub needed : Text → Rule
@@ -19,6 +19,10 @@ several id = record (new_rule id) { required = true; action = Some Append }
 abbrev pub optional : Text → Rule
 optional name = record (new_rule name) { long = Some name; action = Some Set }
 
+-- an option without a value that may be given
+abbrev pub flag : Text → Rule
+flag name = record (new_rule name) { long = Some name; action = Some SetTrue }
+
 -- a word that may stand there
 abbrev pub allowed : Text → Rule
 allowed id = record (new_rule id) { action = Some Set }
@@ -31,13 +35,15 @@ allowed_several id = record (new_rule id) { action = Some Append }
 abbrev pub bare : Text → App
 bare name = let a = new_app name in record a { top = record a.top { disable_help_flag = true; disable_version_flag = true } }
 
--- answer SHELF SLOT FILE KEEP
-abbrev pub answer_front : App
-answer_front = with_rule (with_rule (with_rule (bare (codes "answer")) (needed (codes "shelf"))) (needed (codes "slot"))) (several (codes "files"))
+-- answer SHELF SLOT FILE KEEP, and capture with the same
+abbrev pub answer_front : Text → App
+answer_front name = with_rule (with_rule (with_rule (bare name) (needed (codes "shelf"))) (needed (codes "slot"))) (several (codes "files"))
 
 -- with its options
-abbrev pub answer_app : App
-answer_app = with_rule (with_rule (with_rule answer_front (optional (codes "port"))) (optional (codes "mtu"))) (optional (codes "cache"))
+abbrev pub answer_app : Text → App
+answer_app name =
+    with_rule (with_rule (with_rule (with_rule (answer_front name) (optional (codes "port"))) (optional (codes "mtu"))) (optional (codes "cache")))
+    (flag (codes "durable"))
 
 -- serve SHELF FILES
 abbrev pub serve_front : App
@@ -61,7 +67,9 @@ serve_slots = with_rule (with_rule serve_ports (optional (codes "mtu"))) (option
 
 -- with all its options
 abbrev pub serve_app : App
-serve_app = with_rule (with_rule (with_rule serve_slots (optional (codes "frames"))) (optional (codes "idle"))) (optional (codes "stop"))
+serve_app =
+    with_rule (with_rule (with_rule (with_rule serve_slots (optional (codes "frames"))) (optional (codes "idle"))) (optional (codes "stop")))
+    (flag (codes "durable"))
 
 -- mirror SHELF SLOT FILE FILE MARK KEEP
 abbrev pub mirror_front : App
@@ -94,6 +102,10 @@ live_app = with_rule (with_rule (with_rule live_ends (optional (codes "one-tap")
 -- switch PORT PORT ..
 abbrev pub switch_app : App
 switch_app = with_rule (bare (codes "switch")) (several (codes "ports"))
+
+-- keep KEEP ACTION
+abbrev pub keep_app : App
+keep_app = with_rule (with_rule (bare (codes "keep")) (needed (codes "keep"))) (needed (codes "action"))
 
 -- with the options of a tool
 abbrev pub with_tool_options : App → App
@@ -129,7 +141,7 @@ top =
 
 -- the commands over files
 abbrev pub file_commands : App
-file_commands = with_subcommand (with_subcommand top answer_app.top) serve_app.top
+file_commands = with_subcommand (with_subcommand (with_subcommand top (answer_app (codes "answer")).top) (answer_app (codes "capture")).top) serve_app.top
 
 -- with the one over a mirror
 abbrev pub mirror_commands : App
@@ -162,9 +174,13 @@ list_commands = with_subcommand mask_commands (list_tool (codes "reserve") (allo
 abbrev pub device_commands : App
 device_commands = with_subcommand list_commands flush_app.top
 
+-- with those that copy sectors
+abbrev pub sector_commands : App
+sector_commands = with_subcommand (with_subcommand device_commands get_app.top) put_app.top
+
 -- all commands
 unfoldable pub aoe_app : App
-aoe_app = with_subcommand (with_subcommand device_commands get_app.top) put_app.top
+aoe_app = with_subcommand sector_commands keep_app.top
 
 -- ---- the same, as the code tells clap
 
@@ -178,6 +194,7 @@ rule name Several = several name
 rule name Allowed = allowed name
 rule name AllowedSeveral = allowed_several name
 rule name Optional = optional name
+rule name Flag = flag name
 
 -- an argument's name and its place, and a command's name and its arguments
 abbrev pub argument : Bor Text × Place → Text × Place

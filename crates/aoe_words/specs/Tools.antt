@@ -8,6 +8,7 @@ use Rattle.aoe_base.specs.declared.address.TargetId.{TargetId}
 use Rattle.aoe_base.specs.Addresses.{is_individual}
 use Rattle.aoe_base.specs.Names.{device_of, mac_of}
 use Rattle.arrayvec.specs.ArrayVec.{ArrayVec}
+use Rattle.aoe_lists.specs.Settings.{max_directives}
 use Rattle.aoe_lists.specs.declared.dir.Dir.{Dir}
 use Rattle.aoe_base.specs.Texts.{each}
 use Rattle.aoe_words.specs.Values.{given, given_or, link, number_within, port_of, tool_port}
@@ -71,9 +72,9 @@ dir_of word =
     else if bytes_eq (take 4 word) (codes "del=") then option_map (λ mac. record { add = false; mac = mac }) (mac_of (drop 4 word))
     else None
 
--- a list has 1 to 64 words
+-- a list has one word to as many as one request takes
 abbrev pub is_list : ℕ → Bool
-is_list count = nat_le 1 count && nat_le count 64
+is_list count = nat_le 1 count && nat_le count max_directives
 
 -- what they spell, or nothing where one spells nothing
 abbrev pub listed : {T : Type 0} → (Text → Option T) → List Text → Option (List T)
@@ -161,13 +162,13 @@ pub record CanCfg (cfg : Cfgs) : Type 0 where
 pub record CanMask (mask : Masks) : Type 0 where
   pub asking : CanAsk mask.asking
   pub device : IsDevice mask.id
-  pub few : IfSome mask.dirs (λ dirs. (1 ≤ length dirs.items) × (length dirs.items ≤ 64))
+  pub few : IfSome mask.dirs (λ dirs. (1 ≤ length dirs.items) × (length dirs.items ≤ max_directives))
 
 pub record CanReserve (reserve : Reserves) : Type 0 where
   pub asking : CanAsk reserve.asking
   pub device : IsDevice reserve.id
   pub command : reserve.rcmd ≤ 2
-  pub few : length reserve.list.items ≤ 64
+  pub few : length reserve.list.items ≤ max_directives
 
 pub record CanFlush (flush : Flushes) : Type 0 where
   pub asking : CanAsk flush.asking

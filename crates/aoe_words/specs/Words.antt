@@ -1,5 +1,5 @@
 -- What the words of a command line spell.
-use Rattle.std.specs.Prelude.{ℕ, ◌*◌, ◌/◌, ◌%◌, ◌≡◌, ◌≤◌, Bool, true, not, ◌&&◌, ◌==◌, List, [], ◌∷◌, length, nat_lt, nat_le, slice_index, Option, Some, None, if◌then◌else◌, option_and_then, option_map, unwrap_or, codes, IfSome}
+use Rattle.std.specs.Prelude.{ℕ, ◌*◌, ◌/◌, ◌%◌, ◌≡◌, ◌≤◌, Bool, true, false, not, is_some, ◌&&◌, ◌||◌, ◌==◌, List, [], ◌∷◌, length, nat_lt, nat_le, slice_index, Option, Some, None, if◌then◌else◌, option_and_then, option_map, unwrap_or, codes, IfSome}
 use Rattle.std.specs.List.{list_all}
 use Rattle.std.specs.Option.{option_map_or}
 use Rattle.std.specs.Str.{bytes_eq}
@@ -20,9 +20,11 @@ use Rattle.aoe_words.specs.declared.command.Mirror.{Mirror as Mirrors}
 use Rattle.aoe_words.specs.declared.command.Soak.{Soak as Soaks}
 use Rattle.aoe_words.specs.declared.command.Live.{Live as Lives}
 use Rattle.aoe_words.specs.declared.command.Switch.{Switch as Switches}
+use Rattle.aoe_words.specs.declared.command.KeepAction.{KeepAction}
+use Rattle.aoe_words.specs.declared.command.KeepAction.TheVariants.{Show, Upgrade, Lock, Unlock}
 use Rattle.aoe_words.specs.declared.command.PortWords.{PortWords}
 use Rattle.aoe_words.specs.declared.command.Command.{Command}
-use Rattle.aoe_words.specs.declared.command.Command.TheVariants.{Answer, Serve, Mirror, Replay, Soak, Live, Switch, Ask, Get, Put}
+use Rattle.aoe_words.specs.declared.command.Command.TheVariants.{Answer, Serve, Mirror, Replay, Soak, Live, Switch, Ask, Get, Put, Keep}
 use Rattle.aoe_words.specs.declared.command.Tool.{Tool}
 use Rattle.aoe_words.specs.declared.command.Tool.TheVariants.{Discover, Stat, Cfg, Mask, Reserve, Flush}
 
@@ -66,12 +68,20 @@ mtu_of = given_or (codes "mtu") (number_within 1500 9000) 1500
 abbrev pub cache_of : List Row → Option ℕ
 cache_of = given_or (codes "cache") (number_within 0 65536) 0
 
--- answer SHELF SLOT FILE KEEP
-unfoldable pub answer_of : List Row → Option Answers
-answer_of rows =
-    if not (length (files rows) == 2) then None else
+-- each write is to be synced before it is answered
+abbrev pub is_durable : List Row → Bool
+is_durable rows = option_map_or (λ text. bytes_eq text (codes "true")) (first_of (codes "durable") rows) false
+
+-- and so nothing may be held back
+abbrev pub holds_back_durably : List Row → Bool
+holds_back_durably rows = is_durable rows && is_some (first_of (codes "cache") rows)
+
+-- answer SHELF SLOT FILE KEEP, or capture with the same
+unfoldable pub answer_of : Bool → List Row → Option Answers
+answer_of captures rows =
+    if not (length (files rows) == 2) || holds_back_durably rows then None else
     option_and_then (λ major. option_and_then (λ minor. option_and_then (λ port. option_and_then (λ mtu. option_map (λ cache.
-    record { id = record { major = major; minor = minor }; port = port; mtu = mtu; cache = cache })
+    record { id = record { major = major; minor = minor }; port = port; mtu = mtu; cache = cache; captures = captures; durable = is_durable rows })
     (cache_of rows)) (mtu_of rows)) (given_or (codes "port") port_of default_port rows)) (slot_of rows)) (shelf_of rows)
 
 -- two files for each slot: 1 to 16 slots
@@ -90,13 +100,13 @@ idle_of rows = option_map (λ turns. if turns == 0 then None else Some turns) (g
 unfoldable pub serve_with : ℕ → List Row → Option Serves
 serve_with slots rows =
     option_and_then (λ shelf. option_and_then (λ ports. option_and_then (λ mtu. option_and_then (λ cache. option_and_then (λ frames. option_map (λ idle.
-    record { shelf = shelf; slots = slots; ports = record { items = ports }; mtu = mtu; cache = cache; frames = frames; idle = idle })
+    record { shelf = shelf; slots = slots; ports = record { items = ports }; mtu = mtu; cache = cache; durable = is_durable rows; frames = frames; idle = idle })
     (idle_of rows)) (frames_of rows)) (cache_of rows)) (mtu_of rows)) (given_or (codes "ports") ports_of (default_port ∷ []) rows)) (shelf_of rows)
 
 -- with the ends of its link
 unfoldable pub serve_of : List Row → Option Serves
 serve_of rows =
-    if not (has_slots rows) then None else
+    if not (has_slots rows) || holds_back_durably rows then None else
     option_and_then (λ link. serve_with (length (files rows) / 2) rows) (link rows)
 
 -- mirror SHELF SLOT FILE FILE MARK KEEP
@@ -126,6 +136,22 @@ unfoldable pub switch_of : List Row → Option Switches
 switch_of rows =
     option_and_then (λ words. option_map (λ kinds. record { ports = record { items = kinds } }) (kinds_of words)) (all_of (codes "ports") rows)
 
+-- keep KEEP ACTION: the file
+abbrev pub keep_name : List Row → Option Text
+keep_name = first_of (codes "keep")
+
+-- what is to be done with it
+abbrev pub keep_action : Text → Option KeepAction
+keep_action action =
+    if bytes_eq action (codes "show") then Some Show
+    else if bytes_eq action (codes "upgrade") then Some Upgrade
+    else if bytes_eq action (codes "lock") then Some Lock
+    else if bytes_eq action (codes "unlock") then Some Unlock
+    else None
+
+unfoldable pub keep_of : List Row → Option KeepAction
+keep_of rows = option_and_then (λ name. given (codes "action") keep_action rows) (keep_name rows)
+
 -- the tool of this name, of those that read and edit what a device keeps
 unfoldable pub list_tool_of : Text → List Row → Option Tool
 list_tool_of name rows =
@@ -152,13 +178,15 @@ asked_of name rows =
 -- the command of this name
 unfoldable pub command_of : Text → List Row → Option Command
 command_of name rows =
-    if bytes_eq name (codes "answer") then option_map Answer (answer_of rows)
+    if bytes_eq name (codes "answer") then option_map Answer (answer_of false rows)
+    else if bytes_eq name (codes "capture") then option_map Answer (answer_of true rows)
     else if bytes_eq name (codes "serve") then option_map Serve (serve_of rows)
     else if bytes_eq name (codes "mirror") then option_map Mirror (mirror_of rows)
     else if bytes_eq name (codes "replay") then Some Replay
     else if bytes_eq name (codes "soak") then option_map Soak (soak_of rows)
     else if bytes_eq name (codes "live") then option_map Live (live_of rows)
     else if bytes_eq name (codes "switch") then option_map Switch (switch_of rows)
+    else if bytes_eq name (codes "keep") then option_map Keep (keep_of rows)
     else asked_of name rows
 
 -- the command that the words spell with what clap found for it, or nothing
@@ -181,6 +209,7 @@ files_of (Switch asked) rows = []
 files_of (Ask tool) rows = []
 files_of (Get get) rows = []
 files_of (Put put) rows = []
+files_of (Keep action) rows = option_map_or (λ name. name ∷ []) (keep_name rows) []
 
 abbrev pub file_names : List Text → List Text
 file_names words = option_map_or (λ p. files_of p.0 p.1) (spelled words) []
@@ -197,6 +226,7 @@ stop_in (Switch asked) rows = None
 stop_in (Ask tool) rows = None
 stop_in (Get get) rows = None
 stop_in (Put put) rows = None
+stop_in (Keep action) rows = None
 
 abbrev pub stop_name : List Text → Option Text
 stop_name words = option_and_then (λ p. stop_in p.0 p.1) (spelled words)
@@ -219,6 +249,7 @@ links_of (Switch asked) rows = []
 links_of (Ask tool) rows = one_link rows
 links_of (Get get) rows = one_link rows
 links_of (Put put) rows = one_link rows
+links_of (Keep action) rows = []
 
 abbrev pub port_words : List Text → List PortWords
 port_words words = option_map_or (λ p. links_of p.0 p.1) (spelled words) []
@@ -232,7 +263,7 @@ pub record ArePorts (ports : List Mac) : Type 0 where
   pub individual : list_all is_individual ports ≡ true
   pub unique : all_unique ports ≡ true
 
--- what `answer` asks for is possible
+-- what `answer` or `capture` asks for is possible
 pub record CanAnswer (answer : Answers) : Type 0 where
   pub shelf : answer.id.major ≤ 65534
   pub slot : answer.id.minor ≤ 254
@@ -288,6 +319,7 @@ IsInRange (Switch asked) = CanSwitch asked
 IsInRange (Ask tool) = CanRun tool
 IsInRange (Get get) = CanGet get
 IsInRange (Put put) = CanPut put
+IsInRange (Keep action) = Unit
 
 -- how many files and links a command has
 abbrev pub file_count : Command → ℕ
@@ -301,6 +333,7 @@ file_count (Switch asked) = 0
 file_count (Ask tool) = 0
 file_count (Get get) = 0
 file_count (Put put) = 0
+file_count (Keep action) = 1
 
 abbrev pub link_count : Command → ℕ
 link_count (Answer answer) = 0
@@ -313,6 +346,7 @@ link_count (Switch asked) = 0
 link_count (Ask tool) = 1
 link_count (Get get) = 1
 link_count (Put put) = 1
+link_count (Keep action) = 0
 
 -- what holds of a command with what clap found for it: it is possible, and has its files and its links
 pub record Fits (rows : List Row) (c : Command) : Type 0 where
@@ -328,7 +362,7 @@ is_plain word = nat_lt 0 (length word) && nat_le (length word) 4096 && not (slic
 
 -- what `answer` asks for where no option is given, and over which files
 abbrev pub plain_answer : TargetId → Command
-plain_answer id = Answer (record { id = id; port = default_port; mtu = 1500; cache = 0 })
+plain_answer id = Answer (record { id = id; port = default_port; mtu = 1500; cache = 0; captures = false; durable = false })
 
 abbrev pub plain_files : Option TargetId → Text → Text → List Text
 plain_files None file keep = []

@@ -2,7 +2,7 @@
 ghost use Rattle.std.specs.Prelude.{◌≡◌, IfOk, map, string_bytes, false};
 ghost use Rattle.clap.specs.Words.{app_of, rule_of, FailsBy, fault_of, HasMatchesOf};
 ghost use Rattle.clap.specs.declared.builder.command.Command.TheViews.{out-Command as fields_of};
-ghost use Rattle.aoe_words.specs.Apps.{added, aoe_app, argument, bare, form, optional, rule, top, with_argument, with_form, word};
+ghost use Rattle.aoe_words.specs.Apps.{added, aoe_app, argument, bare, flag, form, optional, rule, top, with_argument, with_form, word};
 
 use clap::{Arg, ArgAction, ArgMatches, Command, Error};
 use std::alloc::{AllocError, Global};
@@ -24,9 +24,12 @@ pub(crate) enum Place {
 
     /// An option that may be given.
     Optional,
+
+    /// An option without a value that may be given.
+    Flag,
 }
 
-use Place::{Allowed, AllowedSeveral, Needed, Optional, Several};
+use Place::{Allowed, AllowedSeveral, Flag, Needed, Optional, Several};
 
 /// An argument's name and its place.
 pub(crate) type Argument = (&'static str, Place);
@@ -43,7 +46,7 @@ const FILES: Argument = ("files", Several);
 /// A device, by shelf and slot.
 const DEV: Argument = ("dev", Needed);
 
-/// What to do with what a device keeps.
+/// What to do with what a device keeps, or with a keep.
 const ACTION: Argument = ("action", Needed);
 
 /// The string that is compared or set.
@@ -82,15 +85,22 @@ const MTU: Argument = ("mtu", Optional);
 /// How many sectors a slot buffers.
 const CACHE: Argument = ("cache", Optional);
 
+/// Whether each write is synced before it is answered.
+const DURABLE: Argument = ("durable", Flag);
+
 /// How many turns it waits.
 const TURNS: Argument = ("turns", Optional);
 
 /// All commands. A function that names a `const` is proved with its whole value, and one that names
 /// a `static` isn't.
-pub(crate) static FORMS: [Form; 15] = [
+pub(crate) static FORMS: [Form; 17] = [
     (
         "answer",
-        &[SHELF, ("slot", Needed), FILES, PORT, MTU, CACHE],
+        &[SHELF, ("slot", Needed), FILES, PORT, MTU, CACHE, DURABLE],
+    ),
+    (
+        "capture",
+        &[SHELF, ("slot", Needed), FILES, PORT, MTU, CACHE, DURABLE],
     ),
     (
         "serve",
@@ -107,6 +117,7 @@ pub(crate) static FORMS: [Form; 15] = [
             ("frames", Optional),
             ("idle", Optional),
             ("stop", Optional),
+            DURABLE,
         ],
     ),
     ("mirror", &[SHELF, ("slot", Needed), FILES, PORT, MTU]),
@@ -146,6 +157,7 @@ pub(crate) static FORMS: [Form; 15] = [
         &[DEV, AT, COUNT, LOCAL, PEERS, VXLAN, TAP, PORT, TURNS],
     ),
     ("put", &[DEV, AT, LOCAL, PEERS, VXLAN, TAP, PORT, TURNS]),
+    ("keep", &[("keep", Needed), ACTION]),
 ];
 
 /// Words by their place.
@@ -164,6 +176,14 @@ fn optional<'a>(alloc: Global, name: &'a str) -> Arg<'a>
     Arg::new(alloc, name).long(name).action(ArgAction::Set)
 }
 
+/// An option without a value that may be given.
+fn flag<'a>(alloc: Global, name: &'a str) -> Arg<'a>
+    ensures rule { rule_of result ≡ flag name.entry.now }
+    ensures local { result.global ≡ false }
+{
+    Arg::new(alloc, name).long(name).action(ArgAction::SetTrue)
+}
+
 /// An argument, as clap wants it told.
 fn arg<'a>(alloc: Global, argument: Argument) -> Arg<'a>
     ensures rule { rule_of result ≡ rule argument.entry.0.now argument.entry.1 }
@@ -176,6 +196,7 @@ fn arg<'a>(alloc: Global, argument: Argument) -> Arg<'a>
         Allowed => word(alloc, name, ArgAction::Set),
         AllowedSeveral => word(alloc, name, ArgAction::Append),
         Optional => optional(alloc, name),
+        Flag => flag(alloc, name),
     }
 }
 

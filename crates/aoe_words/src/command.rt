@@ -4,7 +4,8 @@ use aoe_lists::{Dir, MAX_CONFIG, MAX_DIRS};
 use aoe_vlan::{MAX_PORTS, PortKind};
 use arrayvec::ArrayVec;
 
-/// What `answer SHELF SLOT FILE KEEP` asks for: to answer the frames of a stream as one target.
+/// What `answer SHELF SLOT FILE KEEP` asks for: to answer the frames of a stream as one target. And
+/// what `capture` asks for, with the same behind it: to write a capture file of them and the replies.
 #[derive(Clone, Copy, Debug, PartialEq, Eq)]
 pub struct Answer {
     /// The target's name.
@@ -18,6 +19,12 @@ pub struct Answer {
 
     /// How many sectors are buffered before they are written to the file; 0 for none.
     pub cache: u32,
+
+    /// Whether a capture file of the frames and their replies is written, and not the replies alone.
+    pub captures: bool,
+
+    /// Whether each write is synced before it is answered; then none is buffered.
+    pub durable: bool,
 }
 
 /// What `serve SHELF FILES` asks for: to answer the frames of a link as a shelf of targets.
@@ -37,6 +44,9 @@ pub struct Serve {
 
     /// How many sectors each slot buffers before they are written to its file; 0 for none.
     pub cache: u32,
+
+    /// Whether each write is synced before it is answered; then none is buffered.
+    pub durable: bool,
 
     /// How many frames are taken before the run ends; `None` where it goes on whatever came.
     pub frames: Option<u32>,
@@ -93,6 +103,22 @@ pub type PortKinds = ArrayVec<PortKind, MAX_PORTS>;
 pub struct Switch {
     /// Of which VLANs each port is: 2 to 16 ports, of 64 VLANs at most.
     pub ports: PortKinds,
+}
+
+/// What `keep KEEP ACTION` asks for, of the keep of a slot that no shelf serves.
+#[derive(Clone, Copy, Debug, PartialEq, Eq)]
+pub enum KeepAction {
+    /// To write what it holds as a line.
+    Show,
+
+    /// To write its lists in the format that is written now.
+    Upgrade,
+
+    /// To set the mark by which a shelf refuses writes.
+    Lock,
+
+    /// To clear that mark.
+    Unlock,
 }
 
 /// Who asks, and how long it listens: what every tool is told.
@@ -214,6 +240,7 @@ pub enum Command {
     Ask(Tool),
     Get(Get),
     Put(Put),
+    Keep(KeepAction),
 }
 
 /// What names a link, as it stands on the command line.

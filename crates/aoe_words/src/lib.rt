@@ -27,8 +27,8 @@ mod values;
 mod word;
 
 pub use command::{
-    Answer, Asking, Cfg, Command, Flush, Get, Live, Mask, Mirror, PortKinds, PortWords, Put,
-    Reserve, Serve, Soak, Switch, Tool,
+    Answer, Asking, Cfg, Command, Flush, Get, KeepAction, Live, Mask, Mirror, PortKinds, PortWords,
+    Put, Reserve, Serve, Soak, Switch, Tool,
 };
 pub use law::plain_words_law;
 pub use read::{files_of, ports_of, read_words, stop_of};

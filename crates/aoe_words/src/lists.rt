@@ -1,6 +1,7 @@
 //! Words as directives of a mask list, as addresses of a reserve list, and as a config string.
 ghost use Rattle.std.specs.Prelude.{◌≡◌, ◌≤◌, length, map, option_map, IfSome};
 ghost use Rattle.aoe_base.specs.Names.{mac_of};
+ghost use Rattle.aoe_lists.specs.Settings.{max_directives};
 ghost use Rattle.aoe_words.specs.Tools.{dir_of, is_list, listed, text_of};
 
 use aoe_base::{Mac, append, read_mac};
@@ -46,7 +47,7 @@ pub(crate) fn read_dir(text: &[u8]) -> Option<Dir>
     }
 }
 
-/// Whether there are as many words as a list takes: 1 to 64.
+/// Whether there are as many words as a list takes: 1 to as many as one request takes.
 fn is_list(words: &[&str]) -> bool
     ensures { result ≡ is_list (length words.now) }
 {
@@ -57,7 +58,7 @@ fn is_list(words: &[&str]) -> bool
 pub(crate) fn read_dirs(words: &[&str]) -> Option<ArrayVec<Dir, MAX_DIRS>>
     ensures value { option_map (λ dirs. dirs.items) result
         ≡ listed dir_of (map (λ word. word.now) words.now) }
-    ensures few { IfSome result (λ dirs. (1 ≤ length dirs.items) × (length dirs.items ≤ 64)) }
+    ensures few { IfSome result (λ dirs. (1 ≤ length dirs.items) × (length dirs.items ≤ max_directives)) }
 {
     if !is_list(words) {
         return None;
@@ -73,7 +74,7 @@ pub(crate) fn read_dirs(words: &[&str]) -> Option<ArrayVec<Dir, MAX_DIRS>>
 pub(crate) fn read_macs(words: &[&str]) -> Option<ArrayVec<Mac, MAX_DIRS>>
     ensures value { option_map (λ macs. macs.items) result
         ≡ listed mac_of (map (λ word. word.now) words.now) }
-    ensures few { IfSome result (λ macs. (1 ≤ length macs.items) × (length macs.items ≤ 64)) }
+    ensures few { IfSome result (λ macs. (1 ≤ length macs.items) × (length macs.items ≤ max_directives)) }
 {
     if !is_list(words) {
         return None;

@@ -3,7 +3,7 @@ ghost use Rattle.std.specs.Prelude.{◌≡◌, ◌≢◌, ◌≤◌, length, fal
 ghost use Rattle.std.specs.List.{list_all};
 ghost use Rattle.clap.specs.Values.{kind_of};
 ghost use Rattle.clap.specs.Words.{found_of, rows_of};
-ghost use Rattle.aoe_words.specs.Words.{CanRun, CanServe, Fits, IsInRange, answer_of, asked_of, command, command_of, file_count, file_names, files_of, idle_of, is_word, link_count, links_of, list_tool_of, live_of, mirror_of, parsed, port_words, serve_of, serve_with, soak_of, spelled, stop_in, stop_name, switch_of, tool_of};
+ghost use Rattle.aoe_words.specs.Words.{CanRun, CanServe, Fits, IsInRange, answer_of, asked_of, command, command_of, file_count, file_names, files_of, holds_back_durably, idle_of, is_durable, is_word, keep_action, keep_name, keep_of, link_count, links_of, list_tool_of, live_of, mirror_of, parsed, port_words, serve_of, serve_with, soak_of, spelled, stop_in, stop_name, switch_of, tool_of};
 ghost use Rattle.aoe_words.specs.Values.{link};
 
 use crate::app::matches;
@@ -15,13 +15,13 @@ use crate::values::{
     ports_or_default, text, texts,
 };
 use crate::word::is_word;
-use crate::{Answer, Command, Live, Mirror, PortWords, Serve, Soak, Switch, Tool};
+use crate::{Answer, Command, KeepAction, Live, Mirror, PortWords, Serve, Soak, Switch, Tool};
 use aoe_base::{LAST_MAJOR, LAST_MINOR, NoMemory, TargetId};
 use clap::ArgMatches;
 use clap::error::{Error, ErrorKind};
 use std::alloc::Global;
 
-/// How many files `answer` works on.
+/// How many files `answer` and `capture` work on.
 const ANSWER_FILES: usize = 2;
 
 /// How many files `mirror` works on: two sides, what says which of them leads, and a keep.
@@ -117,13 +117,30 @@ fn parsed<'a>(
     }
 }
 
-/// What the arguments of `answer` ask for.
+/// Whether each write is to be synced before it is answered.
+fn is_durable(found: &ArgMatches) -> bool
+    ensures { result ≡ is_durable (rows_of (found_of found.now)) }
+{
+    match text(found, "durable") {
+        Some(text) => text == "true",
+        None => false,
+    }
+}
+
+/// Whether that is asked for beside a number of sectors to hold back.
+fn holds_back_durably(found: &ArgMatches) -> bool
+    ensures { result ≡ holds_back_durably (rows_of (found_of found.now)) }
+{
+    is_durable(found) && text(found, "cache").is_some()
+}
+
+/// What the arguments of `answer` ask for, or those of `capture`.
 #[tactic(auto, unfolding(crate::specs::Words::answer_of))]
-fn answer_of(found: &ArgMatches) -> Option<Command>
-    ensures value { result ≡ option_map Command.Answer (answer_of (rows_of (found_of found.now))) }
+fn answer_of(found: &ArgMatches, captures: bool) -> Option<Command>
+    ensures value { result ≡ option_map Command.Answer (answer_of captures (rows_of (found_of found.now))) }
     ensures fits { IfSome result (Fits (rows_of (found_of found.now))) }
 {
-    if texts(found, "files")?.len() != ANSWER_FILES {
+    if texts(found, "files")?.len() != ANSWER_FILES || holds_back_durably(found) {
         return None;
     }
     Some(Command::Answer(Answer {
@@ -134,6 +151,8 @@ fn answer_of(found: &ArgMatches) -> Option<Command>
         port: port_or_default(found, "port", DEFAULT_PORT)?,
         mtu: number_or(found, "mtu", &MTU)?,
         cache: number_or(found, "cache", &CACHE)?,
+        captures,
+        durable: is_durable(found),
     }))
 }
 
@@ -160,6 +179,7 @@ fn serve_with(found: &ArgMatches, slots: u8) -> Option<Serve>
         ports: ports_or_default(found, "ports")?,
         mtu: number_or(found, "mtu", &MTU)?,
         cache: number_or(found, "cache", &CACHE)?,
+        durable: is_durable(found),
         frames: number_if_given(found, "frames", 1, u32::MAX)?,
         idle: idle_of(found)?,
     })
@@ -172,7 +192,7 @@ fn serve_of(found: &ArgMatches) -> Option<Command>
     ensures fits { IfSome result (Fits (rows_of (found_of found.now))) }
 {
     let files = texts(found, "files")?.len();
-    if files % 2 != 0 || files < 2 || files > MOST_FILES {
+    if files % 2 != 0 || files < 2 || files > MOST_FILES || holds_back_durably(found) {
         return None;
     }
     let _link = link(found)?;
@@ -235,6 +255,36 @@ fn live_of(found: &ArgMatches) -> Option<Command>
     }))
 }
 
+/// The name of a keep's file.
+fn keep_name<'a>(found: &ArgMatches<'a>) -> Option<&'a str>
+    ensures { option_map (λ name. name.now) result ≡ keep_name (rows_of (found_of found.now)) }
+{
+    text(found, "keep")
+}
+
+/// What is to be done with a keep.
+fn keep_action(action: &str) -> Option<KeepAction>
+    ensures { result ≡ keep_action action.now }
+{
+    match action {
+        "show" => Some(KeepAction::Show),
+        "upgrade" => Some(KeepAction::Upgrade),
+        "lock" => Some(KeepAction::Lock),
+        "unlock" => Some(KeepAction::Unlock),
+        _ => None,
+    }
+}
+
+/// What the arguments of `keep` ask for.
+#[tactic(auto, unfolding(crate::specs::Words::keep_of))]
+fn keep_of(found: &ArgMatches) -> Option<Command>
+    ensures value { result ≡ option_map Command.Keep (keep_of (rows_of (found_of found.now))) }
+    ensures fits { IfSome result (Fits (rows_of (found_of found.now))) }
+{
+    let _name = keep_name(found)?;
+    Some(Command::Keep(keep_action(text(found, "action")?)?))
+}
+
 /// What the arguments of the tool of this name ask for, of those that read and edit what a device
 /// keeps.
 #[tactic(auto, unfolding(crate::specs::Words::list_tool_of))]
@@ -287,13 +337,15 @@ fn command_of(name: &str, found: &ArgMatches) -> Option<Command>
     ensures fits { IfSome result (Fits (rows_of (found_of found.now))) }
 {
     match name {
-        "answer" => answer_of(found),
+        "answer" => answer_of(found, false),
+        "capture" => answer_of(found, true),
         "serve" => serve_of(found),
         "mirror" => mirror_of(found),
         "replay" => Some(Command::Replay),
         "soak" => soak_of(found),
         "live" => live_of(found),
         "switch" => switch_of(found),
+        "keep" => keep_of(found),
         _ => asked_of(name, found),
     }
 }
@@ -357,12 +409,16 @@ fn files_in(alloc: Global, found: &Found) -> Result<Vec<String>, NoMemory>
             Some(texts) => copies(alloc, texts),
             None => Ok(Vec::new(alloc)),
         },
+        Command::Keep(_) => match keep_name(&found.matches) {
+            Some(name) => copies(alloc, &[name]),
+            None => Ok(Vec::new(alloc)),
+        },
         _ => Ok(Vec::new(alloc)),
     }
 }
 
-/// The names of the files that `answer`, `serve` or `mirror` works on, in their order; none for the other
-/// commands and where the arguments spell no command.
+/// The names of the files that `answer`, `capture`, `serve`, `mirror` or `keep` works on, in their order; none
+/// for the other commands and where the arguments spell no command.
 pub fn files_of(alloc: Global, words: &[String]) -> Result<Vec<String>, NoMemory>
     ensures { IfOk result (λ names. map string_bytes names.items
         ≡ file_names (map string_bytes words.now)) }
@@ -383,7 +439,8 @@ fn links_in(alloc: Global, found: &Found) -> Result<Vec<PortWords>, NoMemory>
         | Command::Mirror(_)
         | Command::Replay
         | Command::Soak(_)
-        | Command::Switch(_) => Ok(Vec::new(alloc)),
+        | Command::Switch(_)
+        | Command::Keep(_) => Ok(Vec::new(alloc)),
         Command::Live(_) => match two_ends(&found.matches) {
             Some((one, two)) => all_links(alloc, &[one, two]),
             None => Ok(Vec::new(alloc)),

@@ -37,6 +37,9 @@ pub enum Wrong {
     #[error("its value is missing")]
     NoValue,
 
+    #[error("this option has no value")]
+    Flag,
+
     #[error("given twice")]
     Twice,
 
@@ -44,10 +47,7 @@ pub enum Wrong {
     Further,
 
     #[error("not a number from {least} to {most}")]
-    Number {
-        least: u64,
-        most: u64,
-    },
+    Number { least: u64, most: u64 },
 
     #[error("not the address of one station, in lower-case hexadecimal as 02:00:00:00:00:0a")]
     Port,
@@ -67,14 +67,9 @@ pub enum Wrong {
     #[error("neither add=MAC nor del=MAC, in lower-case hexadecimal as 02:00:00:00:00:0a")]
     Directive,
 
-    #[error("neither read, test, prefix, set, force nor clear")]
-    CfgAction,
-
-    #[error("neither read nor edit")]
-    MaskAction,
-
-    #[error("neither read, set, force nor release")]
-    ReserveAction,
+    /// None of these actions, which `, ` parts.
+    #[error("none of {0}")]
+    Action(&'static str),
 
     /// An argument or an option of this name isn't given.
     #[error("{0} is missing")]
@@ -132,6 +127,16 @@ fn no_number(command: &str, name: &str) -> Option<Wrong> {
     Some(Wrong::Number { least, most })
 }
 
+/// The actions of a command.
+fn actions(command: &str) -> &'static str {
+    match command {
+        "cfg" => "read, test, prefix, set, force, clear",
+        "mask" => "read, edit",
+        "reserve" => "read, set, force, release",
+        _ => "show, upgrade, lock, unlock",
+    }
+}
+
 /// What is wrong with an argument of this name that isn't what it has to be; `None` where it may be any word.
 fn unfit(command: &str, name: &str) -> Option<Wrong> {
     match name {
@@ -141,9 +146,7 @@ fn unfit(command: &str, name: &str) -> Option<Wrong> {
         "dev" => Some(Wrong::Device),
         "dirs" => Some(Wrong::Directive),
         "macs" => Some(Wrong::Address),
-        "action" if command == "cfg" => Some(Wrong::CfgAction),
-        "action" if command == "mask" => Some(Wrong::MaskAction),
-        "action" => Some(Wrong::ReserveAction),
+        "action" => Some(Wrong::Action(actions(command))),
         _ => no_number(command, name),
     }
 }
@@ -161,12 +164,7 @@ fn fits(wrong: Wrong, text: &[u8]) -> bool {
         Wrong::Device => read_device(text).is_some(),
         Wrong::Directive => read_dir(text).is_some(),
         Wrong::Address => read_mac(text).is_some(),
-        Wrong::CfgAction => matches!(
-            text,
-            b"read" | b"test" | b"prefix" | b"set" | b"force" | b"clear"
-        ),
-        Wrong::MaskAction => matches!(text, b"read" | b"edit"),
-        Wrong::ReserveAction => matches!(text, b"read" | b"set" | b"force" | b"release"),
+        Wrong::Action(actions) => actions.split(", ").any(|action| action.as_bytes() == text),
         _ => true,
     }
 }
@@ -190,36 +188,32 @@ fn option_parts(word: &str) -> (&str, Option<&str>) {
     }
 }
 
-fn is_optional(place: Place) -> bool {
-    matches!(place, Place::Optional)
-}
-
-/// Whether the form has an option of this name.
-fn has_option(form: Form, name: &str) -> bool {
-    form.1
-        .iter()
-        .any(|(option, place)| *option == name && is_optional(*place))
+/// The option of this name, where the form has one: whether it stands without a value.
+fn option_in(form: Form, name: &str) -> Option<bool> {
+    'arguments: for (argument, place) in form.1 {
+        if *argument == name {
+            return match place {
+                Place::Optional => Some(false),
+                Place::Flag => Some(true),
+                _ => None,
+            };
+        }
+    }
+    None
 }
 
 /// Whether one of these words is an option of this name.
 fn is_given(words: &[String], name: &str) -> bool {
-    words
-        .iter()
-        .any(|word| word.as_str().starts_with("--") && option_parts(word.as_str()).0 == name)
+    words.iter().any(|word| word.as_str().starts_with("--")
+        && option_parts(word.as_str()).0 == name)
 }
 
-/// What is wrong with the option at this place, or with its value.
-fn option_slip(form: Form, words: &[String], place: usize) -> Option<Slip>
+/// What is wrong with the value of the option at this place.
+fn value_slip(form: Form, words: &[String], place: usize) -> Option<Slip>
     requires { place < length words.now }
     ensures { IfSome result (λ slip. IfSome slip.word (λ n. n < length words.now)) }
 {
     let (name, value) = option_parts(words[place].as_str());
-    if !has_option(form, name) {
-        return Some(at(place, Wrong::Option));
-    }
-    if is_given(&words[..place], name) {
-        return Some(at(place, Wrong::Twice));
-    }
     if let Some(value) = value {
         return misfit(form.0, name, value).map(|wrong| at(place, wrong));
     }
@@ -231,12 +225,36 @@ fn option_slip(form: Form, words: &[String], place: usize) -> Option<Slip>
     }
 }
 
+/// What is wrong with the option at this place, or whether the next word is its value.
+fn option_slip(form: Form, words: &[String], place: usize) -> Result<bool, Slip>
+    requires { place < length words.now }
+    ensures { IfErr result (λ slip. IfSome slip.word (λ n. n < length words.now)) }
+{
+    let (name, value) = option_parts(words[place].as_str());
+    let Some(is_flag) = option_in(form, name) else {
+        return Err(at(place, Wrong::Option));
+    };
+    if is_given(&words[..place], name) {
+        return Err(at(place, Wrong::Twice));
+    }
+    if is_flag {
+        return match value {
+            Some(_) => Err(at(place, Wrong::Flag)),
+            None => Ok(false),
+        };
+    }
+    match value_slip(form, words, place) {
+        Some(slip) => Err(slip),
+        None => Ok(value.is_none()),
+    }
+}
+
 /// The argument of a form that a word goes to which stands behind so many others that are no options.
 fn argument(form: Form, before: usize) -> Option<Argument> {
     let mut left = before;
     'arguments: for argument in form.1 {
         match argument.1 {
-            Place::Optional => {}
+            Place::Optional | Place::Flag => {}
             Place::Several | Place::AllowedSeveral => return Some(*argument),
             Place::Needed | Place::Allowed => {
                 if left == 0 {
@@ -264,7 +282,6 @@ fn word_slip(form: Form, words: &[String], place: usize, before: usize) -> Optio
 
 /// How many words behind the command are no options nor values of them, or the first of them that is wrong.
 fn walk(form: Form, words: &[String]) -> Result<usize, Slip>
-    ensures count { IfOk result (λ n. n ≤ length words.now) }
     ensures there { IfErr result (λ slip. IfSome slip.word (λ n. n < length words.now)) }
 {
     let mut before = 0;
@@ -274,10 +291,7 @@ fn walk(form: Form, words: &[String]) -> Result<usize, Slip>
         if is_value {
             is_value = false;
         } else if word.starts_with('-') {
-            if let Some(slip) = option_slip(form, words, place) {
-                return Err(slip);
-            }
-            is_value = option_parts(word).1.is_none();
+            is_value = option_slip(form, words, place)?;
         } else {
             if let Some(slip) = word_slip(form, words, place, before) {
                 return Err(slip);
@@ -298,6 +312,7 @@ fn title(name: &'static str) -> &'static str {
         "sectors" => "SECTORS",
         "count" => "COUNT",
         "ports" => "PORT",
+        "keep" => "KEEP",
         "dev" => "DEV",
         "action" => "what to do",
         "at" => "AT",
@@ -307,7 +322,7 @@ fn title(name: &'static str) -> &'static str {
 
 /// Which end of its link a form lacks.
 fn lacking_end(form: Form, words: &[String]) -> Option<&'static str> {
-    if has_option(form, "local") && !is_given(words, "tap") {
+    if option_in(form, "local").is_some() && !is_given(words, "tap") {
         if !is_given(words, "local") {
             return Some("--local");
         }
@@ -315,7 +330,7 @@ fn lacking_end(form: Form, words: &[String]) -> Option<&'static str> {
             return Some("--peers");
         }
     }
-    if has_option(form, "one") && !is_given(words, "one-tap") {
+    if option_in(form, "one").is_some() && !is_given(words, "one-tap") {
         if !is_given(words, "one") {
             return Some("--one");
         }

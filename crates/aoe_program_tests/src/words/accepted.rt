@@ -3,7 +3,7 @@
 use super::*;
 
 #[test]
-fn reads_answer(rt: HostRuntime) -> Result<(), Fail> {
+fn reads_answer_and_capture(rt: HostRuntime) -> Result<(), Fail> {
     let cases = [
         ("answer 1 0 disk keep", answer(1, 0, mac(1), 1500, 0)),
         (
@@ -13,6 +13,14 @@ fn reads_answer(rt: HostRuntime) -> Result<(), Fail> {
         (
             "answer --cache=65536 1 0 d k",
             answer(1, 0, mac(1), 1500, 65536),
+        ),
+        (
+            "capture 1 0 d k --cache 65536",
+            capture(1, 0, mac(1), 1500, 65536),
+        ),
+        (
+            "capture 65534 254 d k --port 02:00:00:00:00:ff --mtu 9000",
+            capture(65534, 254, mac(255), 9000, 0),
         ),
     ];
     reads(&rt, rt.alloc(), "", &cases)

@@ -26,6 +26,7 @@ fn refuses_lines_without_a_command(rt: HostRuntime) -> Result<(), Fail> {
         "answer 1",
         "answer 1 0 d",
         "answer 1 0 d k k",
+        "capture 1 0 d k k",
         "answer 1 0  k",
         "answer 1 0 d k ",
     ];

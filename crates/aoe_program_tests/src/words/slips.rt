@@ -63,6 +63,14 @@ fn says_what_is_wrong(rt: HostRuntime) -> Result<(), Fail> {
             "answer 1 0 disk --port=",
             "--port=: empty, longer than 4096 bytes, only hyphens, or without a value behind its =",
         ),
+        (
+            "answer 1 0 disk keep --durable=1",
+            "--durable=1: this option has no value",
+        ),
+        (
+            "answer 1 0 disk keep --durable --durable",
+            "--durable: given twice",
+        ),
         ("replay script", "script: one word too many"),
         (
             "serve 1 disk keep --peers 127.0.0.1:1",
@@ -84,8 +92,13 @@ fn says_what_is_wrong(rt: HostRuntime) -> Result<(), Fail> {
         ("flush 1.0", "1.0: not a device, as e1.0"),
         (
             "cfg e1.0 get --tap t",
-            "get: neither read, test, prefix, set, force nor clear",
+            "get: none of read, test, prefix, set, force, clear",
         ),
+        (
+            "keep lists open",
+            "open: none of show, upgrade, lock, unlock",
+        ),
+        ("keep", "KEEP is missing"),
         ("cfg e1.0 --tap t", "what to do is missing"),
         (
             "mask e1.0 edit add=02:00:00:00:00:0A",

@@ -1,7 +1,7 @@
 //! Each call of a device fails in turn, or is the last one before a loss of power.
 ghost use Rattle.std.specs.Prelude.{◌<◌};
 
-use super::loops::{QUERY, SET, answered, first, reply, served, took};
+use super::loops::{QUERY, SET, answered, captured, first, reply, served, took};
 use aoe_base::{Blob, Mac, Ports, Span, TargetId};
 use aoe_cache::AnyStore;
 use aoe_disk::{Arm, Loss, MemDisk};
@@ -37,6 +37,54 @@ fn six_replies() -> Frame {
         }
     }
     all
+}
+
+/// The header of a capture file.
+const HEADER: [u8; 24] = [
+    0xd4, 0xc3, 0xb2, 0xa1, 2, 0, 4, 0, 0, 0, 0, 0, 0, 0, 0, 0, 0x3a, 0x23, 0, 0, 1, 0, 0, 0,
+];
+
+/// What stands in a capture file in front of the request that sets the string.
+const BEFORE_SET: [u8; 16] = [0, 0, 0, 0, 0, 0, 0, 0, 34, 0, 0, 0, 34, 0, 0, 0];
+
+/// The same in front of a reply.
+const BEFORE_REPLY: [u8; 16] = [0, 0, 0, 0, 0, 0, 0, 0, 60, 0, 0, 0, 60, 0, 0, 0];
+
+/// A capture of the request that sets the string, and of the replies of both targets.
+fn capture_of_set() -> Frame {
+    let replies = six_replies();
+    joined(&[
+        &HEADER,
+        &BEFORE_SET,
+        &SET[2..],
+        &BEFORE_REPLY,
+        replies.get(126..186).unwrap_or(&[]),
+        &BEFORE_REPLY,
+        replies.get(188..248).unwrap_or(&[]),
+    ])
+}
+
+#[test]
+fn stops_at_each_write_of_a_capture(rt: HostRuntime) -> Result<(), Fail> {
+    let whole = capture_of_set();
+    // The call of the sink that fails, the end, how many bytes were written, and whether the slots have the string: the
+    // frame whose record isn't taken comes to them all the same.
+    let cases = [
+        (0, AnswerEnd::Ended, 226, true),
+        (1, AnswerEnd::SinkFault, 0, false),
+        (2, AnswerEnd::SinkFault, 24, true),
+        (3, AnswerEnd::SinkFault, 74, true),
+        (4, AnswerEnd::SinkFault, 150, true),
+        (5, AnswerEnd::Ended, 226, true),
+    ];
+    for (writing, end, count, is_set) in &cases {
+        let mut source = MemSource::of(rt.alloc(), &SET)?;
+        let mut sink = MemSink::new(rt.alloc(), 1000)?;
+        sink.fail_at(*writing);
+        let ended = captured(rt.alloc(), &mut source, &mut sink)?;
+        assert!(rt; ended == (*end, *is_set) && Some(sink.bytes()) == whole.get(..*count));
+    }
+    Ok(())
 }
 
 /// Whether a stream whose source and sink fail in these calls ends so, and these bytes were written.

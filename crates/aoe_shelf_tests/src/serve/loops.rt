@@ -6,7 +6,7 @@ use aoe_disk::MemDisk;
 use aoe_frame::Frame;
 use aoe_io::{Got, Link, MemLink, MemSink, MemSource};
 use aoe_keep::Keep;
-use aoe_serve::{AnswerEnd, ServeEnd, ShelfLink, answer, serve};
+use aoe_serve::{AnswerEnd, ServeEnd, ShelfLink, answer, capture, serve};
 use aoe_shelf::Shelf;
 use aoe_store::Direct;
 use std::alloc::Global;
@@ -110,6 +110,17 @@ pub(crate) fn answered(
 ) -> Result<(AnswerEnd, bool), Fail> {
     let mut shelf = shelf_of_two(alloc)?;
     let end = answer(&mut shelf, source, sink);
+    Ok((end, are_set(&shelf)))
+}
+
+/// Answers a stream by the shelf, and captures it: the end, and whether the slots have the string then.
+pub(crate) fn captured(
+    alloc: Global,
+    source: &mut MemSource,
+    sink: &mut MemSink,
+) -> Result<(AnswerEnd, bool), Fail> {
+    let mut shelf = shelf_of_two(alloc)?;
+    let end = capture(&mut shelf, source, sink);
     Ok((end, are_set(&shelf)))
 }
 

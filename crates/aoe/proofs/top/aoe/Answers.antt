@@ -12,7 +12,6 @@ use Rattle.aoe.proofs.Complete.{answers, link-fine, no-fault, serves}
 use Rattle.aoe.proofs.Mirrors.{within-mirror}
 use Rattle.aoe.proofs.OnSlots.{on-none}
 use Rattle.aoe.proofs.Refusals.{disk-within, file-fault, keep-bad, keep-fault, keep-small, mounted, of-command, pairs-only, ran-as, ran-of, same-command, settled}
-use Rattle.aoe.specs.declared.status.Status.TheVariants as status
 use Rattle.aoe_world.specs.declared.end.ReplayEnd.TheVariants as replay
 use Rattle.aoe.proofs.top.aoe.Goals as goal
 
@@ -69,6 +68,10 @@ returns-in-Ok-Some-clause-unread g c other some =
 pub returns-in-Ok-Some-clause-mirrors : goal.returns-in-Ok-Some-clause-mirrors
 returns-in-Ok-Some-clause-mirrors g c asked is =
     inr (c.run_command.ensures.mirrors asked (same-command _ _ _ _ c.in-Ok-Some.field-0-is c.in-Ok-Some.ensures.command is))
+
+pub returns-in-Ok-Some-clause-keeps : goal.returns-in-Ok-Some-clause-keeps
+returns-in-Ok-Some-clause-keeps g c action is =
+    inr (c.run_command.ensures.keeps action (same-command _ _ _ _ c.in-Ok-Some.field-0-is c.in-Ok-Some.ensures.command is))
 
 pub returns-in-Ok-Some-clause-file_fault : goal.returns-in-Ok-Some-clause-file_fault
 returns-in-Ok-Some-clause-file_fault g c exported slot e = file-fault _ _ _ _ _ _ _ _ c.run_command.ensures.run c.run_command.ensures.refused

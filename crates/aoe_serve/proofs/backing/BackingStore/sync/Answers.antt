@@ -1,5 +1,14 @@
-use Rattle.aoe_serve.proofs.BackingLemmas.{holds-sync}
+use Rattle.std.proofs.Common.{subst}
+use Rattle.aoe_serve.specs.Backing.{IsBacking}
+use Rattle.aoe_serve.specs.declared.backing.FileStore.{FileStore}
+use Rattle.aoe_serve.proofs.BackingLemmas.{any-sync}
 use Rattle.aoe_serve.proofs.backing.BackingStore.sync.Goals as goal
+use Rattle.aoe_serve.proofs.backing.BackingStore.sync.Goals.{in-Any, in-Durable}
 
 pub invariant_of-self : goal.invariant_of-self
-invariant_of-self g c = holds-sync g.D.Disk.state g.M.Most.most c.sync.result c.self.inside.store c.sync.new.self c.sync.ensures.device c.self.invariant
+invariant_of-self g c =
+    elim c.match-self.branch [
+      | in-Any w ↦ rw w.self-inside-is (any-sync g.D.Disk.state g.M.Most.most w.sync.result w.in-Any.store w.sync.new.self w.sync.ensures.device
+          (subst (λ (x : FileStore g.row.D.Denot). IsBacking g.M.Most.most x) w.in-Any.is c.self.invariant))
+      | in-Durable w ↦ rw w.self-inside-is (subst (λ (x : FileStore g.row.D.Denot). IsBacking g.M.Most.most x) w.in-Durable.is c.self.invariant)
+    ]

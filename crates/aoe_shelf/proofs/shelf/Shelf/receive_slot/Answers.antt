@@ -23,3 +23,7 @@ returns-clause-receives g c =
 pub returns-clause-under : goal.returns-clause-under
 returns-clause-under g c =
     changed c.args.slot _ c.self.inside.targets.items _ _ _ (ap (λ (rack : Rack _ _). rack.targets) c.self.view_is) c.requires c.index_mut.ensures.value c.receive.ensures.under
+
+pub returns-clause-firm : goal.returns-clause-firm
+returns-clause-firm g c =
+    changed c.args.slot _ c.self.inside.targets.items _ _ _ (ap (λ (rack : Rack _ _). rack.targets) c.self.view_is) c.requires c.index_mut.ensures.value c.receive.ensures.firm

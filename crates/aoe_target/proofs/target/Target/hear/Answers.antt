@@ -8,7 +8,7 @@ use Rattle.aoe_target.specs.declared.heard.Effect.TheVariants as effect
 use Rattle.aoe_target.specs.declared.verdict.Verdict.TheVariants.{Ignored, Silent, Refused, Lists, Ata}
 use Rattle.aoe_target.specs.declared.heard.Heard.TheVariants as heard
 use Rattle.aoe_target.proofs.ReceivesLemmas.{by_it, keeps_lists, unmoved}
-use Rattle.aoe_target.proofs.ReceiveLemmas.{same_sectors, unheard, judged_is, ignored_step, silent_step, refused_step, lists_step, ata_step}
+use Rattle.aoe_target.proofs.ReceiveLemmas.{same_sectors, step_firm, unheard, judged_is, ignored_step, silent_step, refused_step, lists_step, ata_step}
 use Rattle.aoe_target.proofs.target.Target.hear.Goals as goal
 
 pub returns-in_default-clause-receives : goal.returns-in_default-clause-receives
@@ -147,3 +147,6 @@ pub invariant_of-self-in-Ata : goal.invariant_of-self-in-Ata
 invariant_of-self-in-Ata g c =
     let same = same_sectors g.S.Store.state (calls_for c.in-Ata.decision.answer) (is_fault c.serve-effect.result) c.self.inside.store c.serve-effect.new.store c.serve-effect.ensures.call c.serve-effect.ensures.idle in
     record { size = c.self.invariant.size ∙ sym same; bound = c.self.invariant.bound; room = c.self.invariant.room }
+
+pub returns-in-Lists-clause-firm : goal.returns-in-Lists-clause-firm
+returns-in-Lists-clause-firm g c = λ lasts. step_firm c.self.inside.station c.args.frame.now _ _ _ c.tell.ensures.allowed

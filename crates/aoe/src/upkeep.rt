@@ -1,0 +1,105 @@
+//! The command that works on the keep of a slot that no shelf serves.
+ghost use Rattle.std.specs.Prelude.{◌≡◌, ◌≢◌, [], ◌∷◌, ℕ, All, Err, IfErr, IsSome, None, Some, length};
+ghost use Rattle.aoe_base.specs.Faults.{Blamed};
+ghost use Rattle.aoe_upkeep.specs.Upkeep.{IsCaused};
+ghost use Rattle.aoe.specs.Ending.{refused_slot};
+ghost use Rattle.aoe.specs.Keeping.{Acts, RunsKeep, upkept_as};
+
+use crate::status::Status;
+use aoe_disk::Disk;
+use aoe_io::Sink;
+use aoe_keep::MountRefusal;
+use aoe_upkeep::{UpkeepStop, mark, show, upgrade};
+use aoe_words::KeepAction;
+use std::alloc::Global;
+
+/// The number of the keep, which is the only disk.
+const KEEP: u32 = 0;
+
+/// The status of a run that ended so.
+fn upkept_as(ended: Result<(), UpkeepStop>) -> Status
+    ensures { result ≡ upkept_as ended }
+{
+    match ended {
+        Ok(()) => Status::Ok,
+        Err(UpkeepStop::Keep(MountRefusal::Failed) | UpkeepStop::Failed) => {
+            Status::DiskFault { disk: KEEP }
+        }
+        Err(UpkeepStop::Keep(MountRefusal::TooSmall { sectors })) => Status::KeepSmall {
+            disk: KEEP,
+            sectors,
+        },
+        Err(UpkeepStop::Keep(MountRefusal::BadKeep { slot })) => {
+            Status::KeepBad { disk: KEEP, slot }
+        }
+        Err(UpkeepStop::NoMemory) => Status::NoMemory,
+        Err(UpkeepStop::SinkFault) => Status::SinkFault,
+    }
+}
+
+/// Takes the only disk.
+fn take_one<D: Disk + Drop>(disks: &mut [Option<D>]) -> D
+    requires count { length disks.old ≡ 1 }
+    requires there { All IsSome disks.old }
+    ensures taken { disks.old ≡ Some result ∷ [] }
+    ensures count { length disks.new ≡ 1 }
+{
+    let Some(disk) = disks[0].take() else {
+        unreachable!()
+    };
+    disk
+}
+
+/// Puts it back.
+fn put_one<D: Disk + Drop>(disks: &mut [Option<D>], disk: D)
+    requires { length disks.old ≡ 1 }
+    ensures { disks.new ≡ Some disk ∷ [] }
+{
+    disks[0] = Some(disk);
+}
+
+/// Does with a keep what is asked for.
+fn act<K: Sink, D: Disk + Drop>(
+    alloc: Global,
+    action: KeepAction,
+    sink: &mut K,
+    disk: D,
+) -> (Result<(), UpkeepStop>, D)
+    ensures acts { Acts D.state action result.0 (K.held sink.old) (K.held sink.new) disk result.1 }
+    ensures causes { IsCaused D.state result.0 disk result.1 }
+    ensures unwritten { IfErr result.0 (λ why. why ≢ UpkeepStop.SinkFault → sink.new ≡ sink.old) }
+    ensures sink { Blamed (result.0 ≡ Err UpkeepStop.SinkFault) (K.faults sink.old)
+        (K.faults sink.new) }
+{
+    match action {
+        KeepAction::Show => show(alloc, disk, sink),
+        KeepAction::Upgrade => upgrade(disk),
+        KeepAction::Lock => mark(disk, true),
+        KeepAction::Unlock => mark(disk, false),
+    }
+}
+
+/// Does with the keep on the only disk what is asked for.
+pub(crate) fn run_keep<K: Sink, D: Disk + Drop>(
+    alloc: Global,
+    action: KeepAction,
+    sink: &mut K,
+    disks: &mut [Option<D>],
+) -> Status
+    requires count { length disks.old ≡ 1 }
+    requires there { All IsSome disks.old }
+    ensures runs { RunsKeep D.state action result (K.held sink.old) (K.held sink.new) disks.old
+        disks.new }
+    ensures memory { result ≡ Status.NoMemory → sink.new ≡ sink.old }
+    ensures unrefused { refused_slot result ≡ None }
+    ensures links { (link : ℕ) → result ≢ Status.LinkFault link }
+    ensures source { result ≢ Status.SourceFault }
+    ensures usage { result ≢ Status.Usage }
+    ensures there { All IsSome disks.new }
+    ensures sink { Blamed (result ≡ Status.SinkFault) (K.faults sink.old) (K.faults sink.new) }
+{
+    let given = take_one(disks);
+    let (ended, back) = act(alloc, action, sink, given);
+    put_one(disks, back);
+    upkept_as(ended)
+}

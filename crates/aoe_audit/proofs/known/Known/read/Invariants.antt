@@ -1,0 +1,10 @@
+use Rattle.std.proofs.Common.{ℕ, ◌≡◌}
+use Rattle.aoe_audit.specs.Known.{AreAsKnown, value_of, value_read}
+use Rattle.aoe_audit.proofs.KnownLemmas.{first}
+use Rattle.aoe_audit.proofs.known.Known.read.Given as goal
+
+abbrev pub invariant-sectors : goal.invariant-sectors
+invariant-sectors l = record {
+  known : (q : ℕ) → value_of l.self q ≡ value_read (first l.span.at l.i) l.bytes l.fn.self q;
+  same : AreAsKnown (first l.span.at l.i) l.bytes l.fn.self;
+}

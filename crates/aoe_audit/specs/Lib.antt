@@ -1,0 +1,4 @@
+pub mod Captured
+pub mod Judged
+pub mod Known
+pub mod Auditing

@@ -1,0 +1,111 @@
+//! The sectors whose contents are known.
+ghost use Rattle.std.specs.Prelude.{ℕ, ◌≡◌, ◌*◌, ◌+◌, ◌≤◌, ◌^◌, [], Ok, true, false, Some, None, length, nat_eq, OnOk, IfSome, if◌then◌else◌};
+ghost use Rattle.std.specs.Option.{option_or};
+ghost use Rattle.aoe_audit.specs.Known.{AreAsKnown, value_lost, value_of, value_put, value_read};
+
+use aoe_base::{Blob, NoMemory, SECTOR_LEN, Span};
+use indexmap::IndexMap;
+use std::alloc::Global;
+use std::marker::Model;
+
+/// The sectors whose contents are known, each with these. Contracts see the list of both.
+#[derive(Drop)]
+pub(crate) struct Known {
+    alloc: Global,
+    sectors: IndexMap<u64, Blob>,
+}
+
+impl Model for Known {
+    ghost use Rattle.aoe_audit.specs.Known.{Table};
+
+    ghost Value = { Table };
+
+    ghost view = { λ k. k.sectors.entries };
+}
+
+impl Known {
+    /// No sector is known.
+    pub(crate) fn new(alloc: Global) -> Known
+        ensures { result ≡ [] }
+    {
+        Known {
+            alloc,
+            sectors: IndexMap::new(alloc),
+        }
+    }
+
+    /// The contents of a sector become known.
+    fn put_one(&mut self, sector: u64, bytes: &[u8]) -> Result<(), NoMemory>
+        requires { length bytes.now ≡ 512 }
+        ensures { OnOk result ((q : ℕ) → value_of self.new q
+            ≡ (if nat_eq sector q then Some bytes.now else value_of self.old q)) }
+    {
+        self.sectors.insert(sector, Blob::of(self.alloc, bytes)?)?;
+        Ok(())
+    }
+
+    /// Whether a sector that was read may have these contents, which are known then.
+    fn read_one(&mut self, sector: u64, bytes: &[u8]) -> Result<bool, NoMemory>
+        requires { length bytes.now ≡ 512 }
+        ensures same { result ≡ Ok true → IfSome (value_of self.old sector) (λ v. bytes.now ≡ v) }
+        ensures other { result ≡ Ok false → IfSome (value_of self.old sector) (λ v. bytes.now ≡ v) → ⊥ }
+        ensures known { result ≡ Ok true → (q : ℕ) → value_of self.new q
+            ≡ option_or (value_of self.old q) (if nat_eq sector q then Some bytes.now else None) }
+    {
+        if let Some(known) = self.sectors.get(&sector) {
+            return Ok(known.bytes() == bytes);
+        }
+        self.put_one(sector, bytes)?;
+        Ok(true)
+    }
+
+    /// The contents of a sector are known no longer.
+    fn forget_one(&mut self, sector: u64)
+        ensures { (q : ℕ) → value_of self.new q
+            ≡ (if nat_eq sector q then None else value_of self.old q) }
+    {
+        let _ = self.sectors.swap_remove(&sector);
+    }
+
+    /// The sectors of a write become known.
+    pub(crate) fn put(&mut self, span: Span, bytes: &[u8]) -> Result<(), NoMemory>
+        requires len { length bytes.now ≡ 512 * span.count }
+        requires range { span.at + span.count ≤ 2 ^ 40 }
+        ensures { OnOk result ((q : ℕ) → value_of self.new q ≡ value_put span bytes.now self.old q) }
+    {
+        'sectors: for i in 0..span.count {
+            let start = SECTOR_LEN * i as usize;
+            self.put_one(span.at + i as u64, &bytes[start..start + SECTOR_LEN])?;
+        }
+        Ok(())
+    }
+
+    /// The sectors of a failed write are known no longer.
+    pub(crate) fn forget(&mut self, span: Span)
+        requires { span.at + span.count ≤ 2 ^ 40 }
+        ensures { (q : ℕ) → value_of self.new q ≡ value_lost span self.old q }
+    {
+        'sectors: for i in 0..span.count {
+            self.forget_one(span.at + i as u64);
+        }
+    }
+
+    /// Whether sectors that were read may have these contents, which are known then.
+    pub(crate) fn read(&mut self, span: Span, bytes: &[u8]) -> Result<bool, NoMemory>
+        requires len { length bytes.now ≡ 512 * span.count }
+        requires range { span.at + span.count ≤ 2 ^ 40 }
+        ensures same { result ≡ Ok true → AreAsKnown span bytes.now self.old }
+        ensures other { result ≡ Ok false → AreAsKnown span bytes.now self.old → ⊥ }
+        ensures known { result ≡ Ok true
+            → (q : ℕ) → value_of self.new q
+            ≡ value_read span bytes.now self.old q }
+    {
+        'sectors: for i in 0..span.count {
+            let start = SECTOR_LEN * i as usize;
+            if !self.read_one(span.at + i as u64, &bytes[start..start + SECTOR_LEN])? {
+                return Ok(false);
+            }
+        }
+        Ok(true)
+    }
+}
