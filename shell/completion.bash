@@ -12,7 +12,7 @@ _aoe() {
             mapfile -t COMPREPLY < <(compgen -f -- "$word")
             return
             ;;
-        --durable) ;;
+        --durable | --verify | --long | --sectors) ;;
         --*) return ;;
     esac
     # The words of the synopsis that are no names of values: options and actions.
@@ -21,7 +21,7 @@ _aoe() {
     [ "$command" = switch ] && words="$words access: trunk:"
     if [ -z "$word" ] || [ "${word:0:1}" != - ]; then
         case $command in
-            answer | capture | serve | mirror | keep) mapfile -t COMPREPLY < <(compgen -f -- "$word") ;;
+            answer | capture | serve | mirror | audit | keep) mapfile -t COMPREPLY < <(compgen -f -- "$word") ;;
         esac
     fi
     mapfile -t -O "${#COMPREPLY[@]}" COMPREPLY < <(compgen -W "$words --help" -- "$word")

@@ -3,6 +3,8 @@ mod Complete
 mod Exits
 mod OnSlots
 mod Refusals
+mod StreamLemmas
 mod Switched
 mod Mirrors
 mod Upkeeps
+mod Audits

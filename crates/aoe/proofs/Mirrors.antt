@@ -306,6 +306,7 @@ of-mirror (command.Put x) e p = absurd cc
 of-mirror (command.Live x) e p = absurd cc
 of-mirror (command.Switch x) e p = absurd cc
 of-mirror (command.Keep x) e p = absurd cc
+of-mirror (command.Audit x) e p = absurd cc
 
 pub within-mirror : {D S K L : Type 0} (state : D → DiskState) (c : Command) (t : Tells S K L) (s : Status) (a b : Outside S K L)
     (disks disks' : List (Option D)) → ((asked : Mirror) → c ≡ command.Mirror asked → RunsMirror state asked t s a b disks disks')

@@ -331,6 +331,9 @@ memory-wanting (status.Unanswered turns) e = absurd cc
 memory-wanting (status.Refused r) e = absurd cc
 memory-wanting (status.Stream offset) e = absurd cc
 memory-wanting (status.Limit excess) e = absurd cc
+memory-wanting (status.Audit number kind) e = absurd cc
+memory-wanting status.CaptureHead e = absurd cc
+memory-wanting (status.Capture number) e = absurd cc
 memory-wanting (status.Script line cause) e = absurd cc
 memory-wanting (status.MirrorSides first second) e = absurd cc
 memory-wanting status.MirrorMark e = absurd cc
@@ -374,6 +377,7 @@ runs-of state (command.Put asked) t s a b disks disks' other count run = over_no
 runs-of state (command.Live asked) t s a b disks disks' other count run = over_none count (λ disk e. let f = sym (ap is_live_status e) ∙ run.0 in absurd cc)
 runs-of state (command.Switch asked) t s a b disks disks' other count run = over_none count (λ disk e. no-disk-switched run.0.end disk (sym run.0.ends ∙ e))
 runs-of state (command.Keep action) t s a b disks disks' other count run = over_one count (λ disk e. (run.0.blames disk e).0)
+runs-of state (command.Audit asked) t s a b disks disks' other count run = over_one count (λ disk e. (run.0.judges.blames disk e).0)
 
 module _ {D S K L : Type 0} (state : D → DiskState) (command : Command) (t : Tells S K L) (s : Status) (a b : Outside S K L) (disks disks' : List (Option D))
     (run : refused_slot s ≡ None → s ≢ status.NoMemory → Ran state command t s a b disks disks')
@@ -493,6 +497,7 @@ pairs-only (command.Put asked) e = absurd cc
 pairs-only (command.Live asked) e = absurd cc
 pairs-only (command.Switch asked) e = absurd cc
 pairs-only (command.Keep action) e = absurd cc
+pairs-only (command.Audit asked) e = absurd cc
 
 -- what is so of the command that the arguments spell is so of the one that was read
 pub of-command : (P : Option Command → Type 0) (o o' : Option Command) (command : Command) → o ≡ Some command → o ≡ o' → P o' → P (Some command)

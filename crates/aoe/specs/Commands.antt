@@ -8,7 +8,7 @@ use Rattle.aoe_serve.specs.declared.over_stream.Format.TheVariants as format
 use Rattle.aoe_serve.specs.declared.plan.Plan.{Plan}
 use Rattle.aoe_serve.specs.declared.plan.Plan.TheVariants as plan
 use Rattle.aoe_words.specs.declared.command.Command.{Command}
-use Rattle.aoe_words.specs.declared.command.Command.TheVariants.{Answer, Ask, Get, Keep, Live, Mirror, Put, Replay, Serve}
+use Rattle.aoe_words.specs.declared.command.Command.TheVariants.{Answer, Ask, Audit, Get, Keep, Live, Mirror, Put, Replay, Serve}
 use Rattle.aoe_words.specs.declared.command.Answer.{Answer as Answers}
 use Rattle.aoe_words.specs.declared.command.Mirror.{Mirror as Mirrors}
 use Rattle.aoe_words.specs.declared.command.Serve.{Serve as Serves}
@@ -46,10 +46,11 @@ abbrev pub is_mirror : Option Command → Bool
 is_mirror (Some (Mirror asked)) = true
 is_mirror command = false
 
--- it works on a keep alone
-abbrev pub is_upkeep : Option Command → Bool
-is_upkeep (Some (Keep action)) = true
-is_upkeep command = false
+-- its one disk is the keep of a slot that no shelf serves
+abbrev pub is_over_keep : Option Command → Bool
+is_over_keep (Some (Keep action)) = true
+is_over_keep (Some (Audit asked)) = true
+is_over_keep command = false
 
 -- it asks by the first link
 abbrev pub is_tool : Option Command → Bool
@@ -67,9 +68,10 @@ is_live command = false
 abbrev pub uses_clock : Option Command → Bool
 uses_clock command = is_tool command || is_live command
 
--- it reads the source and no frames: a script, or sectors
+-- it reads the source and no stream of frames: a script, sectors, or a capture
 abbrev pub reads_input : Option Command → Bool
 reads_input (Some Replay) = true
+reads_input (Some (Audit asked)) = true
 reads_input (Some (Put asked)) = true
 reads_input command = false
 

@@ -1,6 +1,8 @@
 -- The exit status and the text of each way that a run ends.
 use Rattle.std.specs.Prelude.{ℕ, ◌+◌, ◌*◌, ◌/◌, ◌%◌, List, [], ◌++◌, ◌==◌, Option, Some, None, Result, Ok, Err, if◌then◌else◌, codes}
 use Rattle.std.specs.Fmt.{decimal}
+use Rattle.aoe_audit.specs.declared.refusal.Kind.{Kind}
+use Rattle.aoe_audit.specs.declared.refusal.Kind.TheVariants as kind
 use Rattle.aoe_keep.specs.declared.refusal.MountRefusal.{MountRefusal}
 use Rattle.aoe_keep.specs.declared.refusal.MountRefusal.TheVariants as refusal
 use Rattle.aoe_mirror.specs.declared.refusal.MirrorRefusal.TheVariants as mirror
@@ -42,6 +44,9 @@ code_of (status.Unanswered turns) = 9
 code_of (status.Refused r) = 10
 code_of (status.Stream offset) = 11
 code_of (status.Limit excess) = 12
+code_of (status.Audit number finding) = 13
+code_of status.CaptureHead = 14
+code_of (status.Capture number) = 14
 code_of (status.MirrorSides first second) = 15
 code_of status.MirrorMark = 15
 
@@ -62,6 +67,14 @@ limit_text what.ScriptBytes = codes "aoe: limit: script bytes"
 limit_text what.Frames = codes "aoe: limit: frames"
 limit_text what.FrameBytes = codes "aoe: limit: frame bytes"
 limit_text what.InputBytes = codes "aoe: limit: input bytes"
+limit_text what.Records = codes "aoe: limit: records"
+limit_text what.CaptureBytes = codes "aoe: limit: capture bytes"
+
+-- what is wrong with a record of a capture, in a word
+abbrev pub finding_of : Kind → List ℕ
+finding_of kind.Short = codes "short"
+finding_of kind.Reply = codes "reply"
+finding_of kind.Missing = codes "missing"
 
 abbrev pub text_of : Status → List ℕ
 text_of status.Ok = []
@@ -78,6 +91,9 @@ text_of (status.Unanswered turns) = tool_text (tool.Unanswered turns)
 text_of (status.Refused r) = tool_text (tool.Refused r)
 text_of (status.Stream offset) = codes "aoe: bad stream at byte " ++ decimal offset
 text_of (status.Limit excess) = limit_text excess
+text_of (status.Audit number finding) = codes "aoe: capture record " ++ (decimal number ++ (codes ": " ++ finding_of finding))
+text_of status.CaptureHead = codes "aoe: capture header"
+text_of (status.Capture number) = codes "aoe: capture record " ++ decimal number
 text_of (status.MirrorSides first second) =
     codes "aoe: mirror sides have " ++ (decimal first ++ (codes " and " ++ (decimal second ++ codes " sectors")))
 text_of status.MirrorMark = codes "aoe: mirror mark has no sector"

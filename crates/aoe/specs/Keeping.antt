@@ -3,6 +3,7 @@ use Rattle.std.specs.Prelude.{ℕ, ◌≡◌, ◌≢◌, ◌≤◌, ◌<◌, ◌
 use Rattle.aoe_base.specs.Faults.{Rose}
 use Rattle.aoe_disk.specs.State.{DiskState}
 use Rattle.aoe_keep.specs.Found.{found}
+use Rattle.aoe_keep.specs.declared.refusal.MountRefusal.{MountRefusal}
 use Rattle.aoe_keep.specs.declared.refusal.MountRefusal.TheVariants as refusal
 use Rattle.aoe_upkeep.specs.Upkeep.{Changes, Shows, marking, upgrading}
 use Rattle.aoe_upkeep.specs.declared.stop.UpkeepStop.{UpkeepStop}
@@ -12,12 +13,16 @@ use Rattle.aoe_words.specs.declared.command.KeepAction.TheVariants as action
 use Rattle.aoe.specs.declared.status.Status.{Status}
 use Rattle.aoe.specs.declared.status.Status.TheVariants as status
 
+-- the status of a run in which the keep on the only disk was refused
+abbrev pub refused_alone : MountRefusal → Status
+refused_alone refusal.Failed = status.DiskFault 0
+refused_alone (refusal.TooSmall sectors) = status.KeepSmall 0 sectors
+refused_alone (refusal.BadKeep slot) = status.KeepBad 0 slot
+
 -- the status of a run that ended so
 abbrev pub upkept_as : Result Unit UpkeepStop → Status
 upkept_as (Ok done) = status.Ok
-upkept_as (Err (stop.Keep refusal.Failed)) = status.DiskFault 0
-upkept_as (Err (stop.Keep (refusal.TooSmall sectors))) = status.KeepSmall 0 sectors
-upkept_as (Err (stop.Keep (refusal.BadKeep slot))) = status.KeepBad 0 slot
+upkept_as (Err (stop.Keep r)) = refused_alone r
 upkept_as (Err stop.Failed) = status.DiskFault 0
 upkept_as (Err stop.NoMemory) = status.NoMemory
 upkept_as (Err stop.SinkFault) = status.SinkFault

@@ -6,3 +6,4 @@ pub mod Tools
 pub mod Live
 pub mod Mirror
 pub mod Keeping
+pub mod Auditing

@@ -22,6 +22,7 @@ use Rattle.aoe_words.specs.declared.command.Put.{Put}
 use Rattle.aoe_words.specs.declared.command.Soak.{Soak}
 use Rattle.aoe_words.specs.declared.command.Tool.{Tool}
 use Rattle.aoe_tools.specs.Runs.{Told}
+use Rattle.aoe.specs.Auditing.{RunsAudit}
 use Rattle.aoe.specs.Commands.{answer_plan, serve_plan, target_of}
 use Rattle.aoe.specs.Ending.{file_at, keep_at, refused_as, refused_slot, replayed_as, status_of}
 use Rattle.aoe.specs.Keeping.{RunsKeep}
@@ -53,7 +54,8 @@ pub record RanSoak {K : Type 0} (held : K → Option (List ℕ)) (asked : Soak) 
   pub leaves : LeavesSink end sink sink'
   pub ends : s ≡ replayed_as end
 
--- a run of a command: over files, of the script that the source gives, of the script of `soak`, of a tool, of a switch, or on a keep alone
+-- a run of a command: over files, of the script that the source gives, of the script of `soak`, of a tool, of a switch, on a keep alone, or
+-- of an audit
 abbrev pub Ran : {D S K L : Type 0} → (D → DiskState) → Command → Tells S K L → Status → Outside S K L → Outside S K L → List (Option D) → List (Option D)
     → Type 0
 Ran state (command.Answer answer) t s a b disks disks' = RanFiles state (answer_plan answer).0 (answer_plan answer).1 t s a b disks disks'
@@ -69,6 +71,8 @@ Ran state (command.Switch asked) t s a b disks disks' =
     Switches asked.ports.items s (t.left a.source) (t.left b.source) (t.held a.sink) (t.held b.sink) × (b.links ≡ a.links) × (disks' ≡ disks)
 Ran state (command.Keep action) t s a b disks disks' =
     RunsKeep state action s (t.held a.sink) (t.held b.sink) disks disks' × (b.source ≡ a.source) × (b.links ≡ a.links)
+Ran state (command.Audit asked) t s a b disks disks' =
+    RunsAudit state asked s (t.left a.source) (t.left b.source) (t.held a.sink) (t.held b.sink) disks disks' × (b.links ≡ a.links)
 
 -- a tool ran over the first link and a clock, and a sink took what it says
 abbrev pub Asked : {K L : Type 0} → (K → Option (List ℕ)) → (L → L → Told) → Tool → Status → K → K → List L → List L → Type 0

@@ -14,11 +14,13 @@ use Rattle.aoe_tools.specs.declared.found.Seen.{Seen}
 use Rattle.aoe_tools.specs.declared.question.Ask.{Ask}
 use Rattle.aoe_words.specs.declared.command.Asking.{Asking}
 use Rattle.aoe_words.specs.declared.command.Cfg.{Cfg}
+use Rattle.aoe_words.specs.declared.command.Discover.{Discover}
 use Rattle.aoe_words.specs.declared.command.Flush.{Flush}
 use Rattle.aoe_words.specs.declared.command.Get.{Get}
 use Rattle.aoe_words.specs.declared.command.Mask.{Mask}
 use Rattle.aoe_words.specs.declared.command.Put.{Put}
 use Rattle.aoe_words.specs.declared.command.Reserve.{Reserve}
+use Rattle.aoe_words.specs.declared.command.Stat.{Stat}
 use Rattle.aoe_words.specs.declared.command.Tool.{Tool}
 use Rattle.aoe_words.specs.declared.command.Tool.TheVariants as tool
 use Rattle.aoe.specs.declared.status.Status.{Status}
@@ -45,12 +47,12 @@ IsSaid text (Ok given) (Err r) = r ≡ refusal.NoMemory
 IsSaid text (Err r) said = said ≡ Err r
 
 -- `discover` ran, and says this of the devices
-abbrev pub SaysFound : Asking → Result (List ℕ) ToolRefusal → Told → Type 0
-SaysFound asking said t = (given : Result (List Seen) ToolRefusal) × RunsDiscovery given (ask_of asking) t × IsSaid found_text given said
+abbrev pub SaysFound : Discover → Result (List ℕ) ToolRefusal → Told → Type 0
+SaysFound asked said t = (given : Result (List Seen) ToolRefusal) × RunsDiscovery given (ask_of asked.asking) t × IsSaid (found_text asked.long) given said
 
 -- `stat` ran, and says this of them
-abbrev pub SaysStat : Asking → Result (List ℕ) ToolRefusal → Told → Type 0
-SaysStat asking said t = (given : Result (List Seen) ToolRefusal) × RunsStat given (ask_of asking) t × IsSaid stat_text given said
+abbrev pub SaysStat : Stat → Result (List ℕ) ToolRefusal → Told → Type 0
+SaysStat asked said t = (given : Result (List Seen) ToolRefusal) × RunsStat given (ask_of asked.asking) t × IsSaid (stat_text asked.sectors) given said
 
 -- `cfg` ran, and says this of the string
 abbrev pub SaysConfig : Cfg → Result (List ℕ) ToolRefusal → Told → Type 0
@@ -74,8 +76,8 @@ SaysFlush asked said t = (flushed : Result Unit ToolRefusal) × RunsFlush flushe
 
 -- a tool ran, and says this
 abbrev pub Says : Tool → Result (List ℕ) ToolRefusal → Told → Type 0
-Says (tool.Discover asking) said t = SaysFound asking said t
-Says (tool.Stat asking) said t = SaysStat asking said t
+Says (tool.Discover asked) said t = SaysFound asked said t
+Says (tool.Stat asked) said t = SaysStat asked said t
 Says (tool.Cfg asked) said t = SaysConfig asked said t
 Says (tool.Mask asked) said t = SaysMasks asked said t
 Says (tool.Reserve asked) said t = SaysReserves asked said t
@@ -83,8 +85,8 @@ Says (tool.Flush asked) said t = SaysFlush asked said t
 
 -- what a tool has to be given
 abbrev pub CanAsk : Tool → Type 0
-CanAsk (tool.Discover asking) = Unit {0}
-CanAsk (tool.Stat asking) = Unit {0}
+CanAsk (tool.Discover asked) = Unit {0}
+CanAsk (tool.Stat asked) = Unit {0}
 CanAsk (tool.Cfg asked) = asked.ccmd ≤ 4
 CanAsk (tool.Mask asked) = Unit {0}
 CanAsk (tool.Reserve asked) = asked.rcmd ≤ 2
@@ -148,5 +150,5 @@ pub record CopiesOut (asked : Get) (s : Status) (held held' : Option (List ℕ))
 -- `put` ran over a source, a link and a clock, and the status tells how it ended
 pub record CopiesIn (asked : Put) (s : Status) (left left' : Option (List ℕ)) (t : Told) : Type 0 where
   pub result : Result Unit CopyRefusal
-  pub runs : RunsPut result (ask_of asked.asking) asked.id asked.at t left left'
+  pub runs : RunsPut result (ask_of asked.asking) asked.id asked.at asked.verify t left left'
   pub ends : s ≡ copied result

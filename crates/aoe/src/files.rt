@@ -224,6 +224,24 @@ impl FileDisk {
         self.told("a read", answer)
     }
 
+    /// Reads once more where a signal interrupted the call, and else counts its failure. It stands
+    /// apart and takes the error, so that `read` makes no room for it.
+    #[cold]
+    #[inline(never)]
+    fn read_again(&mut self, offset: u64, error: io::Error, out: &mut [u8]) -> Result<(), Failed>
+        requires end { offset + length out.old < 2 ^ 64 }
+        ensures cause { OnErr result (Rose self.old.faults self.new.faults) }
+        ensures count { self.old.faults ≤ self.new.faults }
+        ensures sectors { self.new.sectors ≡ self.old.sectors }
+        ensures lost { self.new.is_lost ≡ self.old.is_lost }
+        ensures len { length out.new ≡ length out.old }
+    {
+        if error.kind() == ErrorKind::Interrupted {
+            return self.read_on(offset, 0, out);
+        }
+        Err(self.fail("a read", Some(&error)))
+    }
+
     /// Writes what a call left, of which the front `done` bytes were written. It stands apart as
     /// `read_on` does.
     #[cold]
@@ -238,6 +256,23 @@ impl FileDisk {
     {
         let answer = self.file.write_all_at(&piece[done..], offset + done as u64);
         self.told("a write", answer)
+    }
+
+    /// Writes once more where a signal interrupted the call, and else counts its failure. It stands
+    /// apart as `read_again` does.
+    #[cold]
+    #[inline(never)]
+    fn write_again(&mut self, offset: u64, error: io::Error, piece: &[u8]) -> Result<(), Failed>
+        requires end { offset + length piece.now < 2 ^ 64 }
+        ensures cause { OnErr result (Rose self.old.faults self.new.faults) }
+        ensures count { self.old.faults ≤ self.new.faults }
+        ensures sectors { self.new.sectors ≡ self.old.sectors }
+        ensures lost { self.new.is_lost ≡ self.old.is_lost }
+    {
+        if error.kind() == ErrorKind::Interrupted {
+            return self.write_on(offset, 0, piece);
+        }
+        Err(self.fail("a write", Some(&error)))
     }
 }
 
@@ -264,8 +299,7 @@ impl Disk for FileDisk {
         match self.file.read_at(out, offset) {
             Ok(n) if n == out.len() => Ok(()),
             Ok(n) => self.read_on(offset, n, out),
-            Err(error) if error.kind() == ErrorKind::Interrupted => self.read_on(offset, 0, out),
-            Err(error) => Err(self.fail("a read", Some(&error))),
+            Err(error) => self.read_again(offset, error, out),
         }
     }
 
@@ -290,8 +324,7 @@ impl Disk for FileDisk {
         match self.file.write_at(piece, offset) {
             Ok(n) if n == piece.len() => Ok(()),
             Ok(n) => self.write_on(offset, n, piece),
-            Err(error) if error.kind() == ErrorKind::Interrupted => self.write_on(offset, 0, piece),
-            Err(error) => Err(self.fail("a write", Some(&error))),
+            Err(error) => self.write_again(offset, error, piece),
         }
     }
 

@@ -4,7 +4,7 @@
 //! for; files are opened and locked, and then sockets and tap files; [`aoe`] runs the command over them,
 //! the standard streams and a clock; the text of its [`Status`] goes to standard error.
 //!
-//! `aoe` (`top`, with `plan`, `mirror`, `tools`, `live`, `switch` and `upkeep`) opens nothing and says no status;
+//! `aoe` (`top`, with `plan`, `mirror`, `tools`, `live`, `switch`, `upkeep` and `audit`) opens nothing and says no status;
 //! its contract is what the program promises. What a file, a socket, a stream and a clock do is in adapters (`files`,
 //! `wire`, `until`, `streams`, `clock`), which tell the proofs nothing of content; `progress` shows how far a
 //! mirror's start is. The program catches no signal and starts no thread.
@@ -15,6 +15,7 @@ ghost use Rattle.std.specs.List.{slice_split};
 ghost use Rattle.aoe_words.specs.Words.{file_names, port_words};
 
 mod arguments;
+mod audit;
 mod clock;
 mod files;
 mod live;
@@ -53,6 +54,12 @@ use wire::Wire;
 /// How much of standard input is read at a time, in bytes.
 const READ_AHEAD: usize = 65536;
 
+/// What is wrong with a text that spells no address, or not only addresses.
+const NO_ADDRESS: &[u8] = b": not an address as 127.0.0.1:7001";
+
+/// What is wrong with the file of no tap device.
+const NO_TAP: &[u8] = b": not a tap file";
+
 /// A folder that is always there.
 const ROOT: &str = "/";
 
@@ -65,26 +72,36 @@ fn tell_name(rt: &HostRuntime, wrong: &[u8], name: &[u8], code: u8) -> u8 {
     code
 }
 
-/// Says that what has this name can't be opened, and gives the exit status.
-fn tell_unopened(rt: &HostRuntime, name: &[u8], code: u8) -> u8 {
-    tell_name(rt, b"cannot open ", name, code)
-}
-
-/// Says that a file can't be opened, and the system's reason, and gives the exit status.
-fn tell_failed(rt: &HostRuntime, name: &[u8], error: &io::Error) -> u8 {
+/// Says that what has this name can't be opened, and why, and gives the exit status.
+fn tell_unopened(rt: &HostRuntime, name: &[u8], why: &[u8], code: u8) -> u8 {
     say(rt, b"aoe: cannot open ");
     say(rt, name);
-    if let Ok(reason) = format!(in rt.alloc(); ": {error}") {
-        say(rt, reason.as_bytes());
-    }
+    say(rt, why);
     say(rt, b"\n");
-    5
+    code
+}
+
+/// Says that what has this name can't be opened, and the system's reason, and gives the exit status.
+fn tell_failed(rt: &HostRuntime, name: &[u8], error: &io::Error, code: u8) -> u8 {
+    match format!(in rt.alloc(); ": {error}") {
+        Ok(reason) => tell_unopened(rt, name, reason.as_bytes(), code),
+        Err(_) => tell_unopened(rt, name, b"", code),
+    }
+}
+
+/// Says that a link can't be opened, and the system's reason by the number of its error, where it
+/// has one, and gives the exit status.
+fn tell_unlinked(rt: &HostRuntime, name: &[u8], error: Option<i32>) -> u8 {
+    match error {
+        Some(error) => tell_failed(rt, name, &io::Error::from_raw_os_error(error), 6),
+        None => tell_unopened(rt, name, b"", 6),
+    }
 }
 
 /// Says why the file with this name can't be a disk, and gives the exit status.
 fn tell_refused(rt: &HostRuntime, name: &[u8], refusal: FileRefusal) -> u8 {
     match refusal {
-        FileRefusal::Unopened(error) => tell_failed(rt, name, &error),
+        FileRefusal::Unopened(error) => tell_failed(rt, name, &error, 5),
         FileRefusal::Kind => tell_name(rt, b"neither a file nor a block device: ", name, 5),
         FileRefusal::InUse => tell_name(rt, b"in use: ", name, 5),
     }
@@ -110,11 +127,11 @@ fn hold_streams(rt: &HostRuntime) -> io::Result<(File, File, File)> {
 }
 
 /// Whether the file with this number is to be a keep: the last of a mirror's four, the only one of
-/// `keep`, and of any other command each second one.
+/// `audit` and `keep`, and of any other command each second one.
 fn is_keep(command: Option<&Command>, number: usize) -> bool {
     match command {
         Some(Command::Mirror(_)) => number == 3,
-        Some(Command::Keep(_)) => true,
+        Some(Command::Audit(_) | Command::Keep(_)) => true,
         _ => number % 2 == 1,
     }
 }
@@ -196,8 +213,9 @@ fn open_udp(
         }
         Err(OpenRefusal::NoMemory) => Err(tell(rt, Status::NoMemory)),
         Err(OpenRefusal::Vxlan) => Err(tell(rt, Status::Usage)),
-        Err(OpenRefusal::Local) => Err(tell_unopened(rt, local.bytes(), 6)),
-        Err(OpenRefusal::Peers) => Err(tell_unopened(rt, peers.bytes(), 6)),
+        Err(OpenRefusal::Local) => Err(tell_unopened(rt, local.bytes(), NO_ADDRESS, 6)),
+        Err(OpenRefusal::Peers) => Err(tell_unopened(rt, peers.bytes(), NO_ADDRESS, 6)),
+        Err(OpenRefusal::Unbound(error)) => Err(tell_unlinked(rt, local.bytes(), error)),
     }
 }
 
@@ -207,12 +225,13 @@ fn open_tap(rt: &HostRuntime, file: &Blob) -> Result<WireLink<Wire>, u8>
     ensures { IfOk result (λ link. link.peers ≡ 1) }
 {
     let Ok(name) = str::from_utf8(file.bytes()) else {
-        return Err(tell_unopened(rt, file.bytes(), 6));
+        return Err(tell_unopened(rt, file.bytes(), NO_TAP, 6));
     };
     match TapMedium::open(rt, rt.alloc(), name) {
         Ok(tap) => Ok(WireLink::new(Wire::Tap(tap), 1)),
         Err(TapRefusal::NoMemory) => Err(tell(rt, Status::NoMemory)),
-        Err(TapRefusal::Unopened) => Err(tell_unopened(rt, file.bytes(), 6)),
+        Err(TapRefusal::Unopened(error)) => Err(tell_unlinked(rt, file.bytes(), error)),
+        Err(TapRefusal::Kind) => Err(tell_unopened(rt, file.bytes(), NO_TAP, 6)),
         Err(TapRefusal::InUse) => Err(tell_name(rt, b"in use: ", file.bytes(), 6)),
     }
 }
@@ -388,7 +407,7 @@ fn run_words(rt: &HostRuntime, words: &[String]) -> u8 {
     };
     let _streams = match hold_streams(rt) {
         Ok(streams) => streams,
-        Err(error) => return tell_failed(rt, ROOT.as_bytes(), &error),
+        Err(error) => return tell_failed(rt, ROOT.as_bytes(), &error, 5),
     };
     run_named(rt, words, names.as_slice(), ends.as_slice(), stop)
 }

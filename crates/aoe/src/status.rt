@@ -1,7 +1,8 @@
 //! How a run ends.
 ghost use Rattle.std.specs.Prelude.{◌≡◌, IfOk};
-ghost use Rattle.aoe.specs.Ending.{code_of, limit_text, text_of, word_of};
+ghost use Rattle.aoe.specs.Ending.{code_of, finding_of, limit_text, text_of, word_of};
 
+use aoe_audit::Kind;
 use aoe_base::{Blob, NoMemory};
 use aoe_script::Why;
 use aoe_tools::{Refusal, ToolRefusal};
@@ -41,6 +42,12 @@ pub enum Status {
     Stream { offset: u64 },
     /// A limit of the program was reached.
     Limit(What),
+    /// The audit of a capture has a finding, at the record of that number, from 1.
+    Audit { number: u32, kind: Kind },
+    /// A capture begins with no header of a pcap file of Ethernet frames.
+    CaptureHead,
+    /// A capture ends within the record of that number, from 1, or the record is too long.
+    Capture { number: u32 },
     /// The two sides of a mirror have different numbers of sectors.
     MirrorSides { first: u64, second: u64 },
     /// The disk that says which side of a mirror leads has no sector.
@@ -60,6 +67,10 @@ pub enum What {
     FrameBytes,
     /// The input of a tool that copies sectors has more than 16,777,216 bytes.
     InputBytes,
+    /// A capture has more than 200,000 records.
+    Records,
+    /// The records of a capture have more than 536,870,912 captured bytes together.
+    CaptureBytes,
 }
 
 impl Status {
@@ -81,6 +92,8 @@ impl Status {
             Status::Refused(_) => 10,
             Status::Stream { .. } => 11,
             Status::Limit(_) => 12,
+            Status::Audit { .. } => 13,
+            Status::CaptureHead | Status::Capture { .. } => 14,
             Status::MirrorSides { .. } | Status::MirrorMark => 15,
         }
     }
@@ -104,6 +117,9 @@ impl Status {
             Status::Refused(refusal) => ToolRefusal::Refused(refusal).text(alloc),
             Status::Stream { offset } => stream_text(alloc, offset),
             Status::Limit(what) => limit_text(alloc, what),
+            Status::Audit { number, kind } => finding_text(alloc, number, kind),
+            Status::CaptureHead => Blob::of(alloc, b"aoe: capture header"),
+            Status::Capture { number } => record_text(alloc, number),
             Status::MirrorSides { first, second } => sides_text(alloc, first, second),
             Status::MirrorMark => Blob::of(alloc, b"aoe: mirror mark has no sector"),
         }
@@ -144,7 +160,37 @@ fn limit_text(alloc: Global, what: What) -> Result<Blob, NoMemory>
         What::Frames => Blob::of(alloc, b"aoe: limit: frames"),
         What::FrameBytes => Blob::of(alloc, b"aoe: limit: frame bytes"),
         What::InputBytes => Blob::of(alloc, b"aoe: limit: input bytes"),
+        What::Records => Blob::of(alloc, b"aoe: limit: records"),
+        What::CaptureBytes => Blob::of(alloc, b"aoe: limit: capture bytes"),
     }
+}
+
+/// What is wrong with a record, in one word.
+fn finding_of(kind: Kind) -> &'static str
+    ensures { result.now ≡ finding_of kind }
+{
+    match kind {
+        Kind::Short => "short",
+        Kind::Reply => "reply",
+        Kind::Missing => "missing",
+    }
+}
+
+/// The text for the finding of an audit.
+fn finding_text(alloc: Global, number: u32, kind: Kind) -> Result<Blob, NoMemory>
+    ensures { IfOk result (λ text. text ≡ text_of (Status.Audit number kind)) }
+{
+    let word = finding_of(kind);
+    let text = format!(in alloc; "aoe: capture record {number}: {word}")?;
+    Ok(Blob::from_vec(text.into_bytes()))
+}
+
+/// The text for a record of a capture that can't be read.
+fn record_text(alloc: Global, number: u32) -> Result<Blob, NoMemory>
+    ensures { IfOk result (λ text. text ≡ text_of (Status.Capture number)) }
+{
+    let text = format!(in alloc; "aoe: capture record {number}")?;
+    Ok(Blob::from_vec(text.into_bytes()))
 }
 
 /// The text for a bad stream.

@@ -1,6 +1,7 @@
 //! A reader as a source, and a writer as a sink. They tell nothing of what they give and take.
 ghost use Rattle.std.specs.Prelude.{◌≡◌, ◌≢◌, ◌<◌, ◌≤◌, ◌+◌, IfErr, IfOk, None, OnErr, OnOk, length};
 ghost use Rattle.std.specs.Io.{ReadsAtMost, WritesAtMost};
+ghost use Rattle.std.specs.Io.KnownBytes.{WriteAppends};
 ghost use Rattle.std.specs.IoError.{error_kind};
 ghost use Rattle.aoe_base.specs.Faults.{Rose};
 
@@ -28,8 +29,10 @@ fn read_through<R: Read>(reader: &mut R, buf: &mut [u8]) -> io::Result<usize>
 }
 
 /// Writes as the writer does, and again where a signal interrupts it.
+#[tactic(auto, using(crate::proofs::StreamLemmas::keeps_on, crate::proofs::StreamLemmas::writes_on))]
 fn write_through<W: Write>(writer: &mut W, piece: &[u8]) -> io::Result<usize>
     ensures bound { WritesAtMost result piece.now }
+    ensures bytes { WriteAppends (W.contents writer.old) (W.contents writer.new) result piece.now }
     ensures retried { IfErr result (λ e. error_kind e ≢ ErrorKind.Interrupted) }
 {
     'tries: for _ in 0..TRIES {
@@ -116,9 +119,12 @@ impl<W: Write> Output<W> {
     /// so that `write` is inlined.
     #[cold]
     #[inline(never)]
+    #[tactic(auto, using(crate::proofs::StreamLemmas::none_taken))]
     fn write_on(&mut self, piece: &[u8], is_interrupted: bool) -> Result<usize, Failed>
         ensures some { IfOk result (λ n. 0 < n) }
         ensures within { IfOk result (λ n. n ≤ length piece.now) }
+        ensures bytes { WriteAppends (W.contents self.old.writer) (W.contents self.new.writer)
+            result piece.now }
         ensures count { self.old.faults ≤ self.new.faults }
         ensures cause { OnErr result (Rose self.old.faults self.new.faults) }
         ensures no_fault { OnOk result (self.new.faults ≡ self.old.faults) }
@@ -141,7 +147,18 @@ impl<W: Write> Sink for Output<W> {
     ghost faults = { λ s. s.faults };
 
     #[inline(always)]
-    fn write(&mut self, piece: &[u8]) -> Result<usize, Failed> {
+    #[tactic(auto, using(crate::proofs::StreamLemmas::none_taken, crate::proofs::StreamLemmas::writes_on))]
+    fn write(&mut self, piece: &[u8]) -> Result<usize, Failed>
+        requires { 0 < length piece.now }
+        ensures some { IfOk result (λ n. 0 < n) }
+        ensures within { IfOk result (λ n. n ≤ length piece.now) }
+        ensures bytes { WriteAppends (W.contents self.old.writer) (W.contents self.new.writer)
+            result piece.now }
+        ensures count { self.old.faults ≤ self.new.faults }
+        ensures cause { OnErr result (Rose self.old.faults self.new.faults) }
+        ensures no_fault { OnOk result (self.new.faults ≡ self.old.faults) }
+        ensures one_fault { self.new.faults ≤ self.old.faults + 1 }
+    {
         let is_interrupted = match self.writer.write(piece) {
             Ok(n) if n > 0 => return Ok(n),
             Ok(_) => false,

@@ -15,7 +15,7 @@ use aoe_tools::{
     Ask, CopyRefusal, ToolRefusal, cfg, discover, flush, get, mask, print_config, print_found,
     print_masks, print_reserves, print_stat, put, reserve, stat,
 };
-use aoe_words::{Asking, Cfg, Flush, Get, Mask, Put, Reserve, Tool};
+use aoe_words::{Asking, Cfg, Discover, Flush, Get, Mask, Put, Reserve, Stat, Tool};
 use std::alloc::Global;
 
 /// Who asks, and how long it listens.
@@ -52,33 +52,33 @@ fn dirs_of(asked: &Mask) -> Option<&[Dir]>
 /// What `discover` says.
 fn say_found<L: Link, C: Clock>(
     alloc: Global,
-    asking: Asking,
+    asked: &Discover,
     link: &mut L,
     clock: &mut C,
 ) -> Result<Blob, ToolRefusal>
-    ensures run { SaysFound asking result
+    ensures run { SaysFound asked.now result
         (told C.least C.answers L.turns L.given L.taken clock.old clock.new link.old link.new) }
     ensures link { Blamed (result ≡ Err ToolRefusal.LinkFault) (L.faults link.old)
         (L.faults link.new) }
 {
-    let given = discover(alloc, &ask_of(asking), link, clock)?;
-    said(print_found(alloc, &given))
+    let given = discover(alloc, &ask_of(asked.asking), link, clock)?;
+    said(print_found(alloc, &given, asked.long))
 }
 
 /// What `stat` says.
 fn say_stat<L: Link, C: Clock>(
     alloc: Global,
-    asking: Asking,
+    asked: &Stat,
     link: &mut L,
     clock: &mut C,
 ) -> Result<Blob, ToolRefusal>
-    ensures run { SaysStat asking result
+    ensures run { SaysStat asked.now result
         (told C.least C.answers L.turns L.given L.taken clock.old clock.new link.old link.new) }
     ensures link { Blamed (result ≡ Err ToolRefusal.LinkFault) (L.faults link.old)
         (L.faults link.new) }
 {
-    let given = stat(alloc, &ask_of(asking), link, clock)?;
-    said(print_stat(alloc, &given))
+    let given = stat(alloc, &ask_of(asked.asking), link, clock)?;
+    said(print_stat(alloc, &given, asked.sectors))
 }
 
 /// What `cfg` says.
@@ -175,8 +175,8 @@ fn say<L: Link, C: Clock>(
         (L.faults link.new) }
 {
     match tool {
-        Tool::Discover(asking) => say_found(alloc, *asking, link, clock),
-        Tool::Stat(asking) => say_stat(alloc, *asking, link, clock),
+        Tool::Discover(asked) => say_found(alloc, asked, link, clock),
+        Tool::Stat(asked) => say_stat(alloc, asked, link, clock),
         Tool::Cfg(asked) => say_config(alloc, asked, link, clock),
         Tool::Mask(asked) => say_masks(alloc, asked, link, clock),
         Tool::Reserve(asked) => say_reserves(alloc, asked, link, clock),
@@ -288,7 +288,16 @@ pub(crate) fn run_put<S: Source, L: Link, C: Clock>(
     ensures alone { (port : ℕ) → result ≡ Status.LinkFault port → port ≡ 0 }
 {
     let ask = ask_of(asked.asking);
-    match put(alloc, &ask, asked.id, asked.at, source, link, clock) {
+    match put(
+        alloc,
+        &ask,
+        asked.id,
+        asked.at,
+        asked.verify,
+        source,
+        link,
+        clock,
+    ) {
         Ok(()) => Status::Ok,
         Err(refusal) => copy_status(refusal),
     }

@@ -10,6 +10,7 @@ ghost use Rattle.aoe_soak.specs.Soak.{soaked};
 ghost use Rattle.aoe_tools.specs.Runs.{told};
 ghost use Rattle.aoe_words.specs.Words.{CanSoak, IsInRange, command, file_count, file_names, is_word, link_count, port_words};
 ghost use Rattle.aoe_words.specs.declared.command.Answer.{Answer as Answers};
+ghost use Rattle.aoe_words.specs.declared.command.Audit.{Audit as Audits};
 ghost use Rattle.aoe_words.specs.declared.command.Serve.{Serve as Serves};
 ghost use Rattle.aoe_words.specs.declared.command.Get.{Get as Gets};
 ghost use Rattle.aoe_words.specs.declared.command.KeepAction.{KeepAction};
@@ -19,13 +20,15 @@ ghost use Rattle.aoe_words.specs.declared.command.Put.{Put as Puts};
 ghost use Rattle.aoe_words.specs.declared.command.Soak.{Soak as Soaks};
 ghost use Rattle.aoe_words.specs.declared.command.Tool.{Tool};
 ghost use Rattle.aoe_base.specs.Faults.{Blamed, Rose};
-ghost use Rattle.aoe.specs.Commands.{exports, is_live, is_mirror, is_upkeep, reads_input, uses_clock};
+ghost use Rattle.aoe.specs.Auditing.{RunsAudit};
+ghost use Rattle.aoe.specs.Commands.{exports, is_live, is_mirror, is_over_keep, reads_input, uses_clock};
 ghost use Rattle.aoe.specs.Keeping.{RunsKeep};
 ghost use Rattle.aoe.specs.Live.{AreBlamed, AtBoth, RunsLive, ends};
 ghost use Rattle.aoe.specs.Ending.{file_at, keep_at, refused_slot};
 ghost use Rattle.aoe.specs.Mirror.{RunsMirror};
 ghost use Rattle.aoe.specs.Run.{Asked, HasLists, HasReplayed, IsBad, IsGot, IsPut, IsSmall, NothingLoose, OnSlot, Ran, RanFiles, RanScript, RanSoak, Refused};
 
+use crate::audit::run_audit;
 use crate::live::run_live;
 use crate::mirror::run_mirror;
 use crate::plan::{answer_plan, refused_as, replayed_as, serve_plan, status_of};
@@ -141,9 +144,12 @@ fn run_command<S: Source, K: Sink, D: Disk + Drop, L: Link, C: Clock>(
         disks.old disks.new }
     ensures keeps { (action : KeepAction) → command ≡ Command.Keep action
         → RunsKeep D.state action result (K.held sink.old) (K.held sink.new) disks.old disks.new }
+    ensures audits { (asked : Audits) → command ≡ Command.Audit asked
+        → RunsAudit D.state asked result (S.left source.old) (S.left source.new) (K.held sink.old)
+        (K.held sink.new) disks.old disks.new }
     ensures memory { result ≡ Status.NoMemory → (reads_input (Some command) ≡ false
         → source.new ≡ source.old) × (sink.new ≡ sink.old)
-        × (is_mirror (Some command) ≡ false → is_upkeep (Some command) ≡ false → disks.new ≡ disks.old) × (uses_clock (Some command) ≡ false → links.new ≡ links.old) }
+        × (is_mirror (Some command) ≡ false → is_over_keep (Some command) ≡ false → disks.new ≡ disks.old) × (uses_clock (Some command) ≡ false → links.new ≡ links.old) }
     ensures asks { (tool : Tool) → command ≡ Command.Ask tool → Asked K.held (λ a b. told C.least C.answers L.turns L.given L.taken clock.old clock.new a b) tool result sink.old sink.new links.old links.new }
     ensures gets { (asked : Gets) → command ≡ Command.Get asked → IsGot K.held (λ a b. told C.least C.answers L.turns L.given L.taken clock.old clock.new a b) asked result sink.old sink.new links.old links.new }
     ensures puts { (asked : Puts) → command ≡ Command.Put asked → IsPut S.left (λ a b. told C.least C.answers L.turns L.given L.taken clock.old clock.new a b) asked result source.old source.new links.old links.new }
@@ -188,6 +194,7 @@ fn run_command<S: Source, K: Sink, D: Disk + Drop, L: Link, C: Clock>(
         Command::Get(asked) => run_get(alloc, &asked, sink, &mut links[0], clock),
         Command::Put(asked) => run_put(alloc, &asked, source, &mut links[0], clock),
         Command::Keep(action) => run_keep(alloc, action, sink, disks),
+        Command::Audit(asked) => run_audit(alloc, &asked, source, sink, disks),
     }
 }
 
@@ -232,6 +239,11 @@ fn run_command<S: Source, K: Sink, D: Disk + Drop, L: Link, C: Clock>(
 /// writes the lists in the format that is written now, and `lock` and `unlock` set and clear their
 /// read-only mark: every crash finds them so afterwards, and where a call of the disk fails it finds
 /// them as they were or so.
+///
+/// `audit SHELF SLOT SECTORS KEEP` mounts the keep of a target, as the first disk, and judges the capture
+/// that the source gives of its wire: the target had the lists of the keep when the capture began, and
+/// SECTORS sectors of which nothing is known. Where each of its replies is a written answer to its request
+/// and none is missing, a line with the counts goes to the sink.
 ///
 /// Of `answer` and `serve` the second disk of each pair is the keep of the target's lists. All keeps are mounted first, and
 /// where one is refused nothing is read, written or sent. At the end each store is synced, however
@@ -285,6 +297,11 @@ pub fn aoe<S: Source, K: Sink, D: Disk + Drop, L: Link, C: Clock>(
         → (result ≡ Status.NoMemory) × (sink.new ≡ sink.old) × (disks.new ≡ disks.old)
         ⊎ RunsKeep D.state action result (K.held sink.old) (K.held sink.new) disks.old disks.new }
 
+    // A capture of a target's wire is judged by the lists of its keep, or there was no memory to read its command.
+    ensures audits { (asked : Audits) → command (map string_bytes words.now) ≡ Some (Command.Audit asked)
+        → (result ≡ Status.NoMemory) × (source.new ≡ source.old) × (sink.new ≡ sink.old) × (disks.new ≡ disks.old)
+        ⊎ RunsAudit D.state asked result (S.left source.old) (S.left source.new) (K.held sink.old) (K.held sink.new) disks.old disks.new }
+
     // When a fault is told: an object whose fault isn't told had none, and one whose fault is told had one, since the first trouble ends
     // the run. Of a command that exports files as slots, the faults of files and keeps, and when a keep is refused.
     ensures source { Blamed (result ≡ Status.SourceFault) (S.faults source.old)
@@ -304,7 +321,7 @@ pub fn aoe<S: Source, K: Sink, D: Disk + Drop, L: Link, C: Clock>(
     ensures keep_bad { exports (command (map string_bytes words.now)) ≡ true → (slot bad : ℕ) → OnSlot (λ _ _ keep _. IfSome (D.state keep).contents (λ c.
         (result ≡ Status.KeepBad (keep_at slot) bad) ↔ IsBad (D.state keep) c result slot bad)) slot disks.old disks.new }
     ensures memory { result ≡ Status.NoMemory → (reads_input (command (map string_bytes words.now)) ≡ false → source.new ≡ source.old)
-        × (sink.new ≡ sink.old) × (is_mirror (command (map string_bytes words.now)) ≡ false → is_upkeep (command (map string_bytes words.now)) ≡ false
+        × (sink.new ≡ sink.old) × (is_mirror (command (map string_bytes words.now)) ≡ false → is_over_keep (command (map string_bytes words.now)) ≡ false
         → disks.new ≡ disks.old) × (uses_clock (command (map string_bytes words.now)) ≡ false → links.new ≡ links.old) }
 
     // What a tool asks, when it ends and what it says; or there was no memory to read its command.

@@ -3,7 +3,7 @@ ghost use Rattle.std.specs.Prelude.{◌≡◌, ◌≢◌, [], ◌∷◌, ℕ, Al
 ghost use Rattle.aoe_base.specs.Faults.{Blamed};
 ghost use Rattle.aoe_upkeep.specs.Upkeep.{IsCaused};
 ghost use Rattle.aoe.specs.Ending.{refused_slot};
-ghost use Rattle.aoe.specs.Keeping.{Acts, RunsKeep, upkept_as};
+ghost use Rattle.aoe.specs.Keeping.{Acts, RunsKeep, refused_alone, upkept_as};
 
 use crate::status::Status;
 use aoe_disk::Disk;
@@ -16,29 +16,35 @@ use std::alloc::Global;
 /// The number of the keep, which is the only disk.
 const KEEP: u32 = 0;
 
+/// The status of a run in which the keep on the only disk was refused.
+pub(crate) fn refused_alone(refusal: MountRefusal) -> Status
+    ensures { result ≡ refused_alone refusal }
+{
+    match refusal {
+        MountRefusal::Failed => Status::DiskFault { disk: KEEP },
+        MountRefusal::TooSmall { sectors } => Status::KeepSmall {
+            disk: KEEP,
+            sectors,
+        },
+        MountRefusal::BadKeep { slot } => Status::KeepBad { disk: KEEP, slot },
+    }
+}
+
 /// The status of a run that ended so.
 fn upkept_as(ended: Result<(), UpkeepStop>) -> Status
     ensures { result ≡ upkept_as ended }
 {
     match ended {
         Ok(()) => Status::Ok,
-        Err(UpkeepStop::Keep(MountRefusal::Failed) | UpkeepStop::Failed) => {
-            Status::DiskFault { disk: KEEP }
-        }
-        Err(UpkeepStop::Keep(MountRefusal::TooSmall { sectors })) => Status::KeepSmall {
-            disk: KEEP,
-            sectors,
-        },
-        Err(UpkeepStop::Keep(MountRefusal::BadKeep { slot })) => {
-            Status::KeepBad { disk: KEEP, slot }
-        }
+        Err(UpkeepStop::Keep(refusal)) => refused_alone(refusal),
+        Err(UpkeepStop::Failed) => Status::DiskFault { disk: KEEP },
         Err(UpkeepStop::NoMemory) => Status::NoMemory,
         Err(UpkeepStop::SinkFault) => Status::SinkFault,
     }
 }
 
 /// Takes the only disk.
-fn take_one<D: Disk + Drop>(disks: &mut [Option<D>]) -> D
+pub(crate) fn take_one<D: Disk + Drop>(disks: &mut [Option<D>]) -> D
     requires count { length disks.old ≡ 1 }
     requires there { All IsSome disks.old }
     ensures taken { disks.old ≡ Some result ∷ [] }
@@ -51,7 +57,7 @@ fn take_one<D: Disk + Drop>(disks: &mut [Option<D>]) -> D
 }
 
 /// Puts it back.
-fn put_one<D: Disk + Drop>(disks: &mut [Option<D>], disk: D)
+pub(crate) fn put_one<D: Disk + Drop>(disks: &mut [Option<D>], disk: D)
     requires { length disks.old ≡ 1 }
     ensures { disks.new ≡ Some disk ∷ [] }
 {

@@ -1,7 +1,7 @@
 mod Fates
-mod Histories
+pub mod Histories
 mod Fronts
-mod Growing
+pub mod Growing
 mod KnownLemmas
 mod AuditLemmas
 mod JudgeLemmas

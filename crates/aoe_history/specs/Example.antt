@@ -1,5 +1,5 @@
 -- The network of the worked cases: one slot of 16 sectors, and hosts that are attached to it.
-use Rattle.std.specs.Prelude.{ℕ, List, [], ◌∷◌, drop, replicate, Option, None}
+use Rattle.std.specs.Prelude.{ℕ, false, List, [], ◌∷◌, drop, replicate, Option, None}
 use Rattle.arrayvec.specs.ArrayVec.{ArrayVec}
 use Rattle.aoe_base.specs.declared.address.Mac.{Mac}
 use Rattle.aoe_base.specs.declared.address.TargetId.{TargetId}
@@ -25,7 +25,7 @@ device = record { major = 1; minor = 0 }
 
 -- the slot of a shelf with these ports, and of one with port 1 alone
 abbrev pub slot_at : List Mac → Option ℕ → SlotSetup
-slot_at shelf cache = slot_over (station_of device shelf 1500 16) cache
+slot_at shelf cache = slot_over (station_of device shelf 1500 16) cache false
 
 abbrev pub slot_with : Option ℕ → SlotSetup
 slot_with cache = slot_at (port 1 ∷ []) cache

@@ -30,9 +30,9 @@ pub record SlotSetup : Type 0 where
   pub cache : Option ℕ
   pub lists : Settings
 
--- a slot whose keep is empty at the beginning
-abbrev pub slot_over : Station → Option ℕ → SlotSetup
-slot_over station cache = record { station = station; cache = cache; lists = empty_settings }
+-- a slot whose keep has empty lists at the beginning, with the read-only mark or without it
+abbrev pub slot_over : Station → Option ℕ → (read_only : Bool) → SlotSetup
+slot_over station cache read_only = record { station = station; cache = cache; lists = record empty_settings { read_only = read_only } }
 
 -- how long frames can be handed over after their sending, the hosts in their order, and the slots of all shelves in
 -- theirs; times in milliseconds

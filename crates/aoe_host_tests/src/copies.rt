@@ -5,7 +5,7 @@ ghost use Rattle.aoe_io.specs.LinkMemory.{IsShort};
 use aoe_base::{Blob, Mac, NoMemory, TargetId};
 use aoe_frame::Frame;
 use aoe_io::{MemLink, MemSink, MemSource, SetClock};
-use aoe_tools::{Ask, CopyRefusal, flush, get, put};
+use aoe_tools::{Ask, CopyRefusal, Refusal, ToolRefusal, flush, get, put};
 use std::alloc::Global;
 use std::test::Fail;
 
@@ -101,13 +101,14 @@ fn gets_sectors(rt: HostRuntime) -> Result<(), Fail> {
 fn puts(
     alloc: Global,
     at: u64,
+    verify: bool,
     source: &mut MemSource,
     link: &mut MemLink,
     step: u64,
 ) -> Result<(), CopyRefusal> {
     let ask = Ask { port: A, turns: 50 };
     let mut clock = SetClock::new(0, step);
-    put(alloc, &ask, DEVICE, at, source, link, &mut clock)
+    put(alloc, &ask, DEVICE, at, verify, source, link, &mut clock)
 }
 
 /// Whether a frame was sent with these bytes behind its header.
@@ -125,7 +126,7 @@ fn puts_sectors(rt: HostRuntime) -> Result<(), Fail> {
     let turns: [Option<(u8, &[u8])>; 6] = [Some((1, &[])), None, None, None, None, Some((2, &[]))];
     let mut link = link_of(rt.alloc(), &turns)?;
     let mut source = MemSource::of(rt.alloc(), &[0x5a; 512])?;
-    let done = puts(rt.alloc(), 3, &mut source, &mut link, 500);
+    let done = puts(rt.alloc(), 3, false, &mut source, &mut link, 500);
     assert!(rt; done == Ok(()) && link.count() == 4);
     let write = [0x41, 0, 1, 0x34, 3, 0, 0, 0, 0, 0, 0, 0, 0x5a];
     let flush = [0x40, 0, 0, 0xea, 0, 0];
@@ -149,7 +150,66 @@ fn refuses_inputs(rt: HostRuntime) -> Result<(), Fail> {
     let mut link = link_of(rt.alloc(), &[])?;
     let mut source = MemSource::of(rt.alloc(), &[1; 1024])?;
     source.fail_at(2);
-    let failed = puts(rt.alloc(), 0, &mut source, &mut link, 10);
+    let failed = puts(rt.alloc(), 0, false, &mut source, &mut link, 10);
     assert!(rt; failed == Err(CopyRefusal::SourceFault) && link.count() == 0);
+    Ok(())
+}
+
+/// A sector whose first byte is this one, and whose others are zeros.
+fn sector(first: u8) -> [u8; 512] {
+    let mut bytes = [0; 512];
+    bytes[0] = first;
+    bytes
+}
+
+/// How a write of three sectors from sector 7 on ends that are read again, and come back as these.
+/// They are written by two commands and read by two, of which the second is answered first.
+fn verifies(alloc: Global, back: &[u8; 3]) -> Result<Result<(), CopyRefusal>, Fail> {
+    let mut sent = [0; 1536];
+    let mut read = [0; 1024];
+    sent[0] = 1;
+    sent[512] = 2;
+    sent[1024] = 3;
+    read[0] = back[0];
+    read[512] = back[1];
+    let last = sector(back[2]);
+    let turns: [Option<(u8, &[u8])>; 12] = [
+        Some((1, &[])),
+        Some((2, &[])),
+        None,
+        None,
+        None,
+        Some((3, &[])),
+        None,
+        None,
+        None,
+        None,
+        Some((5, &last)),
+        Some((4, &read)),
+    ];
+    let mut link = link_of(alloc, &turns)?;
+    let mut source = MemSource::of(alloc, &sent)?;
+    Ok(puts(alloc, 7, true, &mut source, &mut link, 500))
+}
+
+#[test]
+fn puts_sectors_and_reads_them_again(rt: HostRuntime) -> Result<(), Fail> {
+    let rows: [([u8; 3], Option<u64>); 5] = [
+        ([1, 2, 3], None),
+        ([9, 2, 3], Some(7)),
+        ([1, 9, 3], Some(8)),
+        ([1, 2, 9], Some(9)),
+        ([1, 9, 9], Some(8)),
+    ];
+    'rows: for (back, other) in &rows {
+        let ended = verifies(rt.alloc(), back)?;
+        let expected = match other {
+            Some(sector) => Err(CopyRefusal::Tool(ToolRefusal::Refused(Refusal::Differs {
+                sector: *sector,
+            }))),
+            None => Ok(()),
+        };
+        assert!(rt; ended == expected);
+    }
     Ok(())
 }

@@ -124,7 +124,7 @@ fn finds_devices(rt: HostRuntime) -> Result<(), Fail> {
     assert!(rt; found.count() == 2 && is_found(&found, 0, DEVICE, &ports));
     assert!(rt; is_found(&found, 1, other, &[Mac([2, 0, 0, 0, 0, 2])]));
     let text = b"e1.0 02:00:00:00:00:03,02:00:00:00:00:01\ne1.7 02:00:00:00:00:02\n";
-    let printed = print_found(rt.alloc(), &found)?;
+    let printed = print_found(rt.alloc(), &found, false)?;
     assert!(rt; printed.bytes() == text.as_slice());
     Ok(())
 }
@@ -139,13 +139,43 @@ fn page() -> [u8; 524] {
     page
 }
 
+/// What `discover` prints of a device with its config string, which is the front of "hi" that has
+/// this length in its last response, and was another before.
+fn long_text(alloc: Global, len: u8) -> Result<Blob, Fail> {
+    let earlier = [0, 16, 0, 1, 2, 0x10, 0, 1, b'?'];
+    let latest = [0, 16, 0, 1, 2, 0x10, 0, len, b'h', b'i'];
+    let turns: [Option<([u8; 5], &[u8])>; 4] = [
+        Some(([3, 0, 1, 0, 0], &earlier)),
+        Some(([3, 0, 1, 0, 0], &latest)),
+        None,
+        None,
+    ];
+    let mut link = link_of(alloc, &turns)?;
+    let found = discovered(alloc, &mut link)?;
+    Ok(print_found(alloc, &found, true)?)
+}
+
+#[test]
+fn prints_config_strings(rt: HostRuntime) -> Result<(), Fail> {
+    let rows: [(u8, &[u8]); 3] = [
+        (2, b"e1.0 02:00:00:00:00:03 hi\n"),
+        (1, b"e1.0 02:00:00:00:00:03 h\n"),
+        (0, b"e1.0 02:00:00:00:00:03 \n"),
+    ];
+    'rows: for (len, text) in &rows {
+        let printed = long_text(rt.alloc(), *len)?;
+        assert!(rt; printed.bytes() == *text);
+    }
+    Ok(())
+}
+
 /// What `stat` prints of what it finds in four turns.
-fn stat_text(alloc: Global, link: &mut MemLink) -> Result<Blob, Fail> {
+fn stat_text(alloc: Global, link: &mut MemLink, sectors: bool) -> Result<Blob, Fail> {
     let ask = Ask { port: A, turns: 4 };
     let Ok(found) = stat(alloc, &ask, link, &mut SetClock::new(0, 10)) else {
         return Err(Fail::from("no device was found"));
     };
-    Ok(print_stat(alloc, &found)?)
+    Ok(print_stat(alloc, &found, sectors)?)
 }
 
 #[test]
@@ -161,16 +191,26 @@ fn asks_for_pages(rt: HostRuntime) -> Result<(), Fail> {
         Some(([2, 1, 0, 0, 1], &page)),
         Some(([2, 1, 0, 6, 2], &[])),
     ];
-    let mut link = link_of(rt.alloc(), &turns)?;
-    let printed = stat_text(rt.alloc(), &mut link)?;
-    let text =
-        b"e1.0 2.048GB 02:00:00:00:00:01 up\ne1.1 - 02:00:00:00:00:02 reserved\ne1.2 - 02:00:00:00:00:03 silent\n";
-    assert!(rt; printed.bytes() == text.as_slice());
+    let rows: [(bool, &[u8]); 2] = [
+        (
+            true,
+            b"e1.0 4000000 02:00:00:00:00:01 up\ne1.1 - 02:00:00:00:00:02 reserved\ne1.2 - 02:00:00:00:00:03 silent\n",
+        ),
+        (
+            false,
+            b"e1.0 2.048GB 02:00:00:00:00:01 up\ne1.1 - 02:00:00:00:00:02 reserved\ne1.2 - 02:00:00:00:00:03 silent\n",
+        ),
+    ];
     let begin = [
         2, 0, 0, 0, 0, 3, 2, 0, 0, 0, 0, 0x0a, 0x88, 0xa2, 0x10, 0, 0, 1, 2, 0, 0x80, 0, 0, 3, 0,
         0, 1, 0xec,
     ];
-    assert!(rt; link.count() == 4 && last(&link).starts_with(&begin));
+    'rows: for (sectors, text) in &rows {
+        let mut link = link_of(rt.alloc(), &turns)?;
+        let printed = stat_text(rt.alloc(), &mut link, *sectors)?;
+        assert!(rt; printed.bytes() == *text);
+        assert!(rt; link.count() == 4 && last(&link).starts_with(&begin));
+    }
     Ok(())
 }
 

@@ -2,13 +2,13 @@
 ghost use Rattle.std.specs.Prelude.{◌≡◌, ◌≢◌, ◌++◌, ◌<◌, ◌≤◌, ◌+◌, ◌^◌, [], length, take, Err, IfErr, IfOk, OnErr, OnOk};
 ghost use Rattle.aoe_base.specs.Faults.{Rose};
 ghost use Rattle.aoe_io.specs.Bytes.{Gave, GaveSome, IsEnded};
-ghost use Rattle.aoe_io.specs.Input.{IsReadUpTo};
+ghost use Rattle.aoe_io.specs.Input.{IsReadInPart, IsReadUpTo};
 
-use crate::Source;
+use crate::{Source, fill_from};
 use aoe_base::Failed;
 use std::alloc::Global;
 
-/// The most bytes of a read.
+/// How many bytes an input grows by.
 const PIECE: usize = 65_536;
 
 /// Why a source wasn't read to its end.
@@ -21,7 +21,8 @@ pub enum InputRefusal {
     Fault,
 }
 
-/// Adds the next bytes of the source to an input, and says how many: none only at its end.
+/// Adds the next bytes of the source to an input, as many as the buffer has, and says how many: fewer
+/// only where the source ends. Room for them is asked for before they are read.
 fn read_piece<S: Source>(
     source: &mut S,
     buffer: &mut [u8],
@@ -32,7 +33,8 @@ fn read_piece<S: Source>(
     ensures gave { IfOk result (λ n. Gave (S.left source.old) (S.left source.new)
         (take n buffer.new)) }
     ensures added { IfOk result (λ n. input.new.items ≡ input.old.items ++ take n buffer.new) }
-    ensures end { IfOk result (λ n. n ≡ 0 → IsEnded (S.left source.old)) }
+    ensures end { IfOk result (λ n. n < length buffer.old → IsEnded (S.left source.new)) }
+    ensures memory { result ≡ Err InputRefusal.NoMemory → source.new ≡ source.old }
     ensures unread { OnErr result (GaveSome (S.left source.old) (S.left source.new)) }
     ensures count { S.faults source.old ≤ S.faults source.new }
     ensures cause { result ≡ Err InputRefusal.Fault
@@ -42,13 +44,17 @@ fn read_piece<S: Source>(
         → S.faults source.new ≡ S.faults source.old) }
     ensures one_fault { S.faults source.new ≤ S.faults source.old + 1 }
 {
-    let n = match source.read(buffer) {
+    match input.reserve(buffer.len()) {
+        Ok(()) => {}
+        Err(_) => return Err(InputRefusal::NoMemory),
+    }
+    let n = match fill_from(source, buffer) {
         Ok(n) => n,
         Err(Failed) => return Err(InputRefusal::Fault),
     };
     match input.extend_from_slice(&buffer[..n]) {
         Ok(()) => Ok(n),
-        Err(_) => Err(InputRefusal::NoMemory),
+        Err(_) => unreachable!(),
     }
 }
 
@@ -59,11 +65,12 @@ fn read_pieces<S: Source>(
     buffer: &mut [u8],
     input: &mut Vec<u8>,
 ) -> Result<(), InputRefusal>
-    requires some { 0 < length buffer.old }
-    requires few { length buffer.old ≤ 65536 }
+    requires piece { length buffer.old ≡ 65536 }
     requires empty { input.old.items ≡ [] }
     ensures read { IfOk result (λ _. IsReadUpTo most (S.left source.old)
         (S.left source.new) input.new.items) }
+    ensures memory { result ≡ Err InputRefusal.NoMemory
+        → IsReadInPart most (S.left source.old) (S.left source.new) }
     ensures unread { OnErr result (GaveSome (S.left source.old) (S.left source.new)) }
     ensures count { S.faults source.old ≤ S.faults source.new }
     ensures cause { result ≡ Err InputRefusal.Fault
@@ -75,7 +82,7 @@ fn read_pieces<S: Source>(
 {
     'pieces: while input.len() <= most {
         match read_piece(source, buffer, input) {
-            Ok(0) => return Ok(()),
+            Ok(n) if n < buffer.len() => return Ok(()),
             Ok(_) => {}
             Err(refusal) => return Err(refusal),
         }
@@ -84,6 +91,7 @@ fn read_pieces<S: Source>(
 }
 
 /// The bytes that the source gives up to its end, or more than `most`, and then at most 65,536 more.
+/// Memory is asked for while there are `most` at most, for a piece that wasn't read yet.
 pub fn read_up_to<S: Source>(
     alloc: Global,
     source: &mut S,
@@ -91,6 +99,8 @@ pub fn read_up_to<S: Source>(
 ) -> Result<Vec<u8>, InputRefusal>
     ensures read { IfOk result (λ bytes. IsReadUpTo most (S.left source.old)
         (S.left source.new) bytes.items) }
+    ensures memory { result ≡ Err InputRefusal.NoMemory
+        → IsReadInPart most (S.left source.old) (S.left source.new) }
     ensures unread { OnErr result (GaveSome (S.left source.old) (S.left source.new)) }
     ensures count { S.faults source.old ≤ S.faults source.new }
     ensures cause { result ≡ Err InputRefusal.Fault

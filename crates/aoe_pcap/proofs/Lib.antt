@@ -1,4 +1,4 @@
 mod CutLemmas
-mod HeadLemmas
+pub mod HeadLemmas
 mod NumberLemmas
 pub mod RecordLemmas

@@ -75,7 +75,7 @@ pub record IsCapture (bytes : List ℕ) (head : FileHead) (packets : List Packet
 
 -- a packet is a frame, whole or cut short, where no more than the longest frame was captured
 abbrev pub kind : ℕ → ℕ → Record
-kind captured original = if nat_lt 9018 captured then record_is.Long else if nat_lt captured original then record_is.Short else record_is.Whole
+kind captured original = if nat_lt 9018 captured then record_is.Long captured else if nat_lt captured original then record_is.Short else record_is.Whole
 
 -- the bytes of that frame
 abbrev pub frame_of : List ℕ → List ℕ

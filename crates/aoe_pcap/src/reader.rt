@@ -26,7 +26,7 @@ pub enum Record {
     Short,
 
     /// More bytes than a frame has. They were read past.
-    Long,
+    Long { captured: u32 },
 
     /// There is none: the file ends.
     End,
@@ -60,7 +60,9 @@ impl Lengths {
         ensures { result ≡ kind self.captured self.original }
     {
         if self.captured as usize > MAX_FRAME {
-            Record::Long
+            Record::Long {
+                captured: self.captured,
+            }
         } else if self.captured < self.original {
             Record::Short
         } else {

@@ -205,7 +205,7 @@ fn reads_past_a_long_record(rt: HostRuntime) -> Result<(), Fail> {
     let mut input = [0; 48 + 9018 + 9019];
     put_lengths(&mut input);
     let long = Read {
-        is: Ok(Record::Long),
+        is: Ok(Record::Long { captured: 9019 }),
         frame: b"",
     };
     let mut source = MemSource::of(rt.alloc(), &input)?;

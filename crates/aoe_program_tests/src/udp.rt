@@ -157,7 +157,8 @@ fn says_why_a_link_is_not_open(rt: HostRuntime) -> Result<(), Fail> {
     let cases = [
         (OpenRefusal::NoMemory, "no memory"),
         (OpenRefusal::Peers, "no addresses of peers"),
-        (OpenRefusal::Local, "no local socket"),
+        (OpenRefusal::Local, "no local address"),
+        (OpenRefusal::Unbound(Some(98)), "no local socket"),
         (OpenRefusal::Vxlan, "no number of a network"),
     ];
     for (refusal, told) in &cases {

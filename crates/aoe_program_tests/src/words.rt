@@ -6,8 +6,9 @@ use aoe_base::{Blob, Mac, NoMemory, Ports, TargetId};
 use aoe_lists::Dir;
 use aoe_vlan::PortKind;
 use aoe_words::{
-    Answer, Asking, Cfg, Command, Flush, Get, Live, Mask, PortKinds, PortWords, Put, Reserve,
-    Serve, Soak, Switch, Tool, files_of, ports_of, read_words, slip_of, stop_of,
+    Answer, Asking, Audit, Cfg, Command, Discover, Flush, Get, Live, Mask, PortKinds, PortWords,
+    Put, Reserve, Serve, Soak, Stat, Switch, Tool, files_of, ports_of, read_words, slip_of,
+    stop_of,
 };
 use arrayvec::ArrayVec;
 use std::alloc::{AllocError, Global};
@@ -213,6 +214,16 @@ fn serve(
     })
 }
 
+/// What `audit` asks for.
+fn audit(major: u16, minor: u8, macs: &[Mac], mtu: u32, sectors: u64) -> Command {
+    Command::Audit(Audit {
+        id: TargetId { major, minor },
+        ports: ports(macs),
+        mtu,
+        sectors,
+    })
+}
+
 /// What `live` asks for.
 fn live(sectors: u32, count: u32, turns: u32) -> Command {
     Command::Live(Live {
@@ -248,6 +259,16 @@ fn asking() -> Asking {
         port: mac(10),
         turns: 50,
     }
+}
+
+/// What `discover` asks for.
+fn discover(asking: Asking, long: bool) -> Command {
+    Command::Ask(Tool::Discover(Discover { asking, long }))
+}
+
+/// What `stat` asks for.
+fn stat(asking: Asking, sectors: bool) -> Command {
+    Command::Ask(Tool::Stat(Stat { asking, sectors }))
 }
 
 /// The device that the tools ask.
@@ -323,7 +344,7 @@ fn get(at: u64, count: u32, turns: u32) -> Command {
 }
 
 /// What `put` asks of the device.
-fn put(at: u64, turns: u32) -> Command {
+fn put(at: u64, turns: u32, verify: bool) -> Command {
     let asking = Asking {
         port: mac(10),
         turns,
@@ -332,6 +353,7 @@ fn put(at: u64, turns: u32) -> Command {
         asking,
         id: device(),
         at,
+        verify,
     })
 }
 
@@ -342,6 +364,7 @@ fn names_files_and_links(rt: HostRuntime) -> Result<(), Fail> {
         ("soak 7 2000", ""),
         ("answer 1 --mtu 1500 0 disk keep", "disk keep"),
         ("capture 1 --mtu 1500 0 disk keep", "disk keep"),
+        ("audit 1 --mtu 1500 0 16 keep", "keep"),
         (
             "serve 1 d0 k0 --local 0.0.0.0:1 d1 --peers 10.0.0.1:1 k1",
             "d0 k0 d1 k1 0.0.0.0:1>10.0.0.1:1",

@@ -9,7 +9,7 @@ use Rattle.aoe_base.specs.declared.address.Mac.{Mac}
 use Rattle.aoe_base.specs.Addresses.{all_unique, is_individual}
 use Rattle.aoe_script.specs.declared.line.Line.TheVariants.{Declares}
 use Rattle.aoe_script.specs.declared.setup.Setup.{Setup}
-use Rattle.aoe_script.specs.declared.setup.Setup.TheVariants.{Life, Shelf, Slot, Host, Attach}
+use Rattle.aoe_script.specs.declared.setup.Setup.TheVariants.{Life, Shelf, Slot, Host, Attach, Readonly}
 use Rattle.aoe_script.specs.Classes.{is_name}
 use Rattle.aoe_script.specs.Forms.{said}
 use Rattle.aoe_script.specs.Print.{setup_words}
@@ -94,3 +94,7 @@ module _ (law : AddressLaw) where
       let g = and_parts (is_name host) (is_name shelf) h.0 in
       let low = small_of 254 minor (lit< tt) h.1 in
       rw (name_back host g.0, name_back shelf g.1, number_is minor low, name_word host g.0, name_word shelf g.1, number_word minor low) refl
+  setup_is (Readonly shelf minor) e fits =
+      let h = and_parts (is_name shelf) (nat_le minor 254) e in
+      let low = small_of 254 minor (lit< tt) h.1 in
+      rw (name_back shelf h.0, number_is minor low, name_word shelf h.0, number_word minor low) refl

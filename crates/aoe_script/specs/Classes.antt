@@ -16,7 +16,7 @@ use Rattle.aoe_lists.specs.Settings.{max_directives}
 use Rattle.aoe_script.specs.declared.event.Which.{Which}
 use Rattle.aoe_script.specs.declared.event.Which.TheVariants.{Store, Keep}
 use Rattle.aoe_script.specs.declared.keyword.Keyword.{Keyword}
-use Rattle.aoe_script.specs.declared.keyword.Keyword.TheVariants.{Life, Shelf, Slot, Host, Attach, Read, Write, Flush, Identify, Config, Masks, Reserve, Tick, Deliver, Pass, Skip, Again, Inject, Fail, Stop, Crash}
+use Rattle.aoe_script.specs.declared.keyword.Keyword.TheVariants.{Life, Shelf, Slot, Host, Attach, Readonly, Read, Write, Flush, Identify, Config, Masks, Reserve, Tick, Deliver, Pass, Skip, Again, Inject, Fail, Stop, Crash}
 use Rattle.aoe_script.specs.Tables.{listed}
 use Rattle.aoe_script.specs.Words.{Text}
 
@@ -91,6 +91,7 @@ dirs_of text = at_most max_directives (each dir_of (slice_split (λ c. c == 44) 
 abbrev pub keywords : List (Text × Keyword)
 keywords =
     (codes "life", Life) ∷ (codes "shelf", Shelf) ∷ (codes "slot", Slot) ∷ (codes "host", Host) ∷ (codes "attach", Attach)
+    ∷ (codes "readonly", Readonly)
     ∷ (codes "read", Read) ∷ (codes "write", Write) ∷ (codes "flush", Flush) ∷ (codes "identify", Identify)
     ∷ (codes "config", Config) ∷ (codes "masks", Masks) ∷ (codes "reserve", Reserve)
     ∷ (codes "tick", Tick) ∷ (codes "deliver", Deliver) ∷ (codes "pass", Pass) ∷ (codes "skip", Skip) ∷ (codes "again", Again) ∷ (codes "inject", Inject)

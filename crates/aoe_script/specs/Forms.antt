@@ -10,11 +10,11 @@ use Rattle.aoe_script.specs.declared.event.Event.{Event}
 use Rattle.aoe_script.specs.declared.event.Event.TheVariants.{Read, Write, Flush, Identify, Config, Masks, Reserve, Tick, Deliver, Pass, Skip, Again, Inject, Fail, Stop, Crash}
 use Rattle.aoe_script.specs.declared.refusal.Why.TheVariants.{Word, Value}
 use Rattle.aoe_script.specs.declared.setup.Setup.{Setup}
-use Rattle.aoe_script.specs.declared.setup.Setup.TheVariants.{Life, Shelf, Slot, Host, Attach}
+use Rattle.aoe_script.specs.declared.setup.Setup.TheVariants.{Life, Shelf, Slot, Host, Attach, Readonly}
 use Rattle.aoe_script.specs.declared.line.Line.{Line}
 use Rattle.aoe_script.specs.declared.line.Line.TheVariants.{Blank, Declares, Asks, Bad}
 use Rattle.aoe_script.specs.declared.keyword.Keyword.{Keyword}
-use Rattle.aoe_script.specs.declared.keyword.Keyword.TheVariants.{Life as LifeLine, Shelf as ShelfLine, Slot as SlotLine, Host as HostLine, Attach as AttachLine, Read as ReadLine, Write as WriteLine, Flush as FlushLine, Identify as IdentifyLine, Config as ConfigLine, Masks as MasksLine, Reserve as ReserveLine, Tick as TickLine, Deliver as DeliverLine, Pass as PassLine, Skip as SkipLine, Again as AgainLine, Inject as InjectLine, Fail as FailLine, Stop as StopLine, Crash as CrashLine}
+use Rattle.aoe_script.specs.declared.keyword.Keyword.TheVariants.{Life as LifeLine, Shelf as ShelfLine, Slot as SlotLine, Host as HostLine, Attach as AttachLine, Readonly as ReadonlyLine, Read as ReadLine, Write as WriteLine, Flush as FlushLine, Identify as IdentifyLine, Config as ConfigLine, Masks as MasksLine, Reserve as ReserveLine, Tick as TickLine, Deliver as DeliverLine, Pass as PassLine, Skip as SkipLine, Again as AgainLine, Inject as InjectLine, Fail as FailLine, Stop as StopLine, Crash as CrashLine}
 use Rattle.aoe_script.specs.Classes.{byte_of, bytes_of, ccmd_of, dirs_of, edit_of, keyword_of, list_of, mode_of, name_of, number, ports_of, rcmd_of, which_of}
 use Rattle.aoe_script.specs.Words.{Text, few_words, word_at}
 
@@ -57,6 +57,10 @@ abbrev pub attach_of : List Text → Option Setup
 attach_of ws =
     option_and_then (λ host. option_and_then (λ shelf. option_map (λ minor. Attach host shelf minor)
     (number (word_at ws 3))) (name_of (word_at ws 2))) (name_of (word_at ws 1))
+
+-- readonly SHELF MINOR
+abbrev pub readonly_of : List Text → Option Setup
+readonly_of ws = option_and_then (λ shelf. option_map (λ minor. Readonly shelf minor) (number (word_at ws 2))) (name_of (word_at ws 1))
 
 -- ---- submissions
 
@@ -167,6 +171,7 @@ row_of ShelfLine ws = declares (length ws == 5) (shelf_of ws)
 row_of SlotLine ws = declares (length ws == 4 || length ws == 5) (slot_of ws)
 row_of HostLine ws = declares (length ws == 3 || length ws == 5) (host_of ws)
 row_of AttachLine ws = declares (length ws == 4) (attach_of ws)
+row_of ReadonlyLine ws = declares (length ws == 3) (readonly_of ws)
 row_of ReadLine ws = asks (length ws == 5) (read_of ws)
 row_of WriteLine ws = asks (length ws == 6) (write_of ws)
 row_of FlushLine ws = asks (length ws == 3) (flush_of ws)

@@ -13,7 +13,7 @@ use Rattle.aoe_script.specs.declared.event.Event.TheVariants.{Read, Write, Flush
 use Rattle.aoe_script.specs.declared.event.Which.{Which}
 use Rattle.aoe_script.specs.declared.event.Which.TheVariants.{Store, Keep}
 use Rattle.aoe_script.specs.declared.setup.Setup.{Setup}
-use Rattle.aoe_script.specs.declared.setup.Setup.TheVariants.{Life, Shelf, Slot, Host, Attach}
+use Rattle.aoe_script.specs.declared.setup.Setup.TheVariants.{Life, Shelf, Slot, Host, Attach, Readonly}
 use Rattle.aoe_script.specs.Lines.{ScriptLines}
 use Rattle.aoe_script.specs.Words.{Text}
 
@@ -38,10 +38,15 @@ digits_text mac = bytes_text mac.0
 abbrev pub addresses_text : List Mac → Text
 addresses_text macs = if length macs == 0 then codes "-" else join_with_byte 44 (map digits_text macs)
 
--- the lists of a device, each behind its name
+-- the word of lists with the read-only mark
+abbrev pub mark_words : Bool → List Text
+mark_words read_only = if read_only then codes "read-only" ∷ [] else []
+
+-- the lists of a device, each behind its name, and their mark
 abbrev pub lists_words : Settings → List Text
 lists_words lists =
-    codes "config" ∷ bytes_text lists.config ∷ codes "masks" ∷ addresses_text lists.masks ∷ codes "reserves" ∷ addresses_text lists.reserves ∷ []
+    codes "config" ∷ bytes_text lists.config ∷ codes "masks" ∷ addresses_text lists.masks ∷ codes "reserves" ∷ addresses_text lists.reserves
+    ∷ mark_words lists.read_only
 
 abbrev pub which_text : Which → Text
 which_text Store = codes "store"
@@ -84,6 +89,7 @@ setup_words (Shelf name major ports mtu) = codes "shelf" ∷ name.items ∷ deci
 setup_words (Slot shelf minor sectors room) = codes "slot" ∷ shelf.items ∷ decimal minor ∷ decimal sectors ∷ optional_word room
 setup_words (Host name ports room dead) = codes "host" ∷ name.items ∷ macs_text ports.items ∷ (optional_word room ++ optional_word dead)
 setup_words (Attach host shelf minor) = codes "attach" ∷ host.items ∷ shelf.items ∷ decimal minor ∷ []
+setup_words (Readonly shelf minor) = codes "readonly" ∷ shelf.items ∷ decimal minor ∷ []
 
 abbrev pub event_words : Event → List Text
 event_words (Read host dev at count) = codes "read" ∷ host.items ∷ device_text dev ∷ decimal at ∷ decimal count ∷ []

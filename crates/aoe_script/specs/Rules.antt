@@ -12,7 +12,7 @@ use Rattle.aoe_script.specs.declared.event.Event.TheVariants.{Read, Write, Flush
 use Rattle.aoe_script.specs.declared.refusal.Why.{Why}
 use Rattle.aoe_script.specs.declared.refusal.Why.TheVariants.{Value, Place, Repeat, Size, Unknown, Station}
 use Rattle.aoe_script.specs.declared.setup.Setup.{Setup}
-use Rattle.aoe_script.specs.declared.setup.Setup.TheVariants.{Life, Shelf, Slot, Host, Attach}
+use Rattle.aoe_script.specs.declared.setup.Setup.TheVariants.{Life, Shelf, Slot, Host, Attach, Readonly}
 use Rattle.aoe_script.specs.Classes.{is_name}
 
 -- ---- ranges
@@ -52,6 +52,7 @@ is_setup (Shelf name major ports mtu) = is_name name && nat_le major 65534 && ar
 is_setup (Slot shelf minor sectors room) = is_name shelf && nat_le minor 254 && is_within 1 65536 sectors && is_cache room
 is_setup (Host name ports room dead) = is_name name && are_ports ports && is_limit room dead
 is_setup (Attach host shelf minor) = is_name host && is_name shelf && nat_le minor 254
+is_setup (Readonly shelf minor) = is_name shelf && nat_le minor 254
 
 -- a host and a device
 abbrev pub is_asked : ArrayVec ℕ → TargetId → Bool
@@ -138,6 +139,11 @@ abbrev pub attaches : ArrayVec ℕ → ArrayVec ℕ → ℕ → Setup → Bool
 attaches host shelf minor (Attach a b number) = number == minor && same a host && same b shelf
 attaches host shelf minor _ = false
 
+-- it marks this slot as read-only
+abbrev pub marks : ArrayVec ℕ → ℕ → Setup → Bool
+marks shelf minor (Readonly other number) = number == minor && same other shelf
+marks shelf minor _ = false
+
 -- it declares the device's shelf, of which all these lines declare the slot
 abbrev pub has_device : List Setup → TargetId → Setup → Bool
 has_device setups dev (Shelf name major ports mtu) = major == dev.major && list_any (is_slot name dev.minor) setups
@@ -183,6 +189,7 @@ declared_why setups (Slot shelf minor sectors room) =
 declared_why setups (Host name ports room dead) = first_of (is_taken setups name ports.items) (is_full is_host setups) false
 declared_why setups (Attach host shelf minor) =
     first_of (list_any (attaches host shelf minor) setups) false (not (list_any (is_host_named host) setups && list_any (is_slot shelf minor) setups))
+declared_why setups (Readonly shelf minor) = first_of (list_any (marks shelf minor) setups) false (not (list_any (is_slot shelf minor) setups))
 
 -- the cause, where it holds, before the others
 abbrev pub unless : Bool → Why → Option Why → Option Why

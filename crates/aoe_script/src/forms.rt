@@ -1,6 +1,6 @@
 //! The forms of setup lines.
 ghost use Rattle.std.specs.Prelude.{◌≡◌};
-ghost use Rattle.aoe_script.specs.Forms.{attach_of, host_of, life_of, optional_number, shelf_of, slot_of};
+ghost use Rattle.aoe_script.specs.Forms.{attach_of, host_of, life_of, optional_number, readonly_of, shelf_of, slot_of};
 
 use crate::parts::ports_of;
 use crate::setup::Setup;
@@ -70,5 +70,15 @@ pub(crate) fn attach_of(words: &Words) -> Option<Setup>
         host: words.name(1)?,
         shelf: words.name(2)?,
         minor: words.number(3)?,
+    })
+}
+
+/// `readonly SHELF MINOR`
+pub(crate) fn readonly_of(words: &Words) -> Option<Setup>
+    ensures { result ≡ readonly_of words.now }
+{
+    Some(Setup::Readonly {
+        shelf: words.name(1)?,
+        minor: words.number(2)?,
     })
 }

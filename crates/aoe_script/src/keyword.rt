@@ -12,6 +12,7 @@ pub enum Keyword {
     Slot,
     Host,
     Attach,
+    Readonly,
     Read,
     Write,
     Flush,
@@ -31,12 +32,13 @@ pub enum Keyword {
 }
 
 /// The first words.
-const KEYWORDS: [(&[u8], Keyword); 21] = [
+const KEYWORDS: [(&[u8], Keyword); 22] = [
     (b"life", Keyword::Life),
     (b"shelf", Keyword::Shelf),
     (b"slot", Keyword::Slot),
     (b"host", Keyword::Host),
     (b"attach", Keyword::Attach),
+    (b"readonly", Keyword::Readonly),
     (b"read", Keyword::Read),
     (b"write", Keyword::Write),
     (b"flush", Keyword::Flush),

@@ -136,6 +136,9 @@ fn put_setup(out: &mut Vec<u8>, setup: &Setup) -> Result<(), NoMemory>
                 &[Word::Name(host), Word::Name(shelf), Word::Number(*minor)],
             )
         }
+        Setup::Readonly { shelf, minor } => {
+            put_words(out, b"readonly", &[Word::Name(shelf), Word::Number(*minor)])
+        }
     }
 }
 

@@ -157,6 +157,7 @@ impl Setup {
             Setup::Attach { host, shelf, minor } => {
                 is_name(host) && is_name(shelf) && *minor <= LAST_MINOR
             }
+            Setup::Readonly { shelf, minor } => is_name(shelf) && *minor <= LAST_MINOR,
         }
     }
 }

@@ -2,7 +2,7 @@
 ghost use Rattle.std.specs.Prelude.{◌≡◌, ◌≤◌, true, false, not, ◌||◌, ◌&&◌, length, None};
 ghost use Rattle.std.specs.List.{list_any};
 ghost use Rattle.aoe_base.specs.Addresses.{source_of};
-ghost use Rattle.aoe_script.specs.Rules.{are_too_many, attaches, declared_why, event_why, first_of, has_major, is_event, is_full, is_host_named, is_shelf, is_shelf_named, is_slot, is_slot_of, is_taken, named_why, setup_why, unless};
+ghost use Rattle.aoe_script.specs.Rules.{are_too_many, attaches, declared_why, event_why, first_of, has_major, is_event, is_full, is_host_named, is_shelf, is_shelf_named, is_slot, is_slot_of, is_taken, marks, named_why, setup_why, unless};
 
 use crate::event::Event;
 use crate::refusal::Why;
@@ -54,6 +54,15 @@ fn attach_why(setups: &[Setup], host: &Name, shelf: &Name, minor: u64) -> Option
     first_of(repeat, false, !known)
 }
 
+/// What stands in the way of a mark.
+fn readonly_why(setups: &[Setup], shelf: &Name, minor: u64) -> Option<Why>
+    ensures { result ≡ first_of (list_any (marks shelf.now minor) setups.now) false
+        (not (list_any (is_slot shelf.now minor) setups.now)) }
+{
+    let repeat = any(setups, &Kind::Marked(shelf, minor));
+    first_of(repeat, false, !any(setups, &Kind::Slot(shelf, minor)))
+}
+
 impl Setup {
     /// What stands in the way of this declaration behind these.
     fn declared_why(&self, setups: &[Setup]) -> Option<Why>
@@ -79,6 +88,7 @@ impl Setup {
                 false,
             ),
             Setup::Attach { host, shelf, minor } => attach_why(setups, host, shelf, *minor),
+            Setup::Readonly { shelf, minor } => readonly_why(setups, shelf, *minor),
         }
     }
 

@@ -1,13 +1,15 @@
 //! Scripts, and the text that spells one.
 ghost use Rattle.std.specs.Prelude.{◌≡◌, ◌+◌, ◌<◌, ◌≤◌, [], ◌∷◌, ◌++◌, length, nat_le, slice_get, IfOk, OnErr, OnOk, Some, None};
+ghost use Rattle.std.specs.List.{list_any};
 ghost use Rattle.aoe_script.specs.Lines.{FailsFor, IsScript, ScriptLines, line_refusal, lines_of, refusal, refused_for, said_by, script_of, with_line};
-ghost use Rattle.aoe_script.specs.Rules.{event_why, setup_why};
+ghost use Rattle.aoe_script.specs.Rules.{event_why, marks, setup_why};
 
 use crate::event::Event;
 use crate::line::Line;
 use crate::lines::next_line;
 use crate::refusal::ScriptRefusal;
-use crate::setup::Setup;
+use crate::setup::{Name, Setup};
+use crate::standing::{Kind, any};
 use crate::table::read_line;
 use std::alloc::Global;
 use std::marker::Model;
@@ -75,6 +77,13 @@ impl Script {
         ensures setup { slice_get self.now.setups i ≡ Some result.now }
     {
         &self.setups[i]
+    }
+
+    /// Whether a setup line marks this slot as read-only.
+    pub fn is_read_only(&self, shelf: &Name, minor: u64) -> bool
+        ensures { result ≡ list_any (marks shelf.now minor) self.now.setups }
+    {
+        any(self.setups.as_slice(), &Kind::Marked(shelf, minor))
     }
 
     /// Takes a setup line in.

@@ -47,4 +47,10 @@ pub enum Setup {
         shelf: Name,
         minor: u64,
     },
+
+    /// A slot that takes no writes: its lists have the read-only mark before anything happens.
+    Readonly {
+        shelf: Name,
+        minor: u64,
+    },
 }

@@ -1,7 +1,7 @@
 //! How words are spelled: each of these adds to a text.
 ghost use Rattle.std.specs.Prelude.{◌≡◌, ◌++◌, ◌∷◌, ◌<◌, decimal, OnOk};
 ghost use Rattle.aoe_base.specs.Names.{device_text};
-ghost use Rattle.aoe_script.specs.Print.{addresses_text, bytes_text, ccmd_text, config_words, dir_text, dirs_text, list_text, lists_words, masks_words, mode_text, rcmd_text, reserve_words, spaced, which_text};
+ghost use Rattle.aoe_script.specs.Print.{addresses_text, bytes_text, ccmd_text, config_words, dir_text, dirs_text, list_text, lists_words, mark_words, masks_words, mode_text, rcmd_text, reserve_words, spaced, which_text};
 
 use crate::event::Which;
 use crate::setup::Name;
@@ -95,7 +95,18 @@ fn put_addresses(out: &mut Vec<u8>, macs: &[Mac]) -> Result<(), NoMemory>
     Ok(())
 }
 
-/// Adds the lists of a device, each behind its name.
+/// Adds the word of lists with the read-only mark behind a space, where they have it.
+fn put_mark(out: &mut Vec<u8>, read_only: bool) -> Result<(), NoMemory>
+    ensures { OnOk result (out.new.items ≡ out.old.items ++ spaced (mark_words read_only)) }
+{
+    if read_only {
+        put(out, b" read-only")
+    } else {
+        Ok(())
+    }
+}
+
+/// Adds the lists of a device, each behind its name, and their mark behind them, where they have it.
 pub fn put_lists(out: &mut Vec<u8>, lists: &Lists) -> Result<(), NoMemory>
     ensures { OnOk result (out.new.items ≡ out.old.items ++ spaced (lists_words lists.now)) }
 {
@@ -104,7 +115,8 @@ pub fn put_lists(out: &mut Vec<u8>, lists: &Lists) -> Result<(), NoMemory>
     put(out, b" masks ")?;
     put_addresses(out, lists.masks.as_slice())?;
     put(out, b" reserves ")?;
-    put_addresses(out, lists.reserves.as_slice())
+    put_addresses(out, lists.reserves.as_slice())?;
+    put_mark(out, lists.read_only)
 }
 
 /// Adds the name of a device.

@@ -2,7 +2,7 @@
 //! question goes over all of them.
 ghost use Rattle.std.specs.Prelude.{◌≡◌, ◌+◌, ◌||◌, count_by, sum_by};
 ghost use Rattle.std.specs.List.{list_any};
-ghost use Rattle.aoe_script.specs.Rules.{are_too_many, attaches, has_attached, has_device, has_major, has_port, is_attached, is_full, is_host, is_host_named, is_known, is_life, is_shelf, is_shelf_named, is_slot, is_slot_of, is_station_named, is_taken, same, sectors_of};
+ghost use Rattle.aoe_script.specs.Rules.{are_too_many, attaches, has_attached, has_device, has_major, has_port, is_attached, is_full, is_host, is_host_named, is_known, is_life, is_shelf, is_shelf_named, is_slot, is_slot_of, is_station_named, is_taken, marks, same, sectors_of};
 ghost use Rattle.aoe_base.specs.Addresses.{holds};
 ghost use Rattle.aoe_script.specs.Kinds.{is_of};
 
@@ -135,6 +135,18 @@ impl Setup {
         }
     }
 
+    fn marks(&self, shelf: &Name, minor: u64) -> bool
+        ensures { result ≡ marks shelf.now minor self.now }
+    {
+        match self {
+            Setup::Readonly {
+                shelf: other,
+                minor: number,
+            } => *number == minor && same(other, shelf),
+            _ => false,
+        }
+    }
+
     fn has_device(&self, setups: &[Setup], dev: &TargetId) -> bool
         ensures { result ≡ has_device setups.now dev.now self.now }
     {
@@ -174,6 +186,7 @@ pub(crate) enum Kind<'a> {
     SlotOf(&'a Name),
     Slot(&'a Name, u64),
     Attached(&'a Name, &'a Name, u64),
+    Marked(&'a Name, u64),
 }
 
 impl Setup {
@@ -193,6 +206,7 @@ impl Setup {
             Kind::SlotOf(shelf) => self.is_slot_of(shelf),
             Kind::Slot(shelf, minor) => self.is_slot(shelf, *minor),
             Kind::Attached(host, shelf, minor) => self.attaches(host, shelf, *minor),
+            Kind::Marked(shelf, minor) => self.marks(shelf, *minor),
         }
     }
 }

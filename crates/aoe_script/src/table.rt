@@ -4,7 +4,7 @@ ghost use Rattle.aoe_script.specs.Forms.{asks, declares, line_of, row_of, said};
 ghost use Rattle.aoe_script.specs.Words.{word_at};
 
 use crate::event::Event;
-use crate::forms::{attach_of, host_of, life_of, shelf_of, slot_of};
+use crate::forms::{attach_of, host_of, life_of, readonly_of, shelf_of, slot_of};
 use crate::keyword::{Keyword, keyword_of};
 use crate::line::Line;
 use crate::network::{
@@ -58,6 +58,7 @@ fn row_of(alloc: Global, keyword: Keyword, words: &Words) -> Result<Line, NoMemo
         Keyword::Slot => declares(count == 4 || count == 5, slot_of(words)),
         Keyword::Host => declares(count == 3 || count == 5, host_of(words)),
         Keyword::Attach => declares(count == 4, attach_of(words)),
+        Keyword::Readonly => declares(count == 3, readonly_of(words)),
         Keyword::Read => asks(count == 5, read_of(words)),
         Keyword::Write => asks(count == 6, write_of(words)),
         Keyword::Flush => asks(count == 3, flush_of(words)),

@@ -138,7 +138,7 @@ served_begun old = record {
 pub served_then : (old now new : List Slot) (f : List ℕ) (fates : List Fate) (h : List Arrived) → AreServed old now h → MeetAll now new f fates
     → AreServed old new (record { frame = f; fates = fates } ∷ h)
 served_then old now new f fates h s m = record {
-  rounds = ((m.round.0 ∙ s.slots.count, m.round.1), s.rounds);
+  rounds = ((m.round.0 ∙ s.slots.count, m.round.1, m.round.2), s.rounds);
   slots = record {
     count = m.slots.count ∙ s.slots.count;
     each = λ i a c ea ec.

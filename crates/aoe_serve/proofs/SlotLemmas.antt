@@ -9,7 +9,7 @@ use Rattle.aoe_target.specs.History.{is_cut}
 use Rattle.aoe_target.specs.Law.{Fate, ignored}
 use Rattle.aoe_serve.specs.Arrivals.{MeetAll, fate_at, replies_of, reply_of}
 use Rattle.aoe_serve.specs.Answering.{MeetsAt}
-use Rattle.aoe_serve.specs.Slots.{Meets, Slot}
+use Rattle.aoe_serve.specs.Slots.{IsFrameLong, Meets, Slot}
 
 -- the first slots met the frame, and the others are as they were
 pub record Partly (old new : List Slot) (frame : List ℕ) (fates : List Fate) : Type 0 where
@@ -65,17 +65,17 @@ there (x ∷ slots) zero below = record { slot = x; is = refl }
 there (x ∷ slots) (suc i) below = let t = there slots i (omega (arith, below)) in record { slot = t.slot; is = t.is }
 
 module _ (old new : List Slot) (frame : List ℕ) (fates : List Fate) (p : Partly old new frame fates) (e : length fates ≡ length old) where
-  uncut : (k : ℕ) (d : Fate) → k < length fates → is_cut (get_or fates k d) ≡ false
-  uncut k d below =
+  met : (P : Fate → Type 0) → ((a b : Slot) (fate : Fate) → Meets a b frame fate → P fate) → (k : ℕ) (d : Fate) → k < length fates → P (get_or fates k d)
+  met P tells k d below =
       let a = there old k (omega (arith, e, below)) in
       let b = there new k (omega (arith, e, below, p.count)) in
       let same : fate_at k fates ≡ get_or fates k d =
       same_Some (fate_at k fates) (get_or fates k d) (sym (slice_get-get_or fates k ignored below) ∙ slice_get-get_or fates k d below) in
-      subst (λ (f : Fate). is_cut f ≡ false) same (p.done k a.slot b.slot below a.is b.is).uncut
+      subst P same (tells a.slot b.slot (fate_at k fates) (p.done k a.slot b.slot below a.is b.is))
 
   -- every slot met it
   pub partly_whole : MeetAll old new frame fates
   partly_whole = record {
-    round = (e, uncut);
+    round = (e, met (λ fate. is_cut fate ≡ false) (λ a b fate m. m.uncut), met IsFrameLong (λ a b fate m. m.fits));
     slots = record { count = p.count; each = λ i a b ea eb. p.done i a b (omega (arith, e, slice_get_within old i a ea)) ea eb };
   }

@@ -18,7 +18,7 @@ use Rattle.aoe_target.specs.Turn.{Receives}
 use Rattle.aoe_target.specs.declared.heard.Heard.{Heard}
 use Rattle.aoe_target.specs.declared.heard.Heard.TheVariants as heard
 use Rattle.aoe_serve.specs.Answering.{MeetsAt}
-use Rattle.aoe_serve.specs.Slots.{Meets, Slot, slot_of, slots_of}
+use Rattle.aoe_serve.specs.Slots.{IsFrameLong, Meets, Slot, slot_of, slots_of}
 
 -- One element of a list changes.
 
@@ -51,6 +51,11 @@ keep_failed_is heard.Ignored out = refl
 keep_failed_is heard.Silent out = refl
 keep_failed_is (heard.Replied e) out = refl
 
+fits_frame : (h : Heard) (out : List ℕ) → length out ≤ 9018 → IsFrameLong (fate_of h out)
+fits_frame heard.Ignored out few = tt
+fits_frame heard.Silent out few = tt
+fits_frame (heard.Replied e) out few = few
+
 -- a disk that was called or left alone has as many faults as before, or more
 called_later : (called failed : Bool) (old new : DiskState) → OnTrue called (IsRun 1 failed old new) → (called ≡ false → new ≡ old) → old.faults ≤ new.faults
 called_later true failed old new run idle = run.later
@@ -60,7 +65,8 @@ replaced_later : (called failed : Bool) (old new : DiskState) → OnTrue called 
 replaced_later true failed old new run idle = run.calls.later
 replaced_later false failed old new run idle = let same : new.faults ≡ old.faults = ap (λ (d : DiskState). d.faults) (idle refl) in omega (arith, same)
 
-module _ {S D : Type 0} (lasts : Bool) (store : S → DiskState) (keep : D → DiskState) (f : List ℕ) (h : Heard) (out : List ℕ) where
+module _ {S D : Type 0} (lasts : Bool) (store : S → DiskState) (keep : D → DiskState) (f : List ℕ) (h : Heard) (out : List ℕ)
+    (few : length out ≤ 9018) where
   meets_from : (a b : Mounted S D) → Receives store keep a b f h out → TurnsFirm lasts store h out b
       → Meets (slot_of lasts store keep a) (slot_of lasts store keep b) f (fate_of h out)
   meets_from a b r firm = record {
@@ -69,6 +75,7 @@ module _ {S D : Type 0} (lasts : Bool) (store : S → DiskState) (keep : D → D
     firm = firm;
     step = r.step;
     uncut = uncut h out;
+    fits = fits_frame h out few;
     store_later = called_later _ (is_faulty h) (store a.store) (store b.store) r.call (λ e. ap store (r.idle e));
     store_fault = λ e. r.fault (sym (store_failed_is h out) ∙ e);
     keep_later = replaced_later _ (is_unkept h) (keep a.keep.disk) (keep b.keep.disk) r.edit (λ e. ap (λ k. keep k.disk) (r.unedited e));

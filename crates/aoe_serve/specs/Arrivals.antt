@@ -4,7 +4,7 @@ use Rattle.std.specs.List.{flat_map}
 use Rattle.aoe_target.specs.History.{Met, is_cut}
 use Rattle.aoe_target.specs.Law.{Fate, ignored, replied}
 use Rattle.aoe_serve.specs.Always.{AlwaysLasts}
-use Rattle.aoe_serve.specs.Slots.{EachSlot, IsServed, Meets, Slot}
+use Rattle.aoe_serve.specs.Slots.{EachSlot, IsFrameLong, IsServed, Meets, Slot}
 
 -- a frame, and what became of it at the slots in their order
 pub record Arrived : Type 0 where
@@ -37,9 +37,9 @@ abbrev pub replies : List Arrived → List (List ℕ)
 replies [] = []
 replies (a ∷ h) = replies h ++ replies_of a.fates
 
--- of n slots each got each frame once, and the power held
+-- of n slots each got each frame once, the power held, and no reply is longer than a frame
 abbrev pub IsRound : ℕ → List Fate → Type 0
-IsRound n fates = (length fates ≡ n) × All (λ fate. is_cut fate ≡ false) fates
+IsRound n fates = (length fates ≡ n) × All (λ fate. is_cut fate ≡ false) fates × All IsFrameLong fates
 
 abbrev pub AreRounds : ℕ → List Arrived → Type 0
 AreRounds n [] = Unit {0}

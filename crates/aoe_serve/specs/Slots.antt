@@ -5,7 +5,7 @@ use Rattle.aoe_disk.specs.State.{DiskState}
 use Rattle.aoe_target.specs.Device.{Device, State, Holds}
 use Rattle.aoe_target.specs.History.{Met, AllAllowed, IsCounted, count_failed, is_cut, keep_failed, left_by, store_failed}
 use Rattle.aoe_target.specs.Lasting.{IsFirmAfter}
-use Rattle.aoe_target.specs.Law.{Fate, IsStep}
+use Rattle.aoe_target.specs.Law.{Fate, IsStep, cut, ignored, replied, silent}
 use Rattle.aoe_target.specs.Mounted.{Mounted, device_of}
 use Rattle.aoe_target.specs.declared.station.Station.{Station}
 
@@ -27,14 +27,22 @@ pub record EachSlot (R : ℕ → Slot → Slot → Type 0) (old new : List Slot)
   pub count : length new ≡ length old
   pub each : (i : ℕ) (a b : Slot) → slice_get old i ≡ Some a → slice_get new i ≡ Some b → R i a b
 
--- a frame came to a slot: what became of it is a step of the shelf law over all that is known of the device, the power held, and a
--- fault is one that its disk counted. Where writes last, after one that was done a crash changes none of its sectors
+-- a reply is no longer than a frame
+abbrev pub IsFrameLong : Fate → Type 0
+IsFrameLong ignored = Unit {0}
+IsFrameLong silent = Unit {0}
+IsFrameLong cut = Unit {0}
+IsFrameLong (replied e reply) = length reply ≤ 9018
+
+-- a frame came to a slot: what became of it is a step of the shelf law over all that is known of the device, the power held, a reply is
+-- no longer than a frame, and a fault is one that its disk counted. Where writes last, after one that was done a crash changes none of its sectors
 pub record Meets (a b : Slot) (frame : List ℕ) (fate : Fate) : Type 0 where
   pub station : b.station ≡ a.station
   pub step : (k : State) → Holds a.device k → IsStep a.station k frame fate b.device
   pub lasts : b.lasts ≡ a.lasts
   pub firm : a.lasts ≡ true → IsFirmAfter fate b.device.store.contents
   pub uncut : is_cut fate ≡ false
+  pub fits : IsFrameLong fate
   pub store_later : a.device.store.faults ≤ b.device.store.faults
   pub store_fault : store_failed fate ≡ true → Rose a.device.store.faults b.device.store.faults
   pub keep_later : a.device.keep.faults ≤ b.device.keep.faults

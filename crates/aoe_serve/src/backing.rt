@@ -122,6 +122,7 @@ impl<D: Disk, M: Most> Store for Backing<D, M> {
         }
     }
 
+    #[inline(always)]
     fn read(&mut self, at: u64, out: &mut [u8]) -> Result<(), Failed> {
         match &mut self.store {
             FileStore::Any(store) => store.read(at, out),
@@ -129,6 +130,7 @@ impl<D: Disk, M: Most> Store for Backing<D, M> {
         }
     }
 
+    #[inline(always)]
     fn write(&mut self, at: u64, piece: &[u8]) -> Result<(), Failed> {
         match &mut self.store {
             FileStore::Any(store) => store.write(at, piece),

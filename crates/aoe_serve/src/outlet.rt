@@ -36,6 +36,7 @@ pub(crate) struct AsStream;
 impl<K: Sink> Outlet<AsStream> for K {
     ghost took = { λ result a b replies. SinkTook Replies result (K.held a) (K.held b) (K.faults a) (K.faults b) replies };
 
+    #[inline(always)]
     fn give(&mut self, reply: &Frame) -> Result<(), Failed> {
         give_frame(self, reply.as_slice())
     }

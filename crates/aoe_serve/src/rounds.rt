@@ -10,12 +10,13 @@ ghost use Rattle.aoe_serve.specs.Slots.{slots_of};
 use crate::outlet::Outlet;
 use aoe_base::Failed;
 use aoe_disk::Disk;
-use aoe_frame::Frame;
+use aoe_frame::{Frame, MAX_FRAME};
 use aoe_shelf::Shelf;
 use aoe_store::Store;
 use aoe_target::Heard;
 
 /// Gives the reply to a frame to the outlet, where there is one, unless that failed before.
+#[inline(always)]
 fn give<By, O: Outlet<By>>(
     heard: Heard,
     reply: &Frame,
@@ -36,6 +37,7 @@ fn give<By, O: Outlet<By>>(
 }
 
 /// Hands a frame to one slot, and gives the reply to the outlet, unless that failed before.
+#[inline(always)]
 fn meet<S: Store, D: Disk, By, O: Outlet<By>>(
     shelf: &mut Shelf<S, D>,
     slot: usize,
@@ -51,6 +53,7 @@ fn meet<S: Store, D: Disk, By, O: Outlet<By>>(
     ensures rest { shelf.new ≡ record shelf.old { targets = shelf.new.targets } }
 {
     let heard = shelf.receive_slot(slot, frame, reply);
+    prove!(reply.len() <= MAX_FRAME);
     give::<By, O>(heard, reply, outlet, given)
 }
 

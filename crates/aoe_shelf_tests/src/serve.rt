@@ -1,3 +1,4 @@
+mod audit_file;
 mod faults;
 mod files;
 mod loops;

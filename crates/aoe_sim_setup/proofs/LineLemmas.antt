@@ -12,7 +12,7 @@ use Rattle.aoe_history.specs.Setup.{SlotSetup}
 use Rattle.aoe_script.specs.declared.setup.Setup.{Setup as Line}
 use Rattle.aoe_script.specs.declared.setup.Setup.TheVariants.{Life, Shelf, Slot, Host}
 use Rattle.aoe_script.specs.Rules.{has_major, has_port, is_host_named, is_shelf_named, is_slot, is_station_named, same}
-use Rattle.aoe_sim_setup.specs.Layout.{addresses_in, slot_named, slot_with}
+use Rattle.aoe_sim_setup.specs.Layout.{addresses_in, is_marked, slot_named, slot_with}
 use Rattle.aoe_sim_setup.proofs.GoodLines.{AreGood}
 use Rattle.aoe_sim_setup.proofs.ListLemmas.{any-passes, any-taken, find-first, in-order, none-before, none-passes, Place}
 
@@ -59,7 +59,7 @@ pub record SlotLine (lines : List Line) (name : ArrayVec ℕ) (minor : ℕ) : Ty
 
 -- and what both declare
 abbrev pub slot_in : {lines : List Line} {name : ArrayVec ℕ} {minor : ℕ} → SlotLine lines name minor → SlotSetup
-slot_in {minor = minor} x = slot_with x.shelf.major x.shelf.ports.items x.shelf.mtu minor x.sectors x.room
+slot_in {lines} {name} {minor} x = slot_with x.shelf.major x.shelf.ports.items x.shelf.mtu minor x.sectors x.room (is_marked lines name minor)
 
 -- ---- one line behind another
 

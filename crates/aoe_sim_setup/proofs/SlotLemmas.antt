@@ -13,26 +13,26 @@ use Rattle.aoe_history.specs.Setup.{is_slot, shelf_of, slot_of, AreSlots, SlotSe
 use Rattle.aoe_script.specs.declared.setup.Setup.{Setup as Line}
 use Rattle.aoe_script.specs.declared.setup.Setup.TheVariants.{Shelf, Slot}
 use Rattle.aoe_script.specs.Rules.{is_shelf, is_slot as is_slot_line, is_slot_of, same}
-use Rattle.aoe_sim_setup.specs.Layout.{major_in, majors_of, setup_of, slot_of_shelf, slot_with, slots_of_shelf}
+use Rattle.aoe_sim_setup.specs.Layout.{is_marked, major_in, majors_of, setup_of, slot_of_shelf, slot_with, slots_of_shelf}
 use Rattle.aoe_sim_setup.specs.Stations.{HasShelves}
 use Rattle.aoe_sim_setup.proofs.GoodLines.{AreGood}
 use Rattle.aoe_sim_setup.proofs.LineLemmas.{same-is, same-self, shelf-before, shelves-differ, slot_in, ShelfLine, SlotLine}
 use Rattle.aoe_sim_setup.proofs.ListLemmas.{apart-by, contains-at, few-filtered, filter-piece, filtered-at, find-by, from-filtered, from-pieces, in-order, none-before, ordered-filtered, ordered-pieces, pieces-at, Ordered, Place}
 
 -- a slot line, where its shelf has this name
-record Declares (name : ArrayVec ℕ) (major : ℕ) (ports : List Mac) (mtu : ℕ) (line : Line) (slot : SlotSetup) : Type 0 where
+record Declares (lines : List Line) (name : ArrayVec ℕ) (major : ℕ) (ports : List Mac) (mtu : ℕ) (line : Line) (slot : SlotSetup) : Type 0 where
   minor : ℕ
   sectors : ℕ
   room : Option ℕ
   line_is : line ≡ Slot name minor sectors room
-  slot_is : slot_with major ports mtu minor sectors room ≡ slot
+  slot_is : slot_with major ports mtu minor sectors room (is_marked lines name minor) ≡ slot
 
-declares : (name : ArrayVec ℕ) (major : ℕ) (ports : List Mac) (mtu : ℕ) (line : Line) (slot : SlotSetup) → slot_of_shelf name major ports mtu line ≡ Some slot
-    → Declares name major ports mtu line slot
-declares name major ports mtu (Slot shelf minor sectors room) slot e =
-    let c = cond_some (same shelf name) (slot_with major ports mtu minor sectors room) slot e in
+declares : (lines : List Line) (name : ArrayVec ℕ) (major : ℕ) (ports : List Mac) (mtu : ℕ) (line : Line) (slot : SlotSetup)
+    → slot_of_shelf lines name major ports mtu line ≡ Some slot → Declares lines name major ports mtu line slot
+declares lines name major ports mtu (Slot shelf minor sectors room) slot e =
+    let c = cond_some (same shelf name) (slot_with major ports mtu minor sectors room (is_marked lines name minor)) slot e in
     record { minor = minor; sectors = sectors; room = room; line_is = rw (same-is shelf name c.0); slot_is = c.1 }
-declares name major ports mtu _ slot e = absurd (none-some slot e)
+declares lines name major ports mtu _ slot e = absurd (none-some slot e)
 
 -- a shelf line with its number
 record IsShelfLine (line : Line) (major : ℕ) : Type 0 where
@@ -64,7 +64,7 @@ module _ (lines : List Line) (good : AreGood lines) where
   -- the slot of two lines stands in the setup
   pub slot-placed : {name : ArrayVec ℕ} {minor : ℕ} (x : SlotLine lines name minor) → Place (setup_of lines).slots (slot_in x)
   slot-placed {name} x = pieces-at (slots_of_shelf lines) lines x.shelf.at _ x.shelf.there
-      (filtered-at (slot_of_shelf name x.shelf.major x.shelf.ports.items x.shelf.mtu) lines x.at _ (slot_in x) x.there (rw (same-self name)))
+      (filtered-at (slot_of_shelf lines name x.shelf.major x.shelf.ports.items x.shelf.mtu) lines x.at _ (slot_in x) x.there (rw (same-self name)))
 
   -- and in its shelf
   pub slot-inside : {name : ArrayVec ℕ} {minor : ℕ} (x : SlotLine lines name minor) → Contains (shelf_of (setup_of lines) x.shelf.major) (slot_in x)
@@ -73,8 +73,8 @@ module _ (lines : List Line) (good : AreGood lines) where
   slot-of-line : (k : ℕ) (line : Line) (slot : SlotSetup) → slice_get lines k ≡ Some line → Place (slots_of_shelf lines line) slot
       → (x : SlotFrom lines slot) × (x.line.shelf.at ≡ k)
   slot-of-line k (Shelf name major ports mtu) slot there p =
-      let f = from-filtered (slot_of_shelf name major ports.items mtu) lines p.at slot p.there in
-      let d = declares name major ports.items mtu f.x slot f.holds in
+      let f = from-filtered (slot_of_shelf lines name major ports.items mtu) lines p.at slot p.there in
+      let d = declares lines name major ports.items mtu f.x slot f.holds in
       let shelf : ShelfLine lines name = record { at = k; major = major; ports = ports; mtu = mtu; there = there } in
       let line : SlotLine lines name d.minor = record { shelf = shelf; at = f.at; sectors = d.sectors; room = d.room; there = f.there ∙ ap Some d.line_is } in
       (record { name = name; minor = d.minor; line = line; slot_is = d.slot_is }, refl)
@@ -85,10 +85,10 @@ module _ (lines : List Line) (good : AreGood lines) where
 
   -- no two slots have one name
   of-shelf : (name : ArrayVec ℕ) (major : ℕ) (ports : List Mac) (mtu : ℕ)
-      → Ordered (λ a b. is_slot a b.station.id ≡ false) (filter_map (slot_of_shelf name major ports mtu) lines)
-  of-shelf name major ports mtu = ordered-filtered _ (slot_of_shelf name major ports mtu) lines (λ i j a b lt p q c d s t.
-      let x = declares name major ports mtu a c s in
-      let y = declares name major ports mtu b d t in
+      → Ordered (λ a b. is_slot a b.station.id ≡ false) (filter_map (slot_of_shelf lines name major ports mtu) lines)
+  of-shelf name major ports mtu = ordered-filtered _ (slot_of_shelf lines name major ports mtu) lines (λ i j a b lt p q c d s t.
+      let x = declares lines name major ports mtu a c s in
+      let y = declares lines name major ports mtu b d t in
       let new = none-before (is_slot_line name y.minor) lines i j _ lt (p ∙ ap Some x.line_is) (good.slot j _ _ _ _ (q ∙ ap Some y.line_is)).new in
       let differ : (x.minor == y.minor) ≡ false = false_from_ne_true _ (λ is. both_ways _ new (and_from _ _ is (same-self name))) in
       rw (← x.slot_is, ← y.slot_is) (and_right (nat_eq major major) _ differ))
@@ -113,8 +113,8 @@ module _ (lines : List Line) (good : AreGood lines) where
     all-of-shelf : shelf_of (setup_of lines) major ≡ slots_of_shelf lines (Shelf name major ports mtu)
     all-of-shelf = filter-piece (λ slot. nat_eq slot.station.id.major major) (slots_of_shelf lines) lines k _ there
         (λ y p.
-        let f = from-filtered (slot_of_shelf name major ports.items mtu) lines p.at y p.there in
-        rw (← (declares name major ports.items mtu f.x y f.holds).slot_is) (eq-eqb major major refl))
+        let f = from-filtered (slot_of_shelf lines name major ports.items mtu) lines p.at y p.there in
+        rw (← (declares lines name major ports.items mtu f.x y f.holds).slot_is) (eq-eqb major major refl))
         (λ i a y ne e p.
         let x = slot-of-line i a y e p in
         rw (← x.0.slot_is) (ne_eqb _ major (shelves-differ lines good x.0.line.shelf.at k x.0.line.shelf.there there (λ s. ne (sym x.1 ∙ s)))))
@@ -126,8 +126,8 @@ module _ (lines : List Line) (good : AreGood lines) where
     }
 
     few-of-shelf : length (slots_of_shelf lines (Shelf name major ports mtu)) ≤ 16
-    few-of-shelf = few-filtered (slot_of_shelf name major ports.items mtu) (is_slot_of name) 16 lines (λ i line slot e g.
-        let d = declares name major ports.items mtu line slot g in
+    few-of-shelf = few-filtered (slot_of_shelf lines name major ports.items mtu) (is_slot_of name) 16 lines (λ i line slot e g.
+        let d = declares lines name major ports.items mtu line slot g in
         (rw d.line_is (same-self name), (good.slot i _ _ _ _ (e ∙ ap Some d.line_is)).few))
 
   -- ---- numbers of shelves

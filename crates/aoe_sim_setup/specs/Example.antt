@@ -1,11 +1,11 @@
 -- The setup lines of the network of the worked cases.
-use Rattle.std.specs.Prelude.{ℕ, List, [], ◌∷◌, None, codes}
+use Rattle.std.specs.Prelude.{ℕ, true, List, [], ◌∷◌, ◌++◌, None, codes}
 use Rattle.arrayvec.specs.ArrayVec.{ArrayVec}
 use Rattle.aoe_base.specs.declared.address.Mac.{Mac}
-use Rattle.aoe_history.specs.Example.{a, b, host_a, host_b, port, setup_with}
-use Rattle.aoe_history.specs.Setup.{Setup}
+use Rattle.aoe_history.specs.Example.{a, b, host_a, host_b, port, setup_with, slot}
+use Rattle.aoe_history.specs.Setup.{slot_over, Setup}
 use Rattle.aoe_script.specs.declared.setup.Setup.{Setup as Line}
-use Rattle.aoe_script.specs.declared.setup.Setup.TheVariants.{Shelf, Slot, Host, Attach}
+use Rattle.aoe_script.specs.declared.setup.Setup.TheVariants.{Shelf, Slot, Host, Attach, Readonly}
 
 abbrev pub shelf_name : ArrayVec ℕ
 shelf_name = record { items = codes "disks" }
@@ -26,3 +26,10 @@ lines =
 
 abbrev pub expected : Setup
 expected = setup_with None (host_b ∷ host_a ∷ [])
+
+-- the same with a slot that takes no writes
+abbrev pub marked_lines : List Line
+marked_lines = lines ++ Readonly shelf_name 0 ∷ []
+
+abbrev pub expected_marked : Setup
+expected_marked = record expected { slots = slot_over slot.station None true ∷ [] }

@@ -1,6 +1,6 @@
 -- What the setup lines of a script declare, in the words of histories.
-use Rattle.std.specs.Prelude.{ℕ, List, [], Option, Some, None, option_map, option_and_then, unwrap_or, is_some, if◌then◌else◌}
-use Rattle.std.specs.List.{filter_map, find, flat_map}
+use Rattle.std.specs.Prelude.{ℕ, Bool, List, [], Option, Some, None, option_map, option_and_then, unwrap_or, is_some, if◌then◌else◌}
+use Rattle.std.specs.List.{filter_map, find, flat_map, list_any}
 use Rattle.arrayvec.specs.ArrayVec.{ArrayVec}
 use Rattle.aoe_base.specs.declared.address.Mac.{Mac}
 use Rattle.aoe_base.specs.declared.counted.Lifetimes.{Lifetimes}
@@ -12,7 +12,7 @@ use Rattle.aoe_history.specs.Groups.Station.{Shelf as ShelfStation, Host as Host
 use Rattle.aoe_history.specs.Setup.{slot_over, HostSetup, Setup, SlotSetup}
 use Rattle.aoe_script.specs.declared.setup.Setup.{Setup as Line}
 use Rattle.aoe_script.specs.declared.setup.Setup.TheVariants.{Life, Shelf, Slot, Host, Attach}
-use Rattle.aoe_script.specs.Rules.{is_shelf_named, is_slot, same}
+use Rattle.aoe_script.specs.Rules.{is_shelf_named, is_slot, marks, same}
 
 -- how long frames can be handed over, where a line says it: responses as long as requests, where it says no other number
 abbrev pub life_in : Line → Option Lifetimes
@@ -20,31 +20,37 @@ life_in (Life requests responses) = Some (record { requests = record { 0 = reque
 life_in line = None
 
 -- a slot of the shelf with this number, these ports and this mtu; its store has a cache where its line gives a room
-abbrev pub slot_with : (major : ℕ) → List Mac → (mtu minor sectors : ℕ) → (room : Option ℕ) → SlotSetup
-slot_with major ports mtu minor sectors room = slot_over (station_of record { major = major; minor = minor } ports mtu sectors) room
+abbrev pub slot_with : (major : ℕ) → List Mac → (mtu minor sectors : ℕ) → (room : Option ℕ) → (read_only : Bool) → SlotSetup
+slot_with major ports mtu minor sectors room read_only = slot_over (station_of record { major = major; minor = minor } ports mtu sectors) room read_only
+
+-- a line marks the slot as read-only, wherever it stands
+abbrev pub is_marked : List Line → ArrayVec ℕ → ℕ → Bool
+is_marked lines shelf minor = list_any (marks shelf minor) lines
 
 -- a slot line, where its shelf has this number, these ports and this mtu
-abbrev pub slot_at : ℕ → List Mac → ℕ → Line → Option SlotSetup
-slot_at major ports mtu (Slot shelf minor sectors room) = Some (slot_with major ports mtu minor sectors room)
-slot_at major ports mtu line = None
+abbrev pub slot_at : List Line → ℕ → List Mac → ℕ → Line → Option SlotSetup
+slot_at lines major ports mtu (Slot shelf minor sectors room) = Some (slot_with major ports mtu minor sectors room (is_marked lines shelf minor))
+slot_at lines major ports mtu line = None
 
-abbrev pub slot_of_shelf : ArrayVec ℕ → ℕ → List Mac → ℕ → Line → Option SlotSetup
-slot_of_shelf name major ports mtu (Slot shelf minor sectors room) = if same shelf name then Some (slot_with major ports mtu minor sectors room) else None
-slot_of_shelf name major ports mtu line = None
+-- a slot line of the shelf with this name
+abbrev pub slot_of_shelf : List Line → ArrayVec ℕ → ℕ → List Mac → ℕ → Line → Option SlotSetup
+slot_of_shelf lines name major ports mtu (Slot shelf minor sectors room) =
+    if same shelf name then Some (slot_with major ports mtu minor sectors room (is_marked lines name minor)) else None
+slot_of_shelf lines name major ports mtu line = None
 
 -- the slots of a shelf, in the order of their lines
 abbrev pub slots_of_shelf : List Line → Line → List SlotSetup
-slots_of_shelf lines (Shelf name major ports mtu) = filter_map (slot_of_shelf name major ports.items mtu) lines
+slots_of_shelf lines (Shelf name major ports mtu) = filter_map (slot_of_shelf lines name major ports.items mtu) lines
 slots_of_shelf lines line = []
 
 -- the slot of a shelf that a line names
-abbrev pub slot_by : Line → Line → Option SlotSetup
-slot_by (Shelf name major ports mtu) line = slot_at major ports.items mtu line
-slot_by other line = None
+abbrev pub slot_by : List Line → Line → Line → Option SlotSetup
+slot_by lines (Shelf name major ports mtu) line = slot_at lines major ports.items mtu line
+slot_by lines other line = None
 
 abbrev pub slot_named : List Line → ArrayVec ℕ → ℕ → Option SlotSetup
 slot_named lines shelf minor =
-    option_and_then (λ (s : Line). option_and_then (slot_by s) (find (is_slot shelf minor) lines)) (find (is_shelf_named shelf) lines)
+    option_and_then (λ (s : Line). option_and_then (slot_by lines s) (find (is_slot shelf minor) lines)) (find (is_shelf_named shelf) lines)
 
 -- what a host knows of a slot that it is attached to
 abbrev pub about : SlotSetup → Attached

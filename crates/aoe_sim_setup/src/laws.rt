@@ -1,7 +1,7 @@
 //! What holds of the stations that a script declares.
 ghost use Rattle.std.specs.Prelude.{◌≡◌, [], List, None, true};
 ghost use Rattle.aoe_history.specs.Setup.{IsSetup};
-ghost use Rattle.aoe_sim_setup.specs.Example.{expected, lines};
+ghost use Rattle.aoe_sim_setup.specs.Example.{expected, expected_marked, lines, marked_lines};
 ghost use Rattle.aoe_sim_setup.specs.Layout.{setup_of};
 ghost use Rattle.aoe_sim_setup.specs.Stations.{CanCome, HasHosts, HasRanges, HasShelves, HasStations};
 ghost use Rattle.aoe_script.specs.declared.event.Event.{Event};
@@ -30,8 +30,10 @@ pub fn events_law()
         → is_event event ≡ true }
 {}
 
-/// The setup of the worked cases is that of these lines, and a script can have them.
+/// The setup of the worked cases is that of these lines, and a script can have them. With a line that
+/// marks the slot behind them, the slot begins with the mark.
 pub fn worked_layout()
     ensures setup { setup_of lines ≡ expected }
+    ensures marked { setup_of marked_lines ≡ expected_marked }
     ensures script { IsScript (record { setups = lines; events = [] }) }
 {}

@@ -17,8 +17,11 @@ use Rattle.aoe_disk.specs.Memory.{contents_of, fresh, state_of, Memory}
 use Rattle.aoe_disk.specs.State.{sector, BothTell}
 use Rattle.aoe_disk.specs.declared.loss.Loss.{Loss}
 use Rattle.aoe_disk.proofs.Pieces.{is_loose-replicate}
-use Rattle.aoe_keep.specs.Found.{found, is_open}
+use Rattle.aoe_keep.specs.Calls.{StandsBy}
+use Rattle.aoe_keep.specs.Found.{found, is_open, placement, slot, AlwaysFinds}
 use Rattle.aoe_keep.specs.Keep.{HasMounted, IsRefused, Kept}
+use Rattle.aoe_keep.specs.Stages.{next_place}
+use Rattle.aoe_keep.specs.declared.place.Place.{Place}
 use Rattle.aoe_keep.specs.declared.refusal.MountRefusal.{MountRefusal}
 use Rattle.aoe_keep.specs.declared.refusal.MountRefusal.TheVariants.{BadKeep, Failed, TooSmall}
 use Rattle.aoe_lists.specs.Settings.{empty_settings, Settings}
@@ -31,6 +34,7 @@ use Rattle.aoe_target.proofs.DeviceLemmas.{first_state}
 use Rattle.aoe_history.specs.Setup.{slot_over, SlotSetup}
 use Rattle.aoe_history.specs.Slots.{all_settled, new_slot, zero_sector}
 use Rattle.aoe_sim_shelves.specs.Crash.{Loses, LosesStore, Restarts}
+use Rattle.aoe_sim_shelves.specs.NewKeep.{IsNewKeep}
 use Rattle.aoe_sim_shelves.specs.Rack.{AgreesWithin, IsBelow, IsServing, IsStoreDue, IsTargetOf, HasCache, MemoryRack, SameWithin, Serves}
 use Rattle.aoe_sim_shelves.proofs.AgreeLemmas.{same_agrees}
 use Rattle.aoe_sim_shelves.proofs.CrashLemmas.{lost_sectors, mounted_unarmed, opened_free}
@@ -46,14 +50,14 @@ abbrev pub seated : ℕ → List Mac → ℕ → ℕ → AnyStore Memory → Kep
 seated major ports mtu minor store keep =
     record { station = station_of (record { major = major; minor = minor }) ports mtu (any_state state_of store).sectors; keep = keep; store = store }
 
-pub seated_target : (major : ℕ) (ports : List Mac) (mtu minor : ℕ) (store : AnyStore Memory) (disk : Memory) (keep : Kept Memory) → minor < 255
-    → 16 ≤ length disk.loose → HasMounted (state_of disk) (state_of keep.disk) keep.lists → IsTargetOf major ports mtu (seated major ports mtu minor store keep)
-seated_target major ports mtu minor store disk keep low room m = record {
+pub seated_target : (major : ℕ) (ports : List Mac) (mtu minor : ℕ) (store : AnyStore Memory) {read_only : Bool} {keep : Kept Memory} → minor < 255
+    → IsNewKeep read_only keep → IsTargetOf major ports mtu (seated major ports mtu minor store keep)
+seated_target major ports mtu minor store {keep = keep} low k = record {
   minor = low;
   station = refl;
-  room = omega (arith, m.mounts.run.run.sectors);
+  room = omega (arith, k.sectors);
   known = target.state_of (device (seated major ports mtu minor store keep));
-  holds = first_state (device (seated major ports mtu minor store keep)) m.finds;
+  holds = first_state (device (seated major ports mtu minor store keep)) k.finds;
 }
 
 -- A RESTART
@@ -117,14 +121,14 @@ module _ (n : ℕ) (station : Station) (store : Memory) (is : store ≡ fresh (r
     exact = refl;
   }
 
-  over_within : (cache : Option ℕ) → BothTell (AgreesWithin n) (option_map sectors_of (any_state state_of (over cache store)).contents)
-      (new_slot (slot_over station cache)).state.sectors
-  over_within None = same_agrees n _ _ zeros_within
-  over_within (Some room) = record { known = zeros_within.known; marks = λ s low e. zeros_within.marks s low; same = λ e. absurd cc; exact = refl }
+  over_within : (cache : Option ℕ) (read_only : Bool) → BothTell (AgreesWithin n) (option_map sectors_of (any_state state_of (over cache store)).contents)
+      (new_slot (slot_over station cache read_only)).state.sectors
+  over_within None read_only = same_agrees n _ _ zeros_within
+  over_within (Some room) read_only = record { known = zeros_within.known; marks = λ s low e. zeros_within.marks s low; same = λ e. absurd cc; exact = refl }
 
-  over_under : (cache : Option ℕ) → HasCache n cache (new_slot (slot_over station cache)) (any_under state_of (over cache store))
-  over_under None = tt
-  over_under (Some room) =
+  over_under : (cache : Option ℕ) (read_only : Bool) → HasCache n cache (new_slot (slot_over station cache read_only)) (any_under state_of (over cache store))
+  over_under None read_only = tt
+  over_under (Some room) read_only =
       let all : room - 0 ≡ room = omega arith in
       let below : IsBelow n room all_settled (zeros false) (under_of state_of (record { disk = store; held = []; room = room })) = record {
         left = room;
@@ -141,39 +145,54 @@ never_refused disk left (TooSmall sectors) lists room is unarmed r = omega (arit
 never_refused disk left Failed lists room is unarmed r = grind (arith, r.2.run.schedule.due)
 never_refused disk left (BadKeep k) lists room is unarmed r = cc (is, r.1.0)
 
+-- A NEW KEEP
+
+no_place : (n : ℕ) {place : Option Place} {closed : Bool} → placement (slot (replicate n 0) 0) (slot (replicate n 0) 1) ≡ (place, closed) → place ≡ None
+no_place n e = sym (ap (λ (p : Option Place × Bool). p.0) (rw (no_gate n 0, no_gate n 1) at e))
+
+-- a disk of zeros that was mounted
+pub mounted_zeros : (n : ℕ) {disk : Memory} {keep : Kept Memory} → disk ≡ fresh (replicate n 0) → length disk.loose ≡ 16
+    → HasMounted (state_of disk) (state_of keep.disk) keep.lists → StandsBy (state_of disk) keep → IsNewKeep false keep
+mounted_zeros n {disk} {keep} new size m stands = record {
+  lists = let empty : found (replicate n 0) ≡ Ok keep.lists = rw new at m.mounts.stands.0 in cc (zeros_found n);
+  finds = m.finds;
+  sectors = omega (arith, m.mounts.run.run.sectors, size);
+  unarmed = mounted_unarmed disk keep.disk keep.lists m (rw new);
+  place = no_place n (rw new at stands);
+}
+
+-- and whose lists got the mark
+pub marked_zeros : {old new : Kept Memory} → IsNewKeep false old → new.lists ≡ record old.lists { read_only = true } → AlwaysFinds (state_of new.disk) new.lists
+    → length new.disk.loose ≡ length old.disk.loose → option_map number_of new.disk.arming ≡ None → new.place ≡ next_place old.place → IsNewKeep true new
+marked_zeros k lists finds sectors unarmed place =
+    record { lists = rw k.lists at lists; finds = finds; sectors = sectors ∙ k.sectors; unarmed = unarmed; place = rw k.place at place }
+
 -- A NEW SLOT
 
--- over two disks of zeros, the second of which was mounted
-pub record IsNew (n m : ℕ) (store disk : Memory) (keep : Kept Memory) : Type 0 where
+-- over a disk of zeros, with a keep to which nothing happened
+pub record IsNew (n : ℕ) (read_only : Bool) (store : Memory) (keep : Kept Memory) : Type 0 where
   pub zeros : store ≡ fresh (replicate (512 * n) 0)
-  pub lists : disk ≡ fresh (replicate m 0)
-  pub mounted : HasMounted (state_of disk) (state_of keep.disk) keep.lists
+  pub keep_is : IsNewKeep read_only keep
 
-module _ (major : ℕ) (ports : List Mac) (mtu minor : ℕ) (cache : Option ℕ) {n m : ℕ} {store disk : Memory} {keep : Kept Memory}
-    (k : IsNew n m store disk keep) where
+module _ (major : ℕ) (ports : List Mac) (mtu minor : ℕ) (cache : Option ℕ) {n : ℕ} {read_only : Bool} {store : Memory} {keep : Kept Memory}
+    (k : IsNew n read_only store keep) where
   abbrev new_setup : SlotSetup
-  new_setup = slot_over (station_of (record { major = major; minor = minor }) ports mtu n) cache
+  new_setup = slot_over (station_of (record { major = major; minor = minor }) ports mtu n) cache read_only
 
   abbrev new_target : Target
   new_target = seated major ports mtu minor (over cache store) keep
 
-  no_lists : keep.lists ≡ empty_settings
-  no_lists = let stands : found (replicate m 0) ≡ Ok keep.lists = rw k.lists at k.mounted.mounts.stands.0 in cc (zeros_found m)
-
-  unarmed : option_map number_of keep.disk.arming ≡ None
-  unarmed = mounted_unarmed disk keep.disk keep.lists k.mounted (rw k.lists)
-
   new_serving : IsServing new_setup [] new_target (record { store = None; keep = None })
   new_serving = record {
     station = rw (over_sectors cache store, zeros_sectors n store k.zeros);
-    under = over_under n new_setup.station store k.zeros cache;
+    under = over_under n new_setup.station store k.zeros cache read_only;
     holds = record {
-      lists = no_lists;
-      crash = λ image left. let l = k.mounted.finds image left in (l.0, l.1, inl (l.2 ∙ no_lists));
-      sectors = over_within n new_setup.station store k.zeros cache;
+      lists = k.keep_is.lists;
+      crash = λ image left. let l = k.keep_is.finds image left in (l.0, l.1, inl (l.2 ∙ k.keep_is.lists));
+      sectors = over_within n new_setup.station store k.zeros cache read_only;
     };
     store_due = over_due cache (512 * n) store k.zeros;
-    keep_due = rw unarmed;
+    keep_due = rw k.keep_is.unarmed;
     store_stop = refl;
     keep_stop = refl;
   }

@@ -2,3 +2,4 @@ pub mod Rack
 pub mod Arming
 pub mod Arrival
 pub mod Crash
+pub mod NewKeep

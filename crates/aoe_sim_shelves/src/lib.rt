@@ -1,7 +1,8 @@
 //! A shelf in a run: each of its steps, and what it adds to the history.
 //!
 //! 1. [`MemoryRack::new`] makes a shelf without targets, and [`MemoryRack::add`] adds one of zeros
-//!    with empty lists, over two disks in memory. Both come before anything happened in the run.
+//!    with empty lists, over two disks in memory; its keep has the read-only mark where it takes no
+//!    writes. Both come before anything happened in the run.
 //! 2. [`MemoryRack::arm`] makes a later call of a disk fail, or the power be lost in it.
 //! 3. [`MemoryRack::arrive`] hands a frame to each target in order, and brings each reply into the
 //!    network. Where the power is lost in it, the shelf crashes there.

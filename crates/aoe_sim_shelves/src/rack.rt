@@ -10,12 +10,11 @@ ghost use Rattle.aoe_shelf.specs.Shelf.{has_minor};
 ghost use Rattle.aoe_shelf.specs.Slot.{ChangesAt};
 ghost use Rattle.aoe_target.specs.Mounted.{station_of};
 
-use crate::seat::{MemShelf, mount, seat};
+use crate::seat::{MemShelf, new_keep, seat};
 use aoe_base::{NoMemory, Ports, TargetId};
 use aoe_cache::AnyStore;
 use aoe_disk::{Arm, Loss, MemDisk};
 use aoe_history::{Entry, Run};
-use aoe_keep::KEEP_SECTORS;
 use aoe_script::Which;
 use aoe_shelf::{MAX_TARGETS, Shelf};
 use arrayvec::ArrayVec;
@@ -118,14 +117,15 @@ impl MemoryRack {
         })
     }
 
-    /// Adds a target of zeros with empty lists behind the others. Its store has a cache for `room`
-    /// sectors, where there is a number.
+    /// Adds a target of zeros behind the others. Its store has a cache for `room` sectors, where
+    /// there is a number. Its lists are empty, with the read-only mark where it takes no writes.
     pub fn add(
         &mut self,
         alloc: Global,
         minor: u8,
         sectors: u64,
         room: Option<u32>,
+        read_only: bool,
     ) -> Result<(), NoMemory>
         requires minor { minor < 255 }
         requires sectors { sectors ≤ 2 ^ 40 }
@@ -134,7 +134,7 @@ impl MemoryRack {
         requires repeats { has_minor self.old.shelf.targets minor ≡ false }
         ensures serves { OnOk result ((slots : List SlotSetup) → Serves slots [] self.old → Serves (slots ++ slot_over
             (station_of record { major = self.old.shelf.major; minor = minor } self.old.shelf.ports self.old.shelf.mtu sectors)
-            room ∷ []) [] self.new) }
+            room read_only ∷ []) [] self.new) }
         ensures count { OnOk result (length self.new.shelf.targets
             ≡ length self.old.shelf.targets + 1) }
         ensures minors { OnOk result ((m : ℕ) → has_minor self.new.shelf.targets m
@@ -145,16 +145,14 @@ impl MemoryRack {
         ensures rest { self.new.shelf ≡ record self.old.shelf { targets = self.new.shelf.targets } }
         ensures err { OnErr result (self.new ≡ self.old) }
     {
-        let (Ok(store), Ok(keep)) = (
-            MemDisk::new(alloc, sectors),
-            MemDisk::new(alloc, KEEP_SECTORS),
-        ) else {
+        let (Ok(store), Ok(keep)) = (MemDisk::new(alloc, sectors), new_keep(alloc, read_only))
+        else {
             return Err(NoMemory);
         };
         let Ok(store) = AnyStore::over(alloc, store, room) else {
             return Err(NoMemory);
         };
-        seat(&mut self.shelf, minor, store, mount(keep));
+        seat(&mut self.shelf, minor, store, keep);
         self.stops.push(Stops::none());
         Ok(())
     }

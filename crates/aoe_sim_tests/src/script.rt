@@ -55,7 +55,7 @@ fn has(script: &Script, setups: usize, events: usize) -> bool {
 }
 
 /// Lines behind those of the start, and the first that is bad.
-const JUDGED: [(&str, u32, Why); 27] = [
+const JUDGED: [(&str, u32, Why); 30] = [
     ("bogus", 6, Why::Word),
     ("life 1 2 3", 6, Why::Word),
     ("read a e1.0 0", 6, Why::Word),
@@ -72,6 +72,7 @@ const JUDGED: [(&str, u32, Why); 27] = [
     ("read a e1.0 281474976710656 1", 6, Why::Value),
     ("slot t 0 262129", 6, Why::Value),
     ("tick 1\nslot s 1 0", 7, Why::Value),
+    ("readonly s 255", 6, Why::Value),
     ("tick 1\nslot s 1 16", 7, Why::Place),
     (
         "tick 1\n\n# nothing\nhost a 02:00:00:00:00:0a",
@@ -82,7 +83,9 @@ const JUDGED: [(&str, u32, Why); 27] = [
     ("life 600000 0", 6, Why::Repeat),
     ("shelf a 2 02:00:00:00:00:02 1500", 6, Why::Repeat),
     ("host b 02:00:00:00:00:01", 6, Why::Repeat),
+    ("readonly s 0\nreadonly s 0", 7, Why::Repeat),
     ("attach b s 0", 6, Why::Unknown),
+    ("readonly s 1\nslot s 1 16", 6, Why::Unknown),
     ("slot s 1 16\nidentify a e1.1", 7, Why::Unknown),
     ("deliver 1 t", 6, Why::Unknown),
     ("inject ffffffffffff02000000000a88a2", 6, Why::Station),
@@ -147,7 +150,7 @@ fn pushes_events(rt: HostRuntime) -> Result<(), Fail> {
 
 /// A text with a line of each kind, as scripts are printed.
 const PRINTED: &str =
-    "life 2000 500\nshelf s 1 02:00:00:00:00:01,02:00:00:00:00:02 1500\nslot s 0 16\nslot s 7 9 4\nhost a 02:00:00:00:00:0a\nhost b 02:00:00:00:00:0b 5 600\nattach a s 0\n\
+    "life 2000 500\nshelf s 1 02:00:00:00:00:01,02:00:00:00:00:02 1500\nslot s 0 16\nslot s 7 9 4\nhost a 02:00:00:00:00:0a\nhost b 02:00:00:00:00:0b 5 600\nattach a s 0\nreadonly s 7\n\
     read a e1.0 281474976710655 255\nwrite a e1.0 0 0 5a\nflush a e1.0\nidentify a e1.0\nconfig a e1.0 read\nconfig a e1.0 test -\nconfig a e1.0 force 00ff\n\
     masks a e1.0 read\nmasks a e1.0 edit +02:00:00:00:00:0a,-ff:ff:ff:ff:ff:ff\nreserve a e1.0 read\nreserve a e1.0 set -\nreserve a e1.0 force 02:00:00:00:00:0a,02:00:00:00:00:0b\n\
     tick 1\ndeliver 3 b\npass 10\nskip 1\nagain\ninject ffffffffffff02000000000c88a2\nfail e1.7 store 1000\nstop e1.0 keep 1 mix:18446744073709551615\ncrash s torn\n";

@@ -33,8 +33,8 @@ fn shelf_of_two(alloc: Global) -> Result<MemoryRack, Fail>
     let mut ports = Ports::new();
     ports.push(PORT);
     let mut rack = MemoryRack::new(alloc, 1, ports, 1500)?;
-    rack.add(alloc, 7, 16, None)?;
-    rack.add(alloc, 3, 16, Some(4))?;
+    rack.add(alloc, 7, 16, None, false)?;
+    rack.add(alloc, 3, 16, Some(4), false)?;
     Ok(rack)
 }
 

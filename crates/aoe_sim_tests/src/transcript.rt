@@ -69,11 +69,12 @@ fn crashed(alloc: Global, lists: Lists) -> Result<Blob, NoMemory> {
     )
 }
 
-/// Lists with a config string and a mask.
-fn some_lists() -> Lists {
+/// Lists with a config string and a mask, and with the read-only mark or without it.
+fn some_lists(read_only: bool) -> Lists {
     let mut lists = Lists::new();
     let _ = lists.config.try_extend_from_slice(b"ab");
     lists.masks.push(MAC);
+    lists.read_only = read_only;
     lists
 }
 
@@ -88,5 +89,7 @@ fn prints_a_full_backlog(rt: HostRuntime) {
 fn prints_the_lists_of_a_crash(rt: HostRuntime) {
     let alloc = rt.alloc();
     let listed = "crashed e1.0 config 6162 masks 02000000000b reserves -\n";
-    prints(&rt, crashed(alloc, some_lists()), listed);
+    prints(&rt, crashed(alloc, some_lists(false)), listed);
+    let marked = "crashed e1.0 config 6162 masks 02000000000b reserves - read-only\n";
+    prints(&rt, crashed(alloc, some_lists(true)), marked);
 }

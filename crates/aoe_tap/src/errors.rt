@@ -63,9 +63,14 @@ pub enum OpenRefusal {
     #[error("no memory")]
     NoMemory,
 
-    /// It can't be opened for reading and writing, or is no file of a device that can be waited for.
+    /// It can't be opened for reading and writing, or can't be waited for: the number of the system's
+    /// error, where it has one.
     #[error("no tap file")]
-    Unopened,
+    Unopened(Option<i32>),
+
+    /// It is no character device.
+    #[error("no device")]
+    Kind,
 
     /// Another program has locked it.
     #[error("in use")]
@@ -79,8 +84,8 @@ impl From<AllocError> for OpenRefusal {
 }
 
 impl From<io::Error> for OpenRefusal {
-    fn from(_: io::Error) -> OpenRefusal {
-        OpenRefusal::Unopened
+    fn from(error: io::Error) -> OpenRefusal {
+        OpenRefusal::Unopened(error.raw_os_error())
     }
 }
 
@@ -88,7 +93,7 @@ impl From<TryLockError> for OpenRefusal {
     fn from(error: TryLockError) -> OpenRefusal {
         match error {
             TryLockError::WouldBlock => OpenRefusal::InUse,
-            TryLockError::Error(_) => OpenRefusal::Unopened,
+            TryLockError::Error(error) => OpenRefusal::from(error),
         }
     }
 }

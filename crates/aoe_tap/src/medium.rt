@@ -53,12 +53,12 @@ impl TapMedium {
     {
         let file = OpenOptions::new().read(true).write(true).open(rt, name)?;
         if !file.metadata()?.file_type().is_char_device() {
-            return Err(OpenRefusal::Unopened);
+            return Err(OpenRefusal::Kind);
         }
         file.try_lock()?;
         let descriptor = file.as_raw_fd();
         if os::set_nonblocking(descriptor, true) != 0 {
-            return Err(OpenRefusal::Unopened);
+            return Err(OpenRefusal::Unopened(Some(os::errno())));
         }
         let poll = Poll::new(rt)?;
         poll.registry()

@@ -164,15 +164,15 @@ whole-long [] whole = refl
 whole-long (p ∷ parts) whole =
     omega (arith, length-append p.bytes (joined parts), All-head IsWhole p parts whole, whole-long parts (All-tail IsWhole p parts whole))
 
--- before any was submitted
-pub so-fresh : (w : Bool) (k at : ℕ) (parts : List Part) → 0 < k → AreAdjacent at parts → All IsWhole parts → All (λ p. p.stage ≡ Pending) parts
-    → AreSo w 0 [] k at parts
-so-fresh w k at [] some adjacent whole pending = tt
-so-fresh w k at (p ∷ parts) some adjacent whole pending = (
+-- before any was submitted, of those behind n others
+pub so-fresh : (w : Bool) (n : ℕ) (D : List Done) (k at : ℕ) (parts : List Part) → n < k → AreAdjacent at parts → All IsWhole parts
+    → All (λ p. p.stage ≡ Pending) parts → AreSo w n D k at parts
+so-fresh w n D k at [] past adjacent whole pending = tt
+so-fresh w n D k at (p ∷ parts) past adjacent whole pending = (
   adjacent.0,
   All-head IsWhole p parts whole,
-  rw (All-head (λ p. p.stage ≡ Pending) p parts pending) some,
-  so-fresh w (k + 1) (at + p.count) parts (omega arith) adjacent.1 (All-tail IsWhole p parts whole) (All-tail (λ p. p.stage ≡ Pending) p parts pending),
+  rw (All-head (λ p. p.stage ≡ Pending) p parts pending) past,
+  so-fresh w n D (k + 1) (at + p.count) parts (omega (arith, past)) adjacent.1 (All-tail IsWhole p parts whole) (All-tail (λ p. p.stage ≡ Pending) p parts pending),
 )
 
 -- a part under way has its bytes and sectors

@@ -1,5 +1,5 @@
 -- The turns of a request that goes on behind its responses.
-use Rattle.std.proofs.Common.{ℕ, zero, suc, ◌≡◌, ◌+◌, List, [], ◌∷◌, ◌++◌, append_assoc, length, length-append, Option, Some, None, refl, sym, ap, ◌∙◌, arith}
+use Rattle.std.proofs.Common.{ℕ, zero, suc, ◌≡◌, ◌+◌, List, [], ◌∷◌, ◌++◌, append_assoc, drop, length, length-append, Option, Some, None, refl, sym, ap, ◌∙◌, arith}
 use Rattle.std.specs.Prelude.{Result, Ok, Err}
 use Rattle.aoe_base.specs.declared.failure.Failed.{Failed}
 use Rattle.aoe_io.proofs.LinkLemmas.{Added-then, turned-nothing, turned-then}
@@ -8,6 +8,7 @@ use Rattle.aoe_tools.specs.Asking.{Response, asked, asked_from, brought, respons
 use Rattle.aoe_tools.specs.Discovery.{Discovers, Ends, discovered, unless_none}
 use Rattle.aoe_tools.specs.Found.{found_in, noted}
 use Rattle.aoe_tools.specs.Listening.{Listens, Waits}
+use Rattle.aoe_tools.specs.One.{args_of}
 use Rattle.aoe_tools.specs.declared.end.ToolRefusal.{ToolRefusal}
 use Rattle.aoe_tools.specs.declared.end.ToolRefusal.TheVariants as tool
 use Rattle.aoe_tools.specs.declared.found.Seen.{Seen}
@@ -105,7 +106,7 @@ module _ {q : Question} {request : List ℕ} {now : ℕ} {found : List Seen} {st
     }
 
     -- the next device that answers is noted
-    pub goes-on : {r : Reply} {found' : List Seen} → found' ≡ noted found r.id r.source
+    pub goes-on : {r : Reply} {found' : List Seen} → found' ≡ noted found r.id r.source (args_of (record { reply = r; args = drop 24 frame }))
         → Listens (Ok (Some r)) q request limit now then frame mid last given' given'' taken' taken''
         → Finds q request then found' start last given given'' taken taken''
     goes-on {r} {found'} is l = at l.turns l.turned l.passed l.waits

@@ -1,5 +1,5 @@
 -- The second part of a turn, of its three steps.
-use Rattle.std.proofs.Common.{ℕ, ◌≡◌, Bool, true, false, List, [], ◌++◌, map, drop, Option, Some, None, refl, sym, ap, ◌∙◌}
+use Rattle.std.proofs.Common.{ℕ, ◌≡◌, ◌≤◌, arith, Bool, true, false, List, [], ◌++◌, map, drop, Option, Some, None, refl, sym, ap, ◌∙◌}
 use Rattle.aoe_initiator.proofs.MatchLemmas.{same-then}
 use Rattle.std.specs.Prelude.{◌⊎◌, Result, Ok}
 use Rattle.aoe_base.specs.declared.failure.Failed.{Failed}
@@ -7,16 +7,17 @@ use Rattle.aoe_initiator.specs.declared.outcome.Done.{Done}
 use Rattle.aoe_initiator.specs.Host.{Host, IsSame, Matches}
 use Rattle.aoe_initiator.specs.HostLog.{commands, Event}
 use Rattle.aoe_io.specs.Link.{Added, Turn}
+use Rattle.aoe_tools.proofs.CourseLemmas.{submitted-check}
 use Rattle.aoe_tools.proofs.ListenLemmas.{Frames}
 use Rattle.aoe_tools.proofs.SubmitLemmas.{as-many}
 use Rattle.aoe_tools.proofs.TagLemmas.{tags-heard, tags-submits}
 use Rattle.aoe_tools.specs.declared.course.Course.{Course}
-use Rattle.aoe_tools.specs.TransferCourse.{submitted, IsFilled}
+use Rattle.aoe_tools.specs.TransferCourse.{most_commands, submitted, IsFilled}
 use Rattle.aoe_tools.specs.TransferRun.{after_frames, after_submits, told_by, HasTags, Heard, IsFit}
 use Rattle.aoe_tools.specs.TransferSteps.{is_heard, Broken, Exchanged, HearsOne, IsHeld, SendsSome, SubmitsSome}
 
 fit-held : {host host' : Host} {c : Course} → IsHeld host host' → IsFit host c → IsFit host' c
-fit-held {host} {host'} held fit = record { attached = as-many host host' held.same ∙ fit.attached; few = rw held.last fit.few; tickets = rw held.last fit.tickets }
+fit-held {host} {host'} held fit = record { attached = as-many host host' held.same ∙ fit.attached; few = rw held.last fit.few; tickets = rw held.last fit.tickets; behind = rw held.last fit.behind }
 
 heard-some : (heard : Option Heard) → is_heard heard ≡ true → (h : Heard) × (heard ≡ Some h)
 heard-some None e = absurd cc
@@ -37,6 +38,13 @@ module _ {host h1 : Host} {c c1 : Course} (s : SubmitsSome host h1 c c1) (filled
   tags1 : HasTags h1.flight.last_tag (commands log1)
   tags1 = rw s.tag (tags-submits s.submits log tags)
 
+  -- so many commands, and no more
+  within1 : h1.last_ticket ≤ most_commands c.check
+  within1 =
+      let same : c1.check ≡ c.check = rw s.course (submitted-check c s.submits) in
+      let few : h1.last_ticket ≤ most_commands c1.check = omega (arith, s.fit.few) in
+      rw same at few
+
   filled1 : IsFilled (submitted c s.submits)
   filled1 = rw s.course at filled
 
@@ -45,7 +53,7 @@ module _ {host h1 : Host} {c c1 : Course} (s : SubmitsSome host h1 c c1) (filled
       (empty : host.waiting ≡ []) where
     exchanged : (heard : Option Heard) × (finished ≡ is_heard heard) × Exchanged base log host.last_ticket c c3 h3 heard start turned' given given' taken taken1
     exchanged =
-        let law = f.sends base log1 same1 (s.matches log m) tags1 in
+        let law = f.sends base log1 (most_commands c.check) same1 (s.matches log m) tags1 within1 in
         let same2 = same-then base h1 h2 same1 f.held.same in
         let brings = h.hears base (after_frames f.sent log1) same2 law.1 in
         let none : h2.waiting ≡ [] = f.waiting ∙ s.waiting ∙ empty in (
@@ -90,5 +98,5 @@ module _ {host h1 : Host} {c c1 : Course} (s : SubmitsSome host h1 c c1) (filled
     filled = filled1;
     sent = f.sent;
     took = took;
-    sends = (f.sends base log1 same1 (s.matches log m) tags1).0;
+    sends = (f.sends base log1 (most_commands c.check) same1 (s.matches log m) tags1 within1).0;
   }

@@ -11,6 +11,8 @@ mod JoinLemmas
 mod ListenLemmas
 mod OnceLemmas
 mod OneLemmas
+mod OtherLemmas
+mod PutLemmas
 mod QuestionLemmas
 mod RunLemmas
 mod SendingLemmas

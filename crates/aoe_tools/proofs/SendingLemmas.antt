@@ -21,8 +21,8 @@ use Rattle.aoe_tools.specs.TransferSteps.{IsHeld, SendsSome}
 pub record Sending (n : ℕ) (host host' : Host) (before after : Option Frames) : Type 0 where
   pub sent : List Outgoing
   pub took : Added before after (map (λ o. o.frame) sent)
-  pub sends : (base : Host) (log : List Event) → IsSame base host → Matches log host → HasTags host.flight.last_tag (commands log)
-      → AreSent base log sent × Matches (after_frames sent log) host'
+  pub sends : (base : Host) (log : List Event) (most : ℕ) → IsSame base host → Matches log host → HasTags host.flight.last_tag (commands log)
+      → host.last_ticket ≤ most → AreSent most base log sent × Matches (after_frames sent log) host'
       × HasTags host'.flight.last_tag (commands (after_frames sent log)) × (active (after_frames sent log) + n ≤ active log)
   pub held : IsHeld host host'
   pub waiting : host'.waiting ≡ host.waiting
@@ -58,7 +58,7 @@ silent : {base start host : Host} {log : List Event} → IsSame base start → I
     → IsSilent base log
 silent {base} {start} {host} same held m quiet = record { host = host; at = record { same = same-then base start host same held.same; time = m.time }; quiet = quiet }
 
-module _ {n : ℕ} {start host : Host} {before mid : Option Frames} (few : start.last_ticket ≤ 32769) (s : Sending n start host before mid) where
+module _ {n : ℕ} {start host : Host} {before mid : Option Frames} (few : start.last_ticket ≤ 65537) (s : Sending n start host before mid) where
   next-held : {host' : Host} → IsHeld host host' → IsHeld start host'
   next-held {host'} held = record { same = same-then start host host' s.held.same held.same; last = held.last ∙ s.held.last }
 
@@ -66,14 +66,14 @@ module _ {n : ℕ} {start host : Host} {before mid : Option Frames} (few : start
     abbrev out : Outgoing
     out = record { sent = sent; frame = frame }
 
-    next-law : (base : Host) (log : List Event) → IsSame base start → Matches log start → HasTags start.flight.last_tag (commands log)
-        → AreSent base log (out ∷ s.sent) × Matches (after_frames (out ∷ s.sent) log) host'
+    next-law : (base : Host) (log : List Event) (most : ℕ) → IsSame base start → Matches log start → HasTags start.flight.last_tag (commands log)
+        → start.last_ticket ≤ most → AreSent most base log (out ∷ s.sent) × Matches (after_frames (out ∷ s.sent) log) host'
         × HasTags host'.flight.last_tag (commands (after_frames (out ∷ s.sent) log)) × (active (after_frames (out ∷ s.sent) log) + (n + 1) ≤ active log)
-    next-law base log same m tags =
-        let so_far = s.sends base log same m tags in
+    next-law base log most same m tags within =
+        let so_far = s.sends base log most same m tags within in
         let log' = after_frames s.sent log in
-        let tag = tags-sent host log' so_far.1 so_far.2 host' sent (rw s.held.last few) (p.next log' so_far.1) p.tag in
-        let may : MaySend base log' out = record {
+        let tag = tags-sent host log' so_far.1 so_far.2 host' sent most (rw s.held.last few) (rw s.held.last within) (p.next log' so_far.1) p.tag in
+        let may : MaySend most base log' out = record {
           host = host;
           at = record { same = same-then base start host same s.held.same; time = so_far.1.time };
           next = p.next log' so_far.1;
@@ -99,7 +99,7 @@ module _ {n : ℕ} {start host : Host} {before mid : Option Frames} (few : start
     sends-last is = record {
       sent = out ∷ s.sent;
       took = is ∙ s.took;
-      sends = λ base log same m tags. let law = next-law base log same m tags in (law.0, law.1, law.2, tt);
+      sends = λ base log most same m tags within. let law = next-law base log most same m tags within in (law.0, law.1, law.2, tt);
       held = next-held p.held;
       waiting = p.waiting ∙ s.waiting;
     }
@@ -111,8 +111,8 @@ module _ {n : ℕ} {start host : Host} {before mid : Option Frames} (few : start
   sends-all quiet stays held waiting no_tag = record {
     sent = s.sent;
     took = s.took;
-    sends = λ base log same m tags.
-        let so_far = s.sends base log same m tags in
+    sends = λ base log most same m tags within.
+        let so_far = s.sends base log most same m tags within in
         let log' = after_frames s.sent log in
         (so_far.0, stays log' so_far.1, rw no_tag so_far.2, silent same s.held so_far.1 (quiet log' so_far.1));
     held = next-held held;
@@ -120,13 +120,13 @@ module _ {n : ℕ} {start host : Host} {before mid : Option Frames} (few : start
   }
 
 -- so many frames were sent that no command is left to be sent
-pub sends-full : {start host : Host} {before after : Option Frames} → start.last_ticket ≤ 32769 → Sending 32769 start host before after
+pub sends-full : {start host : Host} {before after : Option Frames} → start.last_ticket ≤ 65537 → Sending 65537 start host before after
     → SendsSome (Ok record {}) start host before after
 sends-full {start} {host} few s = record {
   sent = s.sent;
   took = s.took;
-  sends = λ base log same m tags.
-      let so_far = s.sends base log same m tags in
+  sends = λ base log most same m tags within.
+      let so_far = s.sends base log most same m tags within in
       let log' = after_frames s.sent log in
       let none : active log' ≡ 0 = omega (arith, so_far.3, few-active start log m, few) in
       (so_far.0, so_far.1, so_far.2, silent same s.held so_far.1 (none-active host log' so_far.1 none));

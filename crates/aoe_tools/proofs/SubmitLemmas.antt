@@ -11,9 +11,9 @@ use Rattle.aoe_initiator.specs.declared.op.Op.{Op}
 use Rattle.aoe_initiator.specs.Host.{Host, IsSame, Matches}
 use Rattle.aoe_initiator.specs.HostLog.{Event}
 use Rattle.aoe_initiator.specs.HostLog.Event.{Submits}
-use Rattle.aoe_tools.proofs.CourseLemmas.{left-handed, up-to-handed}
+use Rattle.aoe_tools.proofs.CourseLemmas.{behind-more, handed-check, left-handed, up-to-handed}
 use Rattle.aoe_tools.specs.declared.course.Course.{Course}
-use Rattle.aoe_tools.specs.TransferCourse.{handed, next_op}
+use Rattle.aoe_tools.specs.TransferCourse.{handed, most_commands, next_op}
 use Rattle.aoe_tools.specs.TransferRun.{after_submits, IsFit}
 use Rattle.aoe_tools.specs.TransferSteps.{SubmitsOne, SubmitsSome}
 
@@ -44,8 +44,9 @@ submits-one {host} {host'} {c} {op = op} {ticket} fit next is after matches same
       waiting = same.3;
       fit = rw after (record {
         attached = as-many host host' same.0 ∙ fit.attached;
-        few = omega (arith, same.2, is, fit.few, left-handed ticket c op next);
+        few = omega (arith, same.2, is, fit.few, left-handed ticket c op next, ap most_commands (handed-check ticket c));
         tickets = rw same.2 (up-to-handed host.last_ticket ticket c law fit.tickets later);
+        behind = rw (same.2, handed-check ticket c) (behind-more host.last_ticket ticket.0 c.check (omega (arith, later)) fit.behind);
       });
     }
 

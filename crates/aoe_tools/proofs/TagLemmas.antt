@@ -160,16 +160,16 @@ module _ (host : Host) (log : List Event) (m : Matches log host) (tags : HasTags
   few-tags = omega (arith, tags.few, few-commands 0 host.last_ticket (commands log) (omega arith) m.tickets m.last)
 
   -- a frame that is sent has such a tag
-  pub tags-sent : (host' : Host) (sent : Sent) → host.last_ticket ≤ 32769 → IsNext host (commands log) sent
+  pub tags-sent : (host' : Host) (sent : Sent) (most : ℕ) → host.last_ticket ≤ 65537 → host.last_ticket ≤ most → IsNext host (commands log) sent
       → GivesTag sent.again host.flight host.clock sent.tag host'.flight
-      → (0 < sent.tag) × (sent.tag ≤ 32769) × HasTags host'.flight.last_tag (commands (Sends sent.ticket sent.tag sent.path ∷ log))
-  tags-sent host' sent few next gives = at sent.again next gives
+      → (0 < sent.tag) × (sent.tag ≤ most) × HasTags host'.flight.last_tag (commands (Sends sent.ticket sent.tag sent.path ∷ log))
+  tags-sent host' sent most few below next gives = at sent.again next gives
     where
       timeouts : ℕ → ℕ
       timeouts = λ n. timeout_on (path_log log n) sent.path.0
 
       at : (b : Bool) → IsNextBy b host (commands log) sent → GivesTag b host.flight host.clock sent.tag host'.flight
-          → (0 < sent.tag) × (sent.tag ≤ 32769) × HasTags host'.flight.last_tag (commands (Sends sent.ticket sent.tag sent.path ∷ log))
+          → (0 < sent.tag) × (sent.tag ≤ most) × HasTags host'.flight.last_tag (commands (Sends sent.ticket sent.tag sent.path ∷ log))
       at true r gives =
           let from = sent-from (commands log) r.command r.first_due.there in
           let c = from.0 in
@@ -178,11 +178,11 @@ module _ (host : Host) (log : List Event) (m : Matches log host) (tags : HasTags
           let same : from.1.s.tag ≡ sent.tag = ap (λ (o : Outstanding). o.flying.tag) (sym from.1.is) ∙ r.tag in
           let some : 0 < sent.tag = omega (arith, own.0, same) in
           let within : sent.tag ≤ host.flight.last_tag = omega (arith, own.1, same) in
-          (some, omega (arith, within, few-tags, few), rw gives (tags-again sent.ticket sent.tag (record { 0 = clock log }) sent.path timeouts (commands log) some within tags))
+          (some, omega (arith, within, few-tags, below), rw gives (tags-again sent.ticket sent.tag (record { 0 = clock log }) sent.path timeouts (commands log) some within tags))
       at false s gives =
           let c = s.command in
           let none : c.sends ≡ None =
           stage-unsent c.sends c.done (and_parts (unsent (stage c.sends c.done)) (not (list_any (λ earlier. keeps_back host.life.requests.0 host.clock earlier (as_entered c)) (entered_at c.device.0 (commands log)))) s.clear).0 in
           let next = next-tag sent.tag (omega (arith, few-tags, few)) gives.1 in
           let first = tags-first sent.ticket sent.tag (record { 0 = clock log }) sent.path timeouts (commands log) c s.there s.ticket none next tags in
-          (omega (arith, next), omega (arith, first.1, few, few-commands 0 host.last_ticket (commands log) (omega arith) m.tickets m.last), rw gives.0 first.0)
+          (omega (arith, next), omega (arith, first.1, below, few-commands 0 host.last_ticket (commands log) (omega arith) m.tickets m.last), rw gives.0 first.0)

@@ -12,7 +12,7 @@ use Rattle.aoe_initiator.specs.HostLaw.{GaveUpInTurn}
 use Rattle.aoe_initiator.specs.HostLog.{clock, commands, sent_of, Event}
 use Rattle.aoe_initiator.specs.HostLog.Event.{Advances}
 use Rattle.aoe_io.specs.Link.{Turn}
-use Rattle.aoe_tools.proofs.CourseLemmas.{left-dones, up-to-dones}
+use Rattle.aoe_tools.proofs.CourseLemmas.{left-dones, most-dones, up-to-dones}
 use Rattle.aoe_tools.proofs.ListenLemmas.{Frames}
 use Rattle.aoe_tools.proofs.SubmitLemmas.{as-many}
 use Rattle.aoe_tools.proofs.TagLemmas.{tags-gave-up}
@@ -48,10 +48,12 @@ module _ {host advanced h1 : Host} {now : ℕ} (a : Advanced host advanced now) 
       → ((last : ℕ) (block : Transfer) (done : Done) → AreUpTo last block.parts → AreUpTo last (settle block done).parts) → IsFit h1 c1
   fit-turn turns c c1 waiting fit after law =
       let last : h1.last_ticket ≡ host.last_ticket = rw is a.last in
+      let both = up-to-dones host.last_ticket turns c waiting law fit.tickets fit.behind in
       rw after (record {
         attached = as-many advanced h1 (retold-same is) ∙ as-many host advanced a.same ∙ fit.attached;
-        few = omega (arith, last, fit.few, left-dones turns c waiting);
-        tickets = rw last (up-to-dones host.last_ticket turns c waiting law fit.tickets);
+        few = omega (arith, last, fit.few, left-dones turns c waiting, most-dones turns c waiting);
+        tickets = rw last both.0;
+        behind = rw last both.1;
       })
 
   module _ {base : Host} {turns : ℕ} {start : Course} {rounds : List Round} {c : Course} (run : Running base turns start rounds host c)
@@ -116,7 +118,7 @@ module _ {host advanced h1 : Host} {now : ℕ} (a : Advanced host advanced now) 
             submits = rw given at b.are;
             filled = b.filled;
             sent = b.sent;
-            sends = b.sends;
+            sends = rw (most-dones turns c (dones (told rounds) gave_up)) at b.sends;
             took = b.took;
           }
 
@@ -133,7 +135,7 @@ module _ {host advanced h1 : Host} {now : ℕ} (a : Advanced host advanced now) 
             goes_on = goes-on;
             submits = rw given at x.are;
             filled = x.filled;
-            sends = x.sends;
+            sends = rw (most-dones turns c (dones (told rounds) gave_up)) at x.sends;
             silent = x.silent;
             hears = x.hears;
           } in

@@ -21,6 +21,7 @@ refusal_text (refusal.Aoe error) = codes "aoe: refused: AoE error " ++ decimal e
 refusal_text (refusal.Ata status error) = codes "aoe: refused: ATA status " ++ (pair_text status ++ (codes " error " ++ pair_text error))
 refusal_text (refusal.Mask error) = codes "aoe: refused: mask error " ++ decimal error
 refusal_text refusal.Range = codes "aoe: refused: range"
+refusal_text (refusal.Differs sector) = codes "aoe: refused: sector " ++ (decimal sector ++ codes " differs")
 
 abbrev pub text_of : ToolRefusal → List ℕ
 text_of tool.LinkFault = codes "aoe: link fault on port 0"

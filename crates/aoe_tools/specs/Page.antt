@@ -41,4 +41,4 @@ known (r ∷ rs) = known_by r.reply.answer r.args
 
 -- a device that was found, with what is known of it
 abbrev pub with_known : Seen → Known → Seen
-with_known s k = record { id = s.id; ports = s.ports; total = k.total; state = k.state }
+with_known s k = record { id = s.id; ports = s.ports; args = s.args; total = k.total; state = k.state }

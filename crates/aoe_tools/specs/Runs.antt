@@ -1,5 +1,5 @@
 -- What a run of each tool is, over a link and a clock that tell what they gave.
-use Rattle.std.specs.Prelude.{ℕ, ◌≡◌, List, [], Option, Some, Result}
+use Rattle.std.specs.Prelude.{ℕ, ◌≡◌, Bool, List, [], Option, Some, Result}
 use Rattle.arrayvec.specs.ArrayVec.{ArrayVec}
 use Rattle.aoe_base.specs.Addresses.{broadcast}
 use Rattle.aoe_base.specs.declared.address.Mac.{Mac}
@@ -95,10 +95,10 @@ abbrev pub RunsGet : Result Unit CopyRefusal → Ask → TargetId → ℕ → �
 RunsGet result ask id at count t held held' = (copied : Result Course ToolRefusal)
     × Copies copied ask id (read_of at count) t.least (before t) (after t) t.answers t.answers' × TakesRead (read_by copied) result held held'
 
--- what a source gave was written to sectors of the device, and flushed
-abbrev pub RunsPut : Result Unit CopyRefusal → Ask → TargetId → ℕ → Told → Option (List ℕ) → Option (List ℕ) → Type 0
-RunsPut result ask id at t left left' = (input : Result (List ℕ) CopyRefusal)
-    × Inputs input left left' × Puts input result ask id at t.least (before t) (after t) t.answers t.answers'
+-- what a source gave was written to sectors of the device, and flushed; and read again and compared, where that was asked for
+abbrev pub RunsPut : Result Unit CopyRefusal → Ask → TargetId → ℕ → Bool → Told → Option (List ℕ) → Option (List ℕ) → Type 0
+RunsPut result ask id at verify t left left' = (input : Result (List ℕ) CopyRefusal)
+    × Inputs input left left' × Puts input result ask id at verify t.least (before t) (after t) t.answers t.answers'
 
 -- the device was flushed (ATA, FLUSH CACHE): what a write of no sectors ends with
 abbrev pub RunsFlush : Result Unit ToolRefusal → TargetId → Ask → Told → Type 0

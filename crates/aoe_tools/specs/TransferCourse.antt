@@ -12,6 +12,8 @@ use Rattle.aoe_initiator.specs.declared.op.Op.TheVariants as op
 use Rattle.aoe_initiator.specs.declared.outcome.Done.{Done}
 use Rattle.aoe_initiator.specs.declared.outcome.Outcome.{Outcome}
 use Rattle.aoe_initiator.specs.declared.outcome.Outcome.TheVariants as outcome
+use Rattle.aoe_tools.specs.declared.course.Check.{Check}
+use Rattle.aoe_tools.specs.declared.course.Check.TheVariants as check
 use Rattle.aoe_tools.specs.declared.course.Course.{Course}
 use Rattle.aoe_tools.specs.declared.course.Phase.{Phase}
 use Rattle.aoe_tools.specs.declared.course.Phase.TheVariants as phase
@@ -67,10 +69,26 @@ after_parts took_as.More c = c
 after_parts (took_as.Part outcome) c = c
 after_parts (took_as.NotMine done) c = c
 
+-- the flush with this ticket is acknowledged
+abbrev pub is_acknowledged : Ticket → Done → Bool
+is_acknowledged ticket d = nat_eq d.ticket.0 ticket.0 && is_flushed d.outcome
+
+-- the sectors are still to be read again
+abbrev pub is_ahead : Check → Bool
+is_ahead check.Unasked = false
+is_ahead (check.Ahead reads) = true
+is_ahead (check.Behind written) = false
+
+-- once the flush is acknowledged the sectors are read again, where that is asked for, and what was written is kept
+abbrev pub begin_check : Check → Course → Course
+begin_check check.Unasked c = c
+begin_check (check.Ahead reads) c = record c { block = reads; flushes = false; phase = phase.Parts; check = check.Behind c.block }
+begin_check (check.Behind written) c = c
+
 abbrev pub note_in : Phase → Done → Course → Course
 note_in phase.Parts d c = after_parts (took c.block d) (record c { block = settle c.block d })
 note_in phase.Flush d c = c
-note_in (phase.Flushing ticket) d c = c
+note_in (phase.Flushing ticket) d c = if is_acknowledged ticket d then begin_check c.check c else c
 
 -- a command has its outcome
 abbrev pub after_done : Done → Course → Course
@@ -83,11 +101,11 @@ is_last flushes took_as.More = false
 is_last flushes (took_as.Part outcome) = false
 is_last flushes (took_as.NotMine done) = false
 
--- with this outcome all parts are read; or they are written, and the flush is acknowledged
+-- with this outcome all parts are read; or they are written, the flush is acknowledged, and they aren't to be read again
 abbrev pub is_over_in : Phase → Course → Done → Bool
 is_over_in phase.Parts c d = is_last c.flushes (took c.block d)
 is_over_in phase.Flush c d = false
-is_over_in (phase.Flushing ticket) c d = nat_eq d.ticket.0 ticket.0 && is_flushed d.outcome
+is_over_in (phase.Flushing ticket) c d = is_acknowledged ticket d && not (is_ahead c.check)
 
 abbrev pub ending_by : Option ToolRefusal → Bool → Option End
 ending_by (Some refusal) over = Some (Err refusal)
@@ -148,6 +166,18 @@ left_in phase.Parts c = count_by (λ (p : Part). is_pending p.stage) c.block.par
 left_in phase.Flush c = 1
 left_in (phase.Flushing ticket) c = 0
 
+-- how many parts are to be read again, of which none was submitted yet
+abbrev pub left_behind : Check → ℕ
+left_behind check.Unasked = 0
+left_behind (check.Ahead reads) = count_by (λ (p : Part). is_pending p.stage) reads.parts
+left_behind (check.Behind written) = 0
+
 -- how many commands weren't submitted yet
 abbrev pub left : Course → ℕ
-left c = left_in c.phase c
+left c = left_in c.phase c + left_behind c.check
+
+-- how many commands a transfer has at most: one for each of 32,768 sectors, and a flush; and where they are read again one more for each
+abbrev pub most_commands : Check → ℕ
+most_commands check.Unasked = 32769
+most_commands (check.Ahead reads) = 65537
+most_commands (check.Behind written) = 65537

@@ -7,6 +7,8 @@ use Rattle.aoe_initiator.specs.declared.op.Op.TheVariants as op
 use Rattle.aoe_initiator.specs.declared.outcome.Done.{Done}
 use Rattle.aoe_initiator.specs.declared.outcome.Outcome.{Outcome}
 use Rattle.aoe_initiator.specs.declared.outcome.Outcome.TheVariants as outcome
+use Rattle.aoe_tools.specs.declared.course.Check.{Check}
+use Rattle.aoe_tools.specs.declared.course.Check.TheVariants as check
 use Rattle.aoe_tools.specs.TransferCourse.{Submission}
 use Rattle.aoe_tools.specs.TransferRun.{submissions, told_by, Round}
 
@@ -14,6 +16,12 @@ use Rattle.aoe_tools.specs.TransferRun.{submissions, told_by, Round}
 abbrev pub all_operations : Bool → List Part → List Op
 all_operations true parts = map (op_of true) parts ++ op.Flush ∷ []
 all_operations false parts = map (op_of false) parts
+
+-- and behind these, where the parts are read again, one read for each
+abbrev pub with_check : Check → List Op → List Op
+with_check check.Unasked ops = ops
+with_check (check.Ahead reads) ops = ops ++ map (op_of false) reads.parts
+with_check (check.Behind written) ops = ops
 
 -- the commands with these operations, whose tickets go from a number on
 abbrev pub numbered : ℕ → List Op → List Submission
@@ -85,3 +93,18 @@ pub record HasWritten (at max : ℕ) (bytes : List ℕ) (rounds : List Round) : 
   pub came : HaveCome (outcomes rounds) 1 (successes true parts)
   pub once : AreOfDistinct (outcomes rounds)
   pub follows : FollowsWrites parts rounds
+
+-- These bytes were written from a sector on and came back so. The turns fall in two. In the earlier ones the bytes were written and
+-- flushed, to the acknowledgement of the flush. In the later ones the parts of the same sectors were asked for once more, each with a
+-- ticket of its own past that of the flush, and the bytes that came back are those of the responses to these commands.
+pub record HasChecked (at max : ℕ) (bytes : List ℕ) (rounds : List Round) (back : List ℕ) : Type 0 where
+  pub later : List Round
+  pub earlier : List Round
+  pub order : rounds ≡ later ++ earlier
+  pub written : HasWritten at max bytes earlier
+  pub parts : List Part
+  pub parts_are : ArePartsOf at max (length bytes / 512) parts
+  pub together : joined parts ≡ back
+  pub asked : reverse (submissions later) ≡ numbered (length written.parts + 2) (all_operations false parts)
+  pub came : HaveCome (outcomes rounds) (length written.parts + 2) (successes false parts)
+  pub once : AreOfDistinct (outcomes rounds)

@@ -1,15 +1,15 @@
 -- The sectors that a source gives up to its end.
 use Rattle.std.specs.Prelude.{ℕ, ◌≡◌, ◌≢◌, ◌-◌, ◌%◌, ◌<◌, ◌≤◌, List, length, Option, Result, Ok, Err}
 use Rattle.aoe_io.specs.Bytes.{GaveSome}
-use Rattle.aoe_io.specs.Input.{IsReadUpTo}
+use Rattle.aoe_io.specs.Input.{IsReadInPart, IsReadUpTo}
 use Rattle.aoe_tools.specs.declared.end.CopyRefusal.{CopyRefusal}
 use Rattle.aoe_tools.specs.declared.end.CopyRefusal.TheVariants as copy
 use Rattle.aoe_tools.specs.declared.end.ToolRefusal.TheVariants as tool
 
--- why no input came
+-- why no input came: the source failed; or there was no memory for more of it, and what came so far was whole sectors and not too many
 abbrev pub Unread : CopyRefusal → Option (List ℕ) → Option (List ℕ) → Type 0
 Unread copy.SourceFault left left' = GaveSome left left'
-Unread (copy.Tool tool.NoMemory) left left' = GaveSome left left'
+Unread (copy.Tool tool.NoMemory) left left' = IsReadInPart 16777216 left left'
 Unread (copy.Tool refusal) left left' = ⊥
 Unread (copy.Stream offset) left left' = ⊥
 Unread copy.Limit left left' = ⊥

@@ -18,10 +18,12 @@ use Rattle.aoe_initiator.specs.HostLog.{clock, commands, sent_of, Event, HostCom
 use Rattle.aoe_initiator.specs.HostLog.Event.{Advances, Ends, Sends, Submits}
 use Rattle.aoe_initiator.specs.Response.{outcome_of}
 use Rattle.aoe_io.specs.Link.{Added, Turn, Turned, came, quiet, ended}
+use Rattle.aoe_tools.specs.declared.course.Check.{Check}
+use Rattle.aoe_tools.specs.declared.course.Check.TheVariants as check
 use Rattle.aoe_tools.specs.declared.course.Course.{Course}
 use Rattle.aoe_tools.specs.declared.lookup.Device.{Device}
 use Rattle.aoe_tools.specs.declared.end.ToolRefusal.TheVariants as tool
-use Rattle.aoe_tools.specs.TransferCourse.{after_dones, end_by, left, submitted, AreNext, End, IsFilled, Submission}
+use Rattle.aoe_tools.specs.TransferCourse.{after_dones, end_by, left, most_commands, submitted, AreNext, End, IsFilled, Submission}
 
 -- a frame that the host gave to be sent
 pub record Outgoing : Type 0 where
@@ -115,19 +117,19 @@ pub record GivesUp (base : Host) (log : List Event) (now : ℕ) (gave_up : List 
   pub in_turn : GaveUpInTurn base.dead (clock (Advances (record { 0 = now }) ∷ log)) (Advances (record { 0 = now }) ∷ log) gave_up
   pub all : All (λ o. is_expired base.dead (clock (Advances (record { 0 = now }) ∷ log)) o ≡ false) (sent_of (commands (after_tick now gave_up log)))
 
--- a frame is what may be sent next, with a tag from 1 to 32,769: a transfer has no more commands
-pub record MaySend (base : Host) (log : List Event) (o : Outgoing) : Type 0 where
+-- a frame is what may be sent next, with a tag from 1 to a number: a transfer has no more commands
+pub record MaySend (most : ℕ) (base : Host) (log : List Event) (o : Outgoing) : Type 0 where
   pub host : Host
   pub at : IsAt base log host
   pub next : IsNext host (commands log) o.sent
   pub frame : IsFrameOf host (commands log) o.sent o.frame
   pub path : IsOnNextPath host log o.sent
   pub some : 0 < o.sent.tag
-  pub few : o.sent.tag ≤ 32769
+  pub few : o.sent.tag ≤ most
 
-abbrev pub AreSent : Host → List Event → List Outgoing → Type 0
-AreSent base log [] = Unit {0}
-AreSent base log (o ∷ earlier) = AreSent base log earlier × MaySend base (after_frames earlier log) o
+abbrev pub AreSent : ℕ → Host → List Event → List Outgoing → Type 0
+AreSent most base log [] = Unit {0}
+AreSent most base log (o ∷ earlier) = AreSent most base log earlier × MaySend most base (after_frames earlier log) o
 
 -- nothing more may be sent
 pub record IsSilent (base : Host) (log : List Event) : Type 0 where
@@ -167,7 +169,7 @@ pub record IsRound (base : Host) (turns : ℕ) (c : Course) (waiting : List Done
   pub goes_on : end_by turns c (dones waiting r.gave_up) ≡ None
   pub submits : AreNext given (after_dones turns c (dones waiting r.gave_up)) r.submits
   pub filled : IsFilled (submitted (after_dones turns c (dones waiting r.gave_up)) r.submits)
-  pub sends : AreSent base (after_submits r.submits (after_tick r.now r.gave_up log)) r.sent
+  pub sends : AreSent (most_commands c.check) base (after_submits r.submits (after_tick r.now r.gave_up log)) r.sent
   pub silent : IsSilent base (after_frames r.sent (after_submits r.submits (after_tick r.now r.gave_up log)))
   pub hears : Hears base (after_frames r.sent (after_submits r.submits (after_tick r.now r.gave_up log))) r.brought r.heard
 
@@ -200,7 +202,7 @@ pub record Breaks (base : Host) (turns : ℕ) (c : Course) (waiting : List Done)
   pub submits : AreNext given (after_dones turns c (dones waiting gave_up)) submitted_are
   pub filled : IsFilled (submitted (after_dones turns c (dones waiting gave_up)) submitted_are)
   pub sent : List Outgoing
-  pub sends : AreSent base (after_submits submitted_are (after_tick now gave_up log)) sent
+  pub sends : AreSent (most_commands c.check) base (after_submits submitted_are (after_tick now gave_up log)) sent
   pub took : Added before after (map (λ o. o.frame) sent) ⊎ Added before after (drop 1 (map (λ o. o.frame) sent))
 
 -- the answers of the clock, where it tells them
@@ -229,11 +231,18 @@ pub record Running (base : Host) (turns : ℕ) (start : Course) (rounds : List R
   pub tickets : host.last_ticket ≡ length (submissions rounds)
   pub tags : HasTags host.flight.last_tag (commands (log_of rounds))
 
+-- what is to be read again was submitted with none of the tickets past this one
+abbrev pub IsBehind : ℕ → Check → Type 0
+IsBehind last check.Unasked = Unit {0}
+IsBehind last (check.Ahead reads) = AreUpTo last reads.parts
+IsBehind last (check.Behind written) = Unit {0}
+
 -- the host and the course fit one another: there is a device, all tickets are given in order, and few
 pub record IsFit (host : Host) (c : Course) : Type 0 where
   pub attached : length host.devices ≡ 1
-  pub few : host.last_ticket + left c ≤ 32769
+  pub few : host.last_ticket + left c ≤ most_commands c.check
   pub tickets : AreUpTo host.last_ticket c.block.parts
+  pub behind : IsBehind host.last_ticket c.check
 
 -- a host with this one port that is attached to a device at one port, and did nothing yet: it has the lifetimes and the patience of any
 -- host, and the most room

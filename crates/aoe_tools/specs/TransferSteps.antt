@@ -1,5 +1,5 @@
 -- What the steps of a turn do, one by one.
-use Rattle.std.specs.Prelude.{ℕ, suc, ◌≡◌, ◌+◌, ◌⊎◌, Bool, true, false, List, [], ◌∷◌, ◌++◌, length, map, drop, Option, Some, None, Result, Ok, Err}
+use Rattle.std.specs.Prelude.{ℕ, suc, ◌≡◌, ◌+◌, ◌≤◌, ◌⊎◌, Bool, true, false, List, [], ◌∷◌, ◌++◌, length, map, drop, Option, Some, None, Result, Ok, Err}
 use Rattle.aoe_base.specs.declared.failure.Failed.{Failed}
 use Rattle.aoe_initiator.specs.Host.{Host, IsSame, Matches}
 use Rattle.aoe_initiator.specs.HostLog.{commands, Event}
@@ -10,7 +10,7 @@ use Rattle.aoe_tools.specs.declared.end.ToolRefusal.{ToolRefusal}
 use Rattle.aoe_tools.specs.declared.end.ToolRefusal.TheVariants as tool
 use Rattle.aoe_tools.specs.declared.transfer.Passed.{Passed}
 use Rattle.aoe_tools.specs.declared.transfer.Passed.TheVariants as passed
-use Rattle.aoe_tools.specs.TransferCourse.{after_dones, handed, next_op, submitted, AreNext, End, IsFilled, Submission}
+use Rattle.aoe_tools.specs.TransferCourse.{after_dones, handed, most_commands, next_op, submitted, AreNext, End, IsFilled, Submission}
 use Rattle.aoe_tools.specs.TransferRun.{after_frames, after_heard, after_submits, dones, log_of, submissions, told, told_by, AreSent, Breaks, EndsBy, HasTags, Heard, Hears, IsCutShort, IsFit, IsSilent, Outgoing, Round, Running}
 
 -- unless an outcome was a failure
@@ -61,8 +61,8 @@ pub record IsHeld (host host' : Host) : Type 0 where
 pub record SendsSome (result : Result Unit Failed) (host host' : Host) (before after : Option (List (List ℕ))) : Type 0 where
   pub sent : List Outgoing
   pub took : TookBut result before after sent
-  pub sends : (base : Host) (log : List Event) → IsSame base host → Matches log host → HasTags host.flight.last_tag (commands log)
-      → AreSent base log sent × Matches (after_frames sent log) host'
+  pub sends : (base : Host) (log : List Event) (most : ℕ) → IsSame base host → Matches log host → HasTags host.flight.last_tag (commands log)
+      → host.last_ticket ≤ most → AreSent most base log sent × Matches (after_frames sent log) host'
       × HasTags host'.flight.last_tag (commands (after_frames sent log)) × SilentIf result base (after_frames sent log)
   pub held : IsHeld host host'
   pub waiting : host'.waiting ≡ host.waiting
@@ -90,7 +90,7 @@ pub record Exchanged (base : Host) (log : List Event) (tickets : ℕ) (c c' : Co
   pub course : c' ≡ submitted c submits
   pub sent : List Outgoing
   pub took : Added taken taken' (map (λ o. o.frame) sent)
-  pub sends : AreSent base (after_submits submits log) sent
+  pub sends : AreSent (most_commands c.check) base (after_submits submits log) sent
   pub silent : IsSilent base (after_frames sent (after_submits submits log))
   pub brought : Turn
   pub turned : Turned start turned' given given' (brought ∷ [])
@@ -108,7 +108,7 @@ pub record Broken (base : Host) (log : List Event) (tickets : ℕ) (c : Course) 
   pub filled : IsFilled (submitted c submits)
   pub sent : List Outgoing
   pub took : Added taken taken' (map (λ o. o.frame) sent) ⊎ Added taken taken' (drop 1 (map (λ o. o.frame) sent))
-  pub sends : AreSent base (after_submits submits log) sent
+  pub sends : AreSent (most_commands c.check) base (after_submits submits log) sent
 
 -- nothing passed over the link
 pub record IsUnused (start turned' : ℕ) (given given' : Option (List Turn)) : Type 0 where

@@ -1,22 +1,23 @@
 //! The tools that copy sectors out of a device, and into it, and the one that flushes it.
-ghost use Rattle.std.specs.Prelude.{◌≡◌, ◌≢◌, ◌≤◌, ◌<◌, ◌%◌, ◌^◌, Err, IfErr, IfOk, length, true};
+ghost use Rattle.std.specs.Prelude.{◌≡◌, ◌≢◌, ◌+◌, ◌/◌, ◌≤◌, ◌<◌, ◌%◌, ◌^◌, Err, IfErr, IfNone, IfOk, IfSome, length, true};
 ghost use Rattle.aoe_base.specs.Faults.{Blamed};
+ghost use Rattle.aoe_block.specs.Parts.{joined};
 ghost use Rattle.aoe_base.specs.declared.address.Mac.{Mac};
 ghost use Rattle.aoe_base.specs.declared.address.TargetId.{TargetId};
 ghost use Rattle.aoe_tools.specs.declared.course.Course.{Course};
 ghost use Rattle.aoe_tools.specs.declared.end.ToolRefusal.{ToolRefusal as Refused};
 ghost use Rattle.aoe_tools.specs.Runs.{RunsFlush, RunsGet, RunsPut, told};
-ghost use Rattle.aoe_tools.specs.TransferCopies.{end_of, first_phase, read_by, read_of, write_of, Copies, IsFresh, MayRun, NotBegun, Puts, TakesRead};
+ghost use Rattle.aoe_tools.specs.TransferCopies.{checks_of, end_of, first_phase, put_of, read_by, read_of, write_of, CanCompare, Copies, IsCheckEnd, IsCompared, IsFirstOther, IsFresh, IsFreshCheck, MayRun, NotBegun, Puts, TakesRead};
 ghost use Rattle.aoe_tools.specs.TransferInput.{Inputs};
 ghost use Rattle.aoe_tools.specs.TransferRun.{host_of, IsFit};
 
-use crate::course::{Course, Phase};
+use crate::course::{Check, Course, Phase};
 use crate::end::{CopyRefusal, Refusal, ToolRefusal};
 use crate::input::read_sectors;
 use crate::lookup::{Device, look_up};
 use crate::question::Ask;
 use crate::transfer::Transfer;
-use aoe_base::{Blob, Failed, NoMemory, TargetId};
+use aoe_base::{Blob, Failed, NoMemory, SECTOR_LEN, TargetId};
 use aoe_block::{Block, BlockRefusal, ticket_law};
 use aoe_io::{Clock, Link, Sink, Source, give_all};
 use std::alloc::Global;
@@ -43,6 +44,7 @@ fn course_of_read(
             flushes: false,
             phase: Phase::Parts,
             under_way: 0,
+            check: Check::Unasked,
         }),
         Err(BlockRefusal::OutOfRange) => Err(ToolRefusal::Refused(Refusal::Range)),
         Err(BlockRefusal::NoMemory) => Err(ToolRefusal::NoMemory),
@@ -60,33 +62,63 @@ fn first_phase(bytes: &Blob) -> Phase
     }
 }
 
-/// A write of these sectors.
+/// What reads sectors of a device again, where that is asked for and there are any.
+fn check_of(
+    alloc: Global,
+    device: &Device,
+    at: u64,
+    count: u32,
+    verify: bool,
+) -> Result<Check, NoMemory>
+    requires some { 0 < device.now.max }
+    requires max { device.now.max ≤ 2 }
+    requires few { count ≤ 32768 }
+    requires within { at + count ≤ device.now.total }
+    ensures check { IfOk result (λ k. IsFreshCheck (checks_of verify count) at count device.now k) }
+{
+    if !verify || count == 0 {
+        return Ok(Check::Unasked);
+    }
+    match Block::read(alloc, device.total, device.max, at, count) {
+        Ok(block) => Ok(Check::Ahead(block)),
+        Err(_) => Err(NoMemory),
+    }
+}
+
+/// A write of these sectors, which are read again where that is asked for.
 fn course_of_write(
     alloc: Global,
     device: &Device,
     at: u64,
     bytes: Blob,
+    verify: bool,
 ) -> Result<Course, ToolRefusal>
     requires some { 0 < device.now.max }
     requires max { device.now.max ≤ 2 }
     requires whole { length bytes % 512 ≡ 0 }
     requires few { length bytes ≤ 16777216 }
-    ensures fresh { IfOk result (λ c. IsFresh (write_of at bytes) device.now c) }
+    ensures fresh { IfOk result (λ c. IsFresh (put_of verify at bytes) device.now c) }
     ensures fit { IfOk result (λ c. (port : Mac) (id : TargetId)
         → IsFit (host_of port id device.now) c) }
-    ensures refused { IfErr result (λ e. NotBegun e (write_of at bytes) device.now) }
+    ensures refused { IfErr result (λ e. NotBegun e (put_of verify at bytes) device.now) }
 {
     ticket_law();
     let phase = first_phase(&bytes);
-    match Block::write(alloc, device.total, device.max, at, bytes) {
-        Ok(block) => Ok(Course {
+    let count = (bytes.bytes().len() / SECTOR_LEN) as u32;
+    let block = match Block::write(alloc, device.total, device.max, at, bytes) {
+        Ok(block) => block,
+        Err(BlockRefusal::OutOfRange) => return Err(ToolRefusal::Refused(Refusal::Range)),
+        Err(BlockRefusal::NoMemory) => return Err(ToolRefusal::NoMemory),
+    };
+    match check_of(alloc, device, at, count, verify) {
+        Ok(check) => Ok(Course {
             block,
             flushes: true,
             phase,
             under_way: 0,
+            check,
         }),
-        Err(BlockRefusal::OutOfRange) => Err(ToolRefusal::Refused(Refusal::Range)),
-        Err(BlockRefusal::NoMemory) => Err(ToolRefusal::NoMemory),
+        Err(NoMemory) => Err(ToolRefusal::NoMemory),
     }
 }
 
@@ -154,22 +186,25 @@ fn read_all<L: Link, C: Clock>(
     }
 }
 
-/// Writes the sectors of a device and flushes it, once it is found.
+/// Writes the sectors of a device and flushes it, once it is found, and reads them again where that
+/// is asked for.
 fn write_all<L: Link, C: Clock>(
     alloc: Global,
     ask: &Ask,
     id: TargetId,
     at: u64,
     bytes: Blob,
+    verify: bool,
     link: &mut L,
     clock: &mut C,
 ) -> Result<Course, ToolRefusal>
     requires whole { length bytes % 512 ≡ 0 }
     requires few { length bytes ≤ 16777216 }
-    ensures copies { Copies result ask.now id (write_of at bytes) (C.least clock.old)
+    ensures copies { Copies result ask.now id (put_of verify at bytes) (C.least clock.old)
         (record { turns = L.turns link.old; given = L.given link.old; taken = L.taken link.old })
         (record { turns = L.turns link.new; given = L.given link.new; taken = L.taken link.new })
         (C.answers clock.old) (C.answers clock.new) }
+    ensures within { IfOk result (λ c. at + length bytes / 512 < 2 ^ 48) }
     ensures count { L.faults link.old ≤ L.faults link.new }
     ensures link { Blamed (result ≡ Err ToolRefusal.LinkFault) (L.faults link.old)
         (L.faults link.new) }
@@ -179,7 +214,7 @@ fn write_all<L: Link, C: Clock>(
         Ok(device) => device,
         Err(refusal) => return Err(refusal),
     };
-    match course_of_write(alloc, &device, at, bytes) {
+    match course_of_write(alloc, &device, at, bytes, verify) {
         Ok(course) => run_all(alloc, ask, id, &device, course, link, clock),
         Err(refusal) => Err(refusal),
     }
@@ -222,18 +257,68 @@ pub fn get<L: Link, C: Clock, K: Sink>(
     }
 }
 
+/// The first sector that came back with other bytes than it was sent with, counted from 0.
+fn first_other(sent: &[u8], back: &[u8]) -> Option<usize>
+    requires whole { length sent.now % 512 ≡ 0 }
+    requires long { length back.now ≡ length sent.now }
+    ensures some { IfSome result (λ k. IsFirstOther 0 sent.now back.now k) }
+    ensures none { IfNone result (back.now ≡ sent.now) }
+{
+    'sectors: for k in 0..sent.len() / SECTOR_LEN {
+        let start = SECTOR_LEN * k;
+        if back[start..start + SECTOR_LEN] != sent[start..start + SECTOR_LEN] {
+            return Some(k);
+        }
+    }
+    None
+}
+
+/// Whether the sectors from `at` on came back as they were sent.
+fn compare(at: u64, sent: &[u8], back: &[u8]) -> Result<(), CopyRefusal>
+    requires whole { length sent.now % 512 ≡ 0 }
+    requires long { length back.now ≡ length sent.now }
+    requires range { at + length sent.now / 512 < 2 ^ 48 }
+    ensures { IsCompared at sent.now back.now result }
+{
+    match first_other(sent, back) {
+        Some(k) => {
+            let sector = at + k as u64;
+            Err(CopyRefusal::Tool(ToolRefusal::Refused(Refusal::Differs { sector })))
+        }
+        None => Ok(()),
+    }
+}
+
+/// How a write ends whose commands are all done: where the sectors were read again, as these compare.
+fn end_write(at: u64, course: Course) -> Result<(), CopyRefusal>
+    requires { CanCompare at course.check (joined course.block.parts) }
+    ensures { IsCheckEnd at course.check (joined course.block.parts) result }
+{
+    let Course { block, check, .. } = course;
+    match check {
+        Check::Behind(written) => {
+            let sent = written.into_bytes();
+            let back = block.into_bytes();
+            compare(at, sent.bytes(), back.bytes())
+        }
+        Check::Unasked | Check::Ahead(_) => Ok(()),
+    }
+}
+
 /// Writes what the source gives up to its end to the sectors of a device from `at` on, and flushes
-/// the device. The source is read before anything is sent.
+/// the device. The source is read before anything is sent. Where `verify` is set, each sector is
+/// read again once the flush is acknowledged, and compared with what was sent.
 pub fn put<L: Link, C: Clock, S: Source>(
     alloc: Global,
     ask: &Ask,
     id: TargetId,
     at: u64,
+    verify: bool,
     source: &mut S,
     link: &mut L,
     clock: &mut C,
 ) -> Result<(), CopyRefusal>
-    ensures run { RunsPut result ask.now id at
+    ensures run { RunsPut result ask.now id at verify
         (told C.least C.answers L.turns L.given L.taken clock.old clock.new link.old link.new)
         (S.left source.old) (S.left source.new) }
     ensures unwritten { result ≢ Err CopyRefusal.SinkFault }
@@ -248,8 +333,8 @@ pub fn put<L: Link, C: Clock, S: Source>(
         Ok(sectors) => sectors,
         Err(refusal) => return Err(refusal),
     };
-    match write_all(alloc, ask, id, at, sectors, link, clock) {
-        Ok(_) => Ok(()),
+    match write_all(alloc, ask, id, at, sectors, verify, link, clock) {
+        Ok(course) => end_write(at, course),
         Err(refusal) => Err(CopyRefusal::Tool(refusal)),
     }
 }
@@ -275,6 +360,7 @@ pub fn flush<L: Link, C: Clock>(
         id,
         0,
         Blob::from_vec(Vec::new(alloc)),
+        false,
         link,
         clock,
     ) {

@@ -2,12 +2,13 @@
 ghost use Rattle.std.specs.Prelude.{◌≡◌, ◌<◌, IfOk, IfSome, IsSome, None};
 ghost use Rattle.aoe_block.specs.Calls.{part_of};
 ghost use Rattle.aoe_initiator.specs.Op.{CanSubmit};
-ghost use Rattle.aoe_tools.specs.TransferCourse.{after_done, after_parts, ending, failure, handed, is_flushed, is_over_in, next_op, note_in};
+ghost use Rattle.aoe_tools.specs.TransferCourse.{after_done, after_parts, begin_check, ending, failure, handed, is_ahead, is_flushed, is_over_in, next_op, note_in};
 
 use crate::end::{Refusal, ToolRefusal};
 use aoe_base::{NoMemory, Ticket};
 use aoe_block::{Block, Took};
 use aoe_initiator::{Done, Op, Outcome};
+use std::mem;
 
 /// The most commands of a transfer that are under way at a time.
 pub(crate) const MAX_OPEN: u32 = 64;
@@ -25,9 +26,23 @@ pub(crate) enum Phase {
     Flushing(Ticket),
 }
 
+/// Whether what was written is read again, once the flush is acknowledged.
+#[derive(Drop)]
+pub(crate) enum Check {
+    /// It isn't.
+    Unasked,
+
+    /// It is to be, by this block.
+    Ahead(Block),
+
+    /// It is, or was. This block wrote it.
+    Behind(Block),
+}
+
 /// How far a transfer is.
 #[derive(Drop)]
 pub(crate) struct Course {
+    /// What is read or written.
     pub(crate) block: Block,
 
     /// Whether a flush follows the parts.
@@ -37,6 +52,8 @@ pub(crate) struct Course {
 
     /// How many commands are under way.
     pub(crate) under_way: u32,
+
+    pub(crate) check: Check,
 }
 
 /// Why an outcome ends a transfer of which each wait lasts `turns` turns.
@@ -111,6 +128,38 @@ impl Course {
         !self.flushes
     }
 
+    /// Begins to read again what was written, where that was asked for: whether it was.
+    fn begin_check(&mut self) -> bool
+        ensures course { self.new ≡ begin_check self.old.check self.old }
+        ensures begun { result ≡ is_ahead self.old.check }
+    {
+        match mem::replace(&mut self.check, Check::Unasked) {
+            Check::Ahead(reads) => {
+                let written = mem::replace(&mut self.block, reads);
+                self.check = Check::Behind(written);
+                self.flushes = false;
+                self.phase = Phase::Parts;
+                true
+            }
+            check => {
+                self.check = check;
+                false
+            }
+        }
+    }
+
+    /// Takes note of an outcome while the flush is under way: whether the transfer is over.
+    fn note_flush(&mut self, ticket: Ticket, done: &Done) -> bool
+        ensures course { self.new ≡ note_in (Phase.Flushing ticket) done.now self.old }
+        ensures over { result ≡ is_over_in (Phase.Flushing ticket) self.old done.now }
+    {
+        if done.ticket == ticket && is_flushed(&done.outcome) {
+            !self.begin_check()
+        } else {
+            false
+        }
+    }
+
     /// Takes note of an outcome that isn't a failure: whether the transfer is over.
     fn note(&mut self, done: Done) -> bool
         ensures course { self.new ≡ note_in self.old.phase done self.old }
@@ -119,7 +168,7 @@ impl Course {
         match self.phase {
             Phase::Parts => self.note_part(done),
             Phase::Flush => false,
-            Phase::Flushing(ticket) => done.ticket == ticket && is_flushed(&done.outcome),
+            Phase::Flushing(ticket) => self.note_flush(ticket, &done),
         }
     }
 

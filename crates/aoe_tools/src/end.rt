@@ -36,6 +36,9 @@ pub enum Refusal {
 
     /// The device doesn't have all of these sectors.
     Range,
+
+    /// This sector, the first such one, was written and flushed, and came back with other bytes.
+    Differs { sector: u64 },
 }
 
 /// How a tool that copies sectors ends without having copied them.
@@ -136,7 +139,16 @@ fn refused_text(alloc: Global, refusal: Refusal) -> Result<Blob, NoMemory>
         Refusal::Ata { status, error } => ata_text(alloc, status, error),
         Refusal::Mask(error) => mask_text(alloc, error),
         Refusal::Range => Blob::of(alloc, b"aoe: refused: range"),
+        Refusal::Differs { sector } => differs_text(alloc, sector),
     }
+}
+
+/// The text for a sector that came back with other bytes.
+fn differs_text(alloc: Global, sector: u64) -> Result<Blob, NoMemory>
+    ensures { IfOk result (λ text. text ≡ refusal_text (Refusal.Differs sector)) }
+{
+    let text = format!(in alloc; "aoe: refused: sector {sector} differs")?;
+    Blob::of(alloc, text.as_bytes())
 }
 
 /// The text for the field Error of a header.

@@ -7,10 +7,11 @@ ghost use Rattle.aoe_tools.specs.Runs.{RunsDiscovery, told};
 use crate::asking::listen;
 use crate::end::ToolRefusal;
 use crate::found::Found;
+use crate::lists::args_of;
 use crate::question::{Ask, Question, Subject};
 use crate::request::config_request;
 use aoe_base::{Failed, NoMemory, TargetId};
-use aoe_frame::Frame;
+use aoe_frame::{Frame, HEADER_LEN};
 use aoe_io::{Clock, Link};
 use std::alloc::Global;
 
@@ -54,7 +55,8 @@ fn find_all<L: Link>(
             Ok(None) => break,
             Err(Failed) => return Err(ToolRefusal::LinkFault),
         };
-        match found.note(reply.id, reply.source) {
+        let args = args_of(reply, &frame[HEADER_LEN..]);
+        match found.note(reply.id, reply.source, args) {
             Ok(()) => {}
             Err(NoMemory) => return Err(ToolRefusal::NoMemory),
         }
@@ -83,7 +85,8 @@ pub(crate) fn find<L: Link>(
     find_all(alloc, &question, &request, ask.turns, link)
 }
 
-/// Asks every device for its config string, in all of the turns, and gives those that answer.
+/// Asks every device for its config string, in all of the turns, and gives those that answer, each
+/// with the string of its latest response.
 pub fn discover<L: Link, C: Clock>(
     alloc: Global,
     ask: &Ask,

@@ -4,6 +4,7 @@ ghost use Rattle.aoe_tools.specs.Found.{noted, ports_in, with_port};
 ghost use Rattle.aoe_tools.specs.Page.{with_known};
 
 use aoe_base::{Mac, NoMemory, Ports, TargetId};
+use aoe_lists::Args;
 use indexmap::IndexMap;
 use std::alloc::Global;
 use std::marker::Model;
@@ -41,6 +42,10 @@ pub struct Seen {
 
     /// The addresses that its responses came from, in the order of the first from each, up to four.
     pub ports: Ports,
+
+    /// The arguments of its latest response. Its config string stands behind eight bytes of them
+    /// (AoEr11, "Query Config Information").
+    pub args: Args,
 
     /// How many sectors it has, where its page came and says so.
     pub total: Option<u64>,
@@ -105,9 +110,9 @@ impl Found {
         }
     }
 
-    /// Notes that a response of this device came from this port.
-    pub(crate) fn note(&mut self, id: TargetId, port: Mac) -> Result<(), NoMemory>
-        ensures noted { OnOk result (self.new ≡ noted self.old id port) }
+    /// Notes that a response of this device came from this port, with these arguments.
+    pub(crate) fn note(&mut self, id: TargetId, port: Mac, args: Args) -> Result<(), NoMemory>
+        ensures noted { OnOk result (self.new ≡ noted self.old id port args) }
         ensures err { OnErr result (self.new ≡ self.old) }
     {
         let mut ports = self.ports_of(id);
@@ -115,6 +120,7 @@ impl Found {
         let seen = Seen {
             id,
             ports,
+            args,
             total: None,
             state: State::Found,
         };

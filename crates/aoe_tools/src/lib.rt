@@ -7,7 +7,8 @@
 //! - [`cfg`], [`mask`] and [`reserve`] read or change the config string and the lists of one
 //!   device, and give the arguments of its response.
 //! - [`get`] reads sectors and gives them to a sink once all have come. [`put`] reads a source to
-//!   its end, writes that to sectors, and flushes; [`flush`] does the last alone.
+//!   its end, writes that to sectors, and flushes, and may read the sectors again and compare them;
+//!   [`flush`] does the flush alone.
 //! - [`print_found`], [`print_stat`], [`print_config`], [`print_masks`] and [`print_reserves`] then
 //!   make the text of an answer. A refusal has the exit status and the text of the program (`code`,
 //!   `text`).

@@ -31,7 +31,7 @@ fn told_len(answer: Answer) -> usize
 }
 
 /// The arguments of a response.
-fn args_of(reply: Reply, args: &[u8]) -> Args
+pub(crate) fn args_of(reply: Reply, args: &[u8]) -> Args
     requires { CanFill reply.answer args.now 512 }
     ensures { result ≡ args_of (record { reply = reply; args = args.now }) }
 {

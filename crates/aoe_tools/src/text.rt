@@ -1,7 +1,7 @@
 //! What the tools print.
 ghost use Rattle.std.specs.Prelude.{◌≡◌, ◌<◌, ◌++◌, IfOk, OnOk, drop};
 ghost use Rattle.aoe_base.specs.Names.{device_text};
-ghost use Rattle.aoe_tools.specs.Text.{config_text, device_line, digit_of, found_text, mac_line, masks_text, pieces, reserves_text, size_text, stat_head, stat_line, stat_tail, stat_text, state_text, thousandths_text};
+ghost use Rattle.aoe_tools.specs.Text.{config_text, device_end, device_line, digit_of, extent_text, found_text, mac_line, masks_text, pieces, reserves_text, sectors_text, size_text, stat_head, stat_line, stat_tail, stat_text, state_text, thousandths_text};
 
 use crate::found::{Found, Seen, State};
 use aoe_base::{Blob, Mac, NoMemory, TargetId, put, put_macs, put_pairs};
@@ -17,23 +17,43 @@ fn put_device(alloc: Global, out: &mut Vec<u8>, id: TargetId) -> Result<(), NoMe
     put(out, name.as_bytes())
 }
 
+/// Adds a config string and a line feed.
+fn put_config(out: &mut Vec<u8>, args: &Args) -> Result<(), NoMemory>
+    ensures { OnOk result (out.new.items ≡ out.old.items ++ config_text args.now.items) }
+{
+    put(out, behind(args.as_slice(), 8))?;
+    put(out, b"\n")
+}
+
+/// Adds the end of the line of a device that was found.
+fn put_end(out: &mut Vec<u8>, seen: &Seen, long: bool) -> Result<(), NoMemory>
+    ensures { OnOk result (out.new.items ≡ out.old.items ++ device_end long seen.now) }
+{
+    if !long {
+        return put(out, b"\n");
+    }
+    put(out, b" ")?;
+    put_config(out, &seen.args)
+}
+
 /// Adds the line of a device that was found.
-fn put_line(alloc: Global, out: &mut Vec<u8>, seen: &Seen) -> Result<(), NoMemory>
-    ensures { OnOk result (out.new.items ≡ out.old.items ++ device_line seen.now) }
+fn put_line(alloc: Global, out: &mut Vec<u8>, seen: &Seen, long: bool) -> Result<(), NoMemory>
+    ensures { OnOk result (out.new.items ≡ out.old.items ++ device_line long seen.now) }
 {
     put_device(alloc, out, seen.id)?;
     put(out, b" ")?;
     put_macs(out, seen.ports.as_slice())?;
-    put(out, b"\n")
+    put_end(out, seen, long)
 }
 
-/// What `discover` prints: the devices with their ports, one a line.
-pub fn print_found(alloc: Global, found: &Found) -> Result<Blob, NoMemory>
-    ensures { IfOk result (λ text. text ≡ found_text found.now) }
+/// What `discover` prints: the devices with their ports, one a line, and where `long` is set with
+/// their config strings behind these.
+pub fn print_found(alloc: Global, found: &Found, long: bool) -> Result<Blob, NoMemory>
+    ensures { IfOk result (λ text. text ≡ found_text long found.now) }
 {
     let mut out = Vec::new(alloc);
     'devices: for i in 0..found.count() {
-        put_line(alloc, &mut out, found.device(i))?;
+        put_line(alloc, &mut out, found.device(i), long)?;
     }
     Ok(Blob::from_vec(out))
 }
@@ -68,6 +88,33 @@ fn put_size(alloc: Global, out: &mut Vec<u8>, total: Option<u64>) -> Result<(), 
     put(out, b"GB")
 }
 
+/// Adds the number of sectors of a device.
+fn put_sectors(alloc: Global, out: &mut Vec<u8>, total: Option<u64>) -> Result<(), NoMemory>
+    ensures { OnOk result (out.new.items ≡ out.old.items ++ sectors_text total) }
+{
+    let Some(total) = total else {
+        return put(out, b"-");
+    };
+    let text = format!(in alloc; "{total}")?;
+    put(out, text.as_bytes())
+}
+
+/// Adds how long a device is, in units of 10^9 bytes or in sectors.
+fn put_extent(
+    alloc: Global,
+    out: &mut Vec<u8>,
+    total: Option<u64>,
+    sectors: bool,
+) -> Result<(), NoMemory>
+    ensures { OnOk result (out.new.items ≡ out.old.items ++ extent_text sectors total) }
+{
+    if sectors {
+        put_sectors(alloc, out, total)
+    } else {
+        put_size(alloc, out, total)
+    }
+}
+
 /// Adds what is known of a device.
 fn put_state(out: &mut Vec<u8>, state: State) -> Result<(), NoMemory>
     ensures { OnOk result (out.new.items ≡ out.old.items ++ state_text state) }
@@ -82,12 +129,17 @@ fn put_state(out: &mut Vec<u8>, state: State) -> Result<(), NoMemory>
 }
 
 /// Adds the name and the size of a device that was asked.
-fn put_stat_head(alloc: Global, out: &mut Vec<u8>, seen: &Seen) -> Result<(), NoMemory>
-    ensures { OnOk result (out.new.items ≡ out.old.items ++ stat_head seen.now) }
+fn put_stat_head(
+    alloc: Global,
+    out: &mut Vec<u8>,
+    seen: &Seen,
+    sectors: bool,
+) -> Result<(), NoMemory>
+    ensures { OnOk result (out.new.items ≡ out.old.items ++ stat_head sectors seen.now) }
 {
     put_device(alloc, out, seen.id)?;
     put(out, b" ")?;
-    put_size(alloc, out, seen.total)
+    put_extent(alloc, out, seen.total, sectors)
 }
 
 /// Adds its ports and its state.
@@ -102,20 +154,26 @@ fn put_stat_tail(out: &mut Vec<u8>, seen: &Seen) -> Result<(), NoMemory>
 }
 
 /// Adds the line of a device that was asked.
-fn put_stat_line(alloc: Global, out: &mut Vec<u8>, seen: &Seen) -> Result<(), NoMemory>
-    ensures { OnOk result (out.new.items ≡ out.old.items ++ stat_line seen.now) }
+fn put_stat_line(
+    alloc: Global,
+    out: &mut Vec<u8>,
+    seen: &Seen,
+    sectors: bool,
+) -> Result<(), NoMemory>
+    ensures { OnOk result (out.new.items ≡ out.old.items ++ stat_line sectors seen.now) }
 {
-    put_stat_head(alloc, out, seen)?;
+    put_stat_head(alloc, out, seen, sectors)?;
     put_stat_tail(out, seen)
 }
 
-/// What `stat` prints: the devices with their sizes, ports and states, one a line.
-pub fn print_stat(alloc: Global, found: &Found) -> Result<Blob, NoMemory>
-    ensures { IfOk result (λ text. text ≡ stat_text found.now) }
+/// What `stat` prints: the devices with their sizes, ports and states, one a line. Where `sectors`
+/// is set the sizes are numbers of sectors.
+pub fn print_stat(alloc: Global, found: &Found, sectors: bool) -> Result<Blob, NoMemory>
+    ensures { IfOk result (λ text. text ≡ stat_text sectors found.now) }
 {
     let mut out = Vec::new(alloc);
     'devices: for i in 0..found.count() {
-        put_stat_line(alloc, &mut out, found.device(i))?;
+        put_stat_line(alloc, &mut out, found.device(i), sectors)?;
     }
     Ok(Blob::from_vec(out))
 }
@@ -143,8 +201,7 @@ pub fn print_config(alloc: Global, args: &Args) -> Result<Blob, NoMemory>
     ensures { IfOk result (λ text. text ≡ config_text args.now.items) }
 {
     let mut out = Vec::new(alloc);
-    put(&mut out, behind(args.as_slice(), 8))?;
-    put(&mut out, b"\n")?;
+    put_config(&mut out, args)?;
     Ok(Blob::from_vec(out))
 }
 

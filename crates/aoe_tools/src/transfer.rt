@@ -18,9 +18,9 @@ use aoe_initiator::{DEAD, Initiator, LIFETIMES, MOST_ROOM, Taken};
 use aoe_io::{Clock, Got, Link};
 use std::alloc::Global;
 
-/// The most commands of a transfer: one for each of 32,768 sectors, and a flush. Each is sent once
-/// in a turn at most.
-const MOST_COMMANDS: u32 = 32_769;
+/// The most commands of a transfer: one for each of 32,768 sectors, a flush, and one more for each
+/// sector that is read again. Each is sent once in a turn at most.
+const MOST_COMMANDS: u32 = 65_537;
 
 /// The one device of the host.
 const DEVICE: DeviceNo = DeviceNo(0);
@@ -137,7 +137,7 @@ impl Transfer {
 
     /// Sends frames as long as one may be sent.
     fn send_all<L: Link>(&mut self, link: &mut L, frame: &mut Frame) -> Result<(), Failed>
-        requires { self.old.host.last_ticket ≤ 32769 }
+        requires { self.old.host.last_ticket ≤ 65537 }
         ensures some { SendsSome result self.old.host self.new.host (L.taken link.old)
             (L.taken link.new) }
         ensures course { self.new.course ≡ self.old.course }

@@ -1,5 +1,5 @@
 -- What is sent on a network is taken on that one alone.
-use Rattle.std.proofs.Common.{ℕ, ◌≡◌, ◌≢◌, ◌≤◌, ◌+◌, ◌*◌, ◌/◌, ◌%◌, ◌==◌, List, length, nat_le, Option, Some, None, true, false, refl, arith}
+use Rattle.std.proofs.Common.{ℕ, ◌≡◌, ◌≢◌, ◌≤◌, ◌+◌, ◌*◌, ◌/◌, ◌%◌, ◌==◌, List, length, nat_le, Some, None, true, false, refl, arith}
 use Rattle.std.proofs.lemmas.Bool.Decides.{nat_tests}
 use Rattle.aoe_wire.specs.Frames.{is_aoe}
 use Rattle.aoe_udp.specs.Vxlan.{datagram_of, frame_of}

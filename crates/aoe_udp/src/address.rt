@@ -1,5 +1,5 @@
 //! The texts of addresses.
-ghost use Rattle.std.specs.Prelude.{◌≡◌, ◌≢◌, ◌==◌, ◌+◌, true, None, Err, OnOk, OnSome, IfOk, length};
+ghost use Rattle.std.specs.Prelude.{◌≡◌, ◌==◌, ◌+◌, ◌⊎◌, true, None, Err, OnErr, OnOk, OnSome, IfOk, length};
 ghost use Rattle.std.specs.List.{slice_split};
 ghost use Rattle.aoe_udp.specs.Addresses.{ArePeers, IsAddress};
 
@@ -32,8 +32,8 @@ pub(crate) fn read_peers(alloc: Global, text: &[u8]) -> Result<Vec<SocketAddr>, 
         ≡ length (slice_split (λ c. c == 44) text.now)) }
     ensures refused { result ≡ Err OpenRefusal.Peers → ¬ ArePeers text.now }
     ensures memory { result ≡ Err OpenRefusal.NoMemory → ArePeers text.now }
-    ensures local { result ≢ Err OpenRefusal.Local }
-    ensures vxlan { result ≢ Err OpenRefusal.Vxlan }
+    ensures kinds { OnErr result
+        ((result ≡ Err OpenRefusal.Peers) ⊎ (result ≡ Err OpenRefusal.NoMemory)) }
 {
     let mut addresses = Vec::new(alloc);
     let mut has_room = true;

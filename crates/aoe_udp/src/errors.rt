@@ -73,9 +73,13 @@ pub enum OpenRefusal {
     #[error("no addresses of peers")]
     Peers,
 
-    /// The text of the local address is none, or no socket is bound to it.
-    #[error("no local socket")]
+    /// The text of the local address is none.
+    #[error("no local address")]
     Local,
+
+    /// No socket is bound to the local address: the number of the system's error, where it has one.
+    #[error("no local socket")]
+    Unbound(Option<i32>),
 
     /// The number of the network has more than 24 bits.
     #[error("no number of a network")]
@@ -86,10 +90,11 @@ pub enum OpenRefusal {
 pub(crate) fn refusal(error: &io::Error) -> OpenRefusal
     ensures memory { result ≡ OpenRefusal.NoMemory
         ↔ (error_kind error.now ≡ ErrorKind.OutOfMemory) }
-    ensures other { result ≢ OpenRefusal.NoMemory → result ≡ OpenRefusal.Local }
+    ensures other { result ≢ OpenRefusal.NoMemory
+        → result ≡ OpenRefusal.Unbound (raw_os_error error.now) }
 {
     match error.kind() {
         ErrorKind::OutOfMemory => OpenRefusal::NoMemory,
-        _ => OpenRefusal::Local,
+        _ => OpenRefusal::Unbound(error.raw_os_error()),
     }
 }

@@ -1,5 +1,5 @@
 //! A UDP socket as a medium. It tells nothing of what it gives and takes.
-ghost use Rattle.std.specs.Prelude.{◌≡◌, ◌==◌, ◌≤◌, ◌<◌, None, Some, Err, true, false, IfOk, IfSome, OnOk, length};
+ghost use Rattle.std.specs.Prelude.{◌≡◌, ◌==◌, ◌≤◌, ◌<◌, ℤ, Option, None, Some, Err, true, false, IfOk, IfSome, OnOk, length};
 ghost use Rattle.std.proofs.Props.{props};
 ghost use Rattle.std.specs.List.{slice_split};
 ghost use Rattle.aoe_udp.specs.Addresses.{ArePeers, IsAddress};
@@ -88,7 +88,10 @@ impl UdpMedium {
             ≡ length (slice_split (λ c. c == 44) peers.now)) }
         ensures vxlan { IfOk result (λ medium. medium.vxlan ≡ vxlan) }
         ensures bad_vxlan { result ≡ Err OpenRefusal.Vxlan → IfSome vxlan (λ vni. 16777215 < vni) }
-        ensures bad_local { result ≡ Err OpenRefusal.Local → ArePeers peers.now }
+        ensures bad_local { result ≡ Err OpenRefusal.Local
+            → ArePeers peers.now × ¬ IsAddress local.now }
+        ensures unbound { (code : Option ℤ) → result ≡ Err (OpenRefusal.Unbound code)
+            → ArePeers peers.now × IsAddress local.now }
         ensures bad_peers { result ≡ Err OpenRefusal.Peers → ¬ ArePeers peers.now }
         ensures no_memory { result ≡ Err OpenRefusal.NoMemory → ArePeers peers.now }
     {

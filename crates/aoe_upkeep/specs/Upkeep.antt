@@ -1,5 +1,5 @@
 -- What is done with a keep while no shelf runs over it, and what that leaves.
-use Rattle.std.specs.Prelude.{ℕ, ◌≡◌, ◌≢◌, ◌≤◌, ◌<◌, ◌⊎◌, ◌↔◌, Bool, true, false, List, [], ◌∷◌, ◌++◌, Option, IfSome, Result, Ok, Err, if◌then◌else◌, codes, decimal}
+use Rattle.std.specs.Prelude.{ℕ, ◌≡◌, ◌≢◌, ◌≤◌, ◌<◌, ◌⊎◌, ◌↔◌, Bool, true, false, List, ◌∷◌, Option, IfSome, Result, Ok, Err, if◌then◌else◌, codes, decimal}
 use Rattle.std.proofs.Math.Bool.{beq}
 use Rattle.aoe_base.specs.Faults.{Rose}
 use Rattle.aoe_base.specs.declared.failure.Failed.{Failed}
@@ -9,17 +9,13 @@ use Rattle.aoe_keep.specs.Found.{AlwaysFinds, AlwaysFindsFormat, Finds, format_f
 use Rattle.aoe_keep.specs.Keep.{IsRefused, KeepsOthers, Mounts}
 use Rattle.aoe_keep.specs.declared.refusal.MountRefusal.TheVariants as refusal
 use Rattle.aoe_lists.specs.Settings.{Settings}
-use Rattle.aoe_script.specs.Print.{lists_words, spelled}
+use Rattle.aoe_script.specs.Print.{line_text, lists_words}
 use Rattle.aoe_upkeep.specs.declared.stop.UpkeepStop.{UpkeepStop}
 use Rattle.aoe_upkeep.specs.declared.stop.UpkeepStop.TheVariants as stop
 
--- the word of a device whose lists have the read-only mark
-abbrev pub mark_text : Bool → List ℕ
-mark_text read_only = if read_only then codes " read-only" else []
-
--- the line that shows lists and the number of their format; a line feed (10) ends it
+-- the line that shows lists and the number of their format; the lists are spelled as in a transcript
 abbrev pub line : ℕ → Settings → List ℕ
-line format lists = (spelled (codes "format" ∷ decimal format ∷ lists_words lists) ++ mark_text lists.read_only) ++ 10 ∷ []
+line format lists = line_text (codes "format" ∷ decimal format ∷ lists_words lists)
 
 -- A keep was mounted: its disk has these lists in this format, every crash finds them so, and no sector was changed.
 pub record Holds (before after : DiskState) (format : ℕ) (lists : Settings) : Type 0 where

@@ -2,7 +2,7 @@
 ghost use Rattle.std.specs.Prelude.{◌≡◌, ◌≢◌, ◌++◌, Err, IfErr, OnOk, IfOk};
 ghost use Rattle.aoe_base.specs.Faults.{Blamed};
 ghost use Rattle.aoe_keep.specs.Found.{format_at};
-ghost use Rattle.aoe_upkeep.specs.Upkeep.{IsCaused, Says, Shows, line, mark_text};
+ghost use Rattle.aoe_upkeep.specs.Upkeep.{IsCaused, Says, Shows, line};
 
 use crate::UpkeepStop;
 use aoe_base::{Failed, NoMemory, put};
@@ -13,24 +13,12 @@ use aoe_lists::Lists;
 use aoe_script::spelling::{put_count, put_lists};
 use std::alloc::Global;
 
-/// Adds the word of a device whose lists have the read-only mark, where they have it.
-fn put_mark(out: &mut Vec<u8>, read_only: bool) -> Result<(), NoMemory>
-    ensures { OnOk result (out.new.items ≡ out.old.items ++ mark_text read_only) }
-{
-    if read_only {
-        put(out, b" read-only")
-    } else {
-        Ok(())
-    }
-}
-
 /// Adds the line of lists that stand in a format.
 fn put_line(out: &mut Vec<u8>, format: u8, lists: &Lists) -> Result<(), NoMemory>
     ensures { OnOk result (out.new.items ≡ out.old.items ++ line format lists.now) }
 {
     put_count(out, b"format", u64::from(format))?;
     put_lists(out, lists)?;
-    put_mark(out, lists.read_only)?;
     put(out, b"\n")
 }
 

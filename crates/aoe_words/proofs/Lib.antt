@@ -7,4 +7,5 @@ mod PlainAnswer
 mod PlainLemmas
 mod PortLemmas
 mod RangeLemmas
+mod SlipLemmas
 mod SwitchLemmas

@@ -1,7 +1,7 @@
 -- What clap finds in words, and what it refuses.
-use Rattle.std.proofs.Common.{◌≡◌, ◌≢◌, ◌∙◌, ◌&&◌, Bool, true, false, cond, refl, List, [], ◌∷◌, Option, Some, None, inl, inr, arith}
+use Rattle.std.proofs.Common.{◌≡◌, ◌≢◌, ◌∙◌, ◌&&◌, Bool, true, false, cond, refl, sym, subst, List, [], ◌∷◌, Option, Some, None, Result, Ok, Err, inl, inr, arith}
 use Rattle.std.proofs.lemmas.Bool.Decides.{nat_tests}
-use Rattle.std.specs.Prelude.{option_map, Box}
+use Rattle.std.specs.Prelude.{option_map, Box, IfErr, IfOk, IsErr, IsOkAnd}
 use Rattle.std.specs.List.{list_all}
 use Rattle.std.specs.Box.{box_value}
 use Rattle.std.specs.Borrow.{Bor}
@@ -9,7 +9,7 @@ use Rattle.clap.specs.Matches.{subcommand_name_of}
 use Rattle.clap.specs.Simple.{subcommand_rows}
 use Rattle.clap.specs.Values.{kind_of}
 use Rattle.clap.specs.Walk.{is_empty}
-use Rattle.clap.specs.Kinds.{HasKind, Kinds}
+use Rattle.clap.specs.Kinds.{FailsBy, HasKind, Kinds}
 use Rattle.clap.specs.Words.{HasMatchesOf, Row, Text, fault_of, found_of, rows_of, subcommand_of}
 use Rattle.clap.specs.declared.error.Error.{Error}
 use Rattle.clap.specs.declared.error.kind.ErrorKind.TheVariants.{OutOfMemory}
@@ -17,7 +17,7 @@ use Rattle.clap.specs.declared.parser.matches.ArgMatches.{ArgMatches}
 use Rattle.clap.specs.declared.parser.matches.ArgMatches.TheViews.{out-ArgMatches, out-SubCommand}
 use Rattle.clap.specs.declared.parser.matches.SubCommand.{SubCommand}
 use Rattle.aoe_words.specs.Apps.{aoe_app}
-use Rattle.aoe_words.specs.Words.{is_word, parsed}
+use Rattle.aoe_words.specs.Words.{IsFoundIn, is_word, parsed}
 use Rattle.aoe_words.proofs.AppLemmas.{aoe_app_is_simple}
 
 -- a word can't stand there
@@ -30,7 +30,7 @@ has_one : {X : Type 0} (x : X) (xs : List X) → is_empty (x ∷ xs) ≡ false
 has_one x xs = grind (arith, nat_tests)
 
 -- clap finds a fault
-pub at_fault : (words : List Text) (e : Error) → HasKind (fault_of aoe_app words) e → kind_of e ≢ OutOfMemory → None ≡ parsed words
+at_fault : (words : List Text) (e : Error) → HasKind (fault_of aoe_app words) e → kind_of e ≢ OutOfMemory → None ≡ parsed words
 unfolding parsed
 at_fault words e kind other = go (list_all is_word words) (fault_of aoe_app words) (subcommand_of aoe_app words) kind
   where
@@ -41,7 +41,7 @@ at_fault words e kind other = go (list_all is_word words) (fault_of aoe_app word
     go true (k ∷ kinds) found h = rw (has_one k kinds) refl
 
 -- clap finds a command
-pub found : (words : List Text) (m : ArgMatches) (r : Option (Bor Text × ArgMatches)) → list_all is_word words ≡ true
+found : (words : List Text) (m : ArgMatches) (r : Option (Bor Text × ArgMatches)) → list_all is_word words ≡ true
     → fault_of aoe_app words ≡ [] → HasMatchesOf aoe_app words m → option_map (λ p. p.0.now) r ≡ subcommand_name_of m
     → option_map (λ p. rows_of (found_of p.1)) r ≡ option_map (λ p. p.1) (subcommand_rows (out-ArgMatches m).subcommand)
     → option_map (λ p. (p.0.now, rows_of (found_of p.1))) r ≡ parsed words
@@ -57,3 +57,16 @@ found words m r all clean has name rows =
     go None (Some s) a b = cc
     go (Some p) None a b = cc
     go (Some p) (Some s) a b = cc
+
+-- what clap's answer says is what the words spell
+pub asked_value : {E : Type 0} (words : List Text) (answer : Result ArgMatches Error) (r : Result (Option (Bor Text × ArgMatches)) E) → list_all is_word words ≡ true
+    → FailsBy (fault_of aoe_app words) answer → IfOk answer (HasMatchesOf aoe_app words) → IfErr answer (λ e. kind_of e ≡ OutOfMemory → IsErr r)
+    → IfErr answer (λ e. kind_of e ≢ OutOfMemory → r ≡ Ok None) → IfOk answer (λ m. IsOkAnd r (IsFoundIn m))
+    → IfOk r (λ x. option_map (λ p. (p.0.now, rows_of (found_of p.1))) x ≡ parsed words)
+asked_value words (Ok m) (Ok x) all clean has memory fault is = found words m x all clean has is.name is.rows
+asked_value words (Ok m) (Err f) all clean has memory fault is = tt
+asked_value words (Err e) (Err f) all kind has memory fault is = tt
+asked_value {E} words (Err e) (Ok x) all kind has memory fault is =
+    let P : Result (Option (Bor Text × ArgMatches)) E → Type 0 = λ r. IfOk r (λ x. option_map (λ p. (p.0.now, rows_of (found_of p.1))) x ≡ parsed words) in
+    let differs : kind_of e ≢ OutOfMemory = λ k. (let never : false ≡ true = memory k in cc) in
+    subst P (sym (fault differs)) (at_fault words e kind differs)

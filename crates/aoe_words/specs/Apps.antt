@@ -79,6 +79,16 @@ mirror_front = with_rule (with_rule (with_rule (bare (codes "mirror")) (needed (
 abbrev pub mirror_app : App
 mirror_app = with_rule (with_rule mirror_front (optional (codes "port"))) (optional (codes "mtu"))
 
+-- audit SHELF SLOT SECTORS KEEP
+abbrev pub audit_front : App
+audit_front =
+    with_rule (with_rule (with_rule (with_rule (bare (codes "audit")) (needed (codes "shelf"))) (needed (codes "slot"))) (needed (codes "sectors")))
+    (needed (codes "keep"))
+
+-- with its options
+abbrev pub audit_app : App
+audit_app = with_rule (with_rule audit_front (optional (codes "ports"))) (optional (codes "mtu"))
+
 -- replay, with nothing behind it
 abbrev pub replay_app : App
 replay_app = bare (codes "replay")
@@ -111,9 +121,9 @@ keep_app = with_rule (with_rule (bare (codes "keep")) (needed (codes "keep"))) (
 abbrev pub with_tool_options : App → App
 with_tool_options app = with_rule (with_rule (with_link app) (optional (codes "port"))) (optional (codes "turns"))
 
--- discover and stat, with nothing but the options
-abbrev pub plain_tool : Text → App
-plain_tool name = with_tool_options (bare name)
+-- discover and stat, with nothing but the options: those of a tool, and whether a line says more
+abbrev pub plain_tool : Text → Text → App
+plain_tool name more = with_rule (with_tool_options (bare name)) (flag more)
 
 -- a tool that has DEV ACTION and one more
 abbrev pub list_tool : Text → Rule → App
@@ -131,7 +141,7 @@ abbrev pub get_app : App
 get_app = with_tool_options (with_rule (sector_tool (codes "get")) (needed (codes "count")))
 
 abbrev pub put_app : App
-put_app = with_tool_options (sector_tool (codes "put"))
+put_app = with_rule (with_tool_options (sector_tool (codes "put"))) (flag (codes "verify"))
 
 -- what all commands stand under: one has to be named, and it is the first word
 abbrev pub top : App
@@ -147,9 +157,13 @@ file_commands = with_subcommand (with_subcommand (with_subcommand top (answer_ap
 abbrev pub mirror_commands : App
 mirror_commands = with_subcommand file_commands mirror_app.top
 
+-- with the one over a capture
+abbrev pub capture_commands : App
+capture_commands = with_subcommand mirror_commands audit_app.top
+
 -- with those over scripts
 abbrev pub script_commands : App
-script_commands = with_subcommand (with_subcommand mirror_commands replay_app.top) soak_app.top
+script_commands = with_subcommand (with_subcommand capture_commands replay_app.top) soak_app.top
 
 -- with the one over two links, and the one between ports
 abbrev pub run_commands : App
@@ -158,7 +172,7 @@ run_commands = with_subcommand (with_subcommand script_commands live_app.top) sw
 -- with the tools that list devices
 abbrev pub listing_commands : App
 listing_commands =
-    with_subcommand (with_subcommand run_commands (plain_tool (codes "discover")).top) (plain_tool (codes "stat")).top
+    with_subcommand (with_subcommand run_commands (plain_tool (codes "discover") (codes "long")).top) (plain_tool (codes "stat") (codes "sectors")).top
 
 -- with cfg and mask
 abbrev pub mask_commands : App

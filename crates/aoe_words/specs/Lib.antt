@@ -1,4 +1,5 @@
 pub mod Apps
+pub mod Slips
 pub mod Switching
 pub mod Tools
 pub mod Values

@@ -11,14 +11,16 @@ use Rattle.arrayvec.specs.ArrayVec.{ArrayVec}
 use Rattle.aoe_lists.specs.Settings.{max_directives}
 use Rattle.aoe_lists.specs.declared.dir.Dir.{Dir}
 use Rattle.aoe_base.specs.Texts.{each}
-use Rattle.aoe_words.specs.Values.{given, given_or, link, number_within, port_of, tool_port}
+use Rattle.aoe_words.specs.Values.{given, given_or, is_set, link, number_within, port_of, tool_port}
 use Rattle.aoe_words.specs.declared.command.Asking.{Asking}
 use Rattle.aoe_words.specs.declared.command.Cfg.{Cfg as Cfgs}
+use Rattle.aoe_words.specs.declared.command.Discover.{Discover as Discovers}
 use Rattle.aoe_words.specs.declared.command.Flush.{Flush as Flushes}
 use Rattle.aoe_words.specs.declared.command.Get.{Get as Gets}
 use Rattle.aoe_words.specs.declared.command.Put.{Put as Puts}
 use Rattle.aoe_words.specs.declared.command.Mask.{Mask as Masks}
 use Rattle.aoe_words.specs.declared.command.Reserve.{Reserve as Reserves}
+use Rattle.aoe_words.specs.declared.command.Stat.{Stat as Stats}
 
 -- the ends of the link, --port MAC and --turns N, of which so many stand where none is given
 unfoldable pub asking_of : ℕ → List Row → Option Asking
@@ -29,6 +31,15 @@ asking_of turns rows =
 -- DEV
 abbrev pub device : List Row → Option TargetId
 device = given (codes "dev") device_of
+
+-- ---- discover and stat
+
+-- they listen for 50 turns where nothing is said of it
+unfoldable pub discover_of : List Row → Option Discovers
+discover_of rows = option_map (λ asking. record { asking = asking; long = is_set (codes "long") rows }) (asking_of 50 rows)
+
+unfoldable pub stat_of : List Row → Option Stats
+stat_of rows = option_map (λ asking. record { asking = asking; sectors = is_set (codes "sectors") rows }) (asking_of 50 rows)
 
 -- ---- cfg DEV ACTION [TEXT]
 
@@ -138,7 +149,8 @@ get_of rows =
 
 unfoldable pub put_of : List Row → Option Puts
 put_of rows =
-    option_and_then (λ asking. option_and_then (λ id. option_map (λ at. record { asking = asking; id = id; at = at })
+    option_and_then (λ asking. option_and_then (λ id. option_map (λ at.
+    record { asking = asking; id = id; at = at; verify = is_set (codes "verify") rows })
     (sector rows)) (device rows)) (asking_of 5000 rows)
 
 -- ---- what holds of them

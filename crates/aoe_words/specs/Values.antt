@@ -1,7 +1,8 @@
 -- The values that words have: numbers, and the addresses of ports.
-use Rattle.std.specs.Prelude.{ℕ, ◌==◌, List, [], ◌∷◌, length, nat_le, Option, Some, None, if◌then◌else◌, option_and_then, option_map, codes}
+use Rattle.std.specs.Prelude.{ℕ, ◌==◌, Bool, false, List, [], ◌∷◌, length, nat_le, Option, Some, None, if◌then◌else◌, option_and_then, option_map, codes}
 use Rattle.std.specs.List.{slice_split}
 use Rattle.std.specs.Option.{option_map_or}
+use Rattle.std.specs.Str.{bytes_eq}
 use Rattle.clap.specs.Words.{Row, Text, first_of}
 use Rattle.aoe_base.specs.Decimal.{number_of}
 use Rattle.aoe_base.specs.declared.address.Mac.{Mac}
@@ -24,6 +25,10 @@ given_or id read default rows = option_map_or read (first_of id rows) (Some defa
 -- the number from least to most that a text spells, or nothing
 abbrev pub number_within : ℕ → ℕ → Text → Option ℕ
 number_within least most text = option_and_then (λ n. if nat_le least n then Some n else None) (number_of text most)
+
+-- an option without a value is given
+abbrev pub is_set : Text → List Row → Bool
+is_set id rows = option_map_or (λ text. bytes_eq text (codes "true")) (first_of id rows) false
 
 -- the port of a target and of a tool where none is named: addresses that their owner chose (IEEE 802, "locally administered")
 abbrev pub default_port : Mac

@@ -3,20 +3,26 @@ use Rattle.std.specs.Prelude.{ℕ, ◌*◌, ◌/◌, ◌%◌, ◌≡◌, ◌≤�
 use Rattle.std.specs.List.{list_all}
 use Rattle.std.specs.Option.{option_map_or}
 use Rattle.std.specs.Str.{bytes_eq}
+use Rattle.std.specs.Borrow.{Bor}
 use Rattle.clap.specs.Lexer.{long_of}
+use Rattle.clap.specs.Matches.{subcommand_name_of}
+use Rattle.clap.specs.Simple.{subcommand_rows}
 use Rattle.clap.specs.Walk.{is_empty}
-use Rattle.clap.specs.Words.{Row, Text, all_of, fault_of, first_of, subcommand_of}
+use Rattle.clap.specs.Words.{Row, Text, all_of, fault_of, first_of, found_of, rows_of, subcommand_of}
+use Rattle.clap.specs.declared.parser.matches.ArgMatches.{ArgMatches}
+use Rattle.clap.specs.declared.parser.matches.ArgMatches.TheViews.{out-ArgMatches}
 use Rattle.aoe_base.specs.Decimal.{number_of}
 use Rattle.aoe_base.specs.declared.address.Mac.{Mac}
 use Rattle.aoe_base.specs.declared.address.TargetId.{TargetId}
 use Rattle.aoe_base.specs.Addresses.{all_unique, is_individual}
 use Rattle.aoe_words.specs.Apps.{aoe_app}
-use Rattle.aoe_words.specs.Values.{default_port, given, given_or, link, number_within, port_of, ports_of, two_ends}
+use Rattle.aoe_words.specs.Values.{default_port, given, given_or, is_set, link, number_within, port_of, ports_of, two_ends}
 use Rattle.aoe_words.specs.Switching.{CanSwitch, kinds_of}
-use Rattle.aoe_words.specs.Tools.{CanAsk, CanCfg, CanMask, CanReserve, CanFlush, CanGet, CanPut, asking_of, cfg_of, mask_of, reserve_of, flush_of, get_of, put_of}
+use Rattle.aoe_words.specs.Tools.{CanAsk, CanCfg, CanMask, CanReserve, CanFlush, CanGet, CanPut, discover_of, stat_of, cfg_of, mask_of, reserve_of, flush_of, get_of, put_of}
 use Rattle.aoe_words.specs.declared.command.Answer.{Answer as Answers}
 use Rattle.aoe_words.specs.declared.command.Serve.{Serve as Serves}
 use Rattle.aoe_words.specs.declared.command.Mirror.{Mirror as Mirrors}
+use Rattle.aoe_words.specs.declared.command.Audit.{Audit as Audits}
 use Rattle.aoe_words.specs.declared.command.Soak.{Soak as Soaks}
 use Rattle.aoe_words.specs.declared.command.Live.{Live as Lives}
 use Rattle.aoe_words.specs.declared.command.Switch.{Switch as Switches}
@@ -24,7 +30,7 @@ use Rattle.aoe_words.specs.declared.command.KeepAction.{KeepAction}
 use Rattle.aoe_words.specs.declared.command.KeepAction.TheVariants.{Show, Upgrade, Lock, Unlock}
 use Rattle.aoe_words.specs.declared.command.PortWords.{PortWords}
 use Rattle.aoe_words.specs.declared.command.Command.{Command}
-use Rattle.aoe_words.specs.declared.command.Command.TheVariants.{Answer, Serve, Mirror, Replay, Soak, Live, Switch, Ask, Get, Put, Keep}
+use Rattle.aoe_words.specs.declared.command.Command.TheVariants.{Answer, Serve, Mirror, Audit, Replay, Soak, Live, Switch, Ask, Get, Put, Keep}
 use Rattle.aoe_words.specs.declared.command.Tool.{Tool}
 use Rattle.aoe_words.specs.declared.command.Tool.TheVariants.{Discover, Stat, Cfg, Mask, Reserve, Flush}
 
@@ -43,6 +49,11 @@ abbrev pub is_word : Text → Bool
 is_word word =
     nat_lt 0 (length word) && nat_le (length word) 4096 && not (bytes_eq word (codes "-")) && not (bytes_eq word (codes "--"))
     && option_map_or is_value (attached word) true
+
+-- the name of the command that is asked for and what is found for it, as they stand in what clap found
+pub record IsFoundIn (found : ArgMatches) (asked : Option (Bor Text × ArgMatches)) : Type 0 where
+  pub name : option_map (λ p. p.0.now) asked ≡ subcommand_name_of found
+  pub rows : option_map (λ p. rows_of (found_of p.1)) asked ≡ option_map (λ p. p.1) (subcommand_rows (out-ArgMatches found).subcommand)
 
 -- the name of the command that is asked for, and what clap finds for it, where every word can stand there and clap finds no fault
 unfoldable pub parsed : List Text → Option (Text × List Row)
@@ -70,7 +81,7 @@ cache_of = given_or (codes "cache") (number_within 0 65536) 0
 
 -- each write is to be synced before it is answered
 abbrev pub is_durable : List Row → Bool
-is_durable rows = option_map_or (λ text. bytes_eq text (codes "true")) (first_of (codes "durable") rows) false
+is_durable = is_set (codes "durable")
 
 -- and so nothing may be held back
 abbrev pub holds_back_durably : List Row → Bool
@@ -117,6 +128,21 @@ mirror_of rows =
     record { id = record { major = major; minor = minor }; port = port; mtu = mtu })
     (mtu_of rows)) (given_or (codes "port") port_of default_port rows)) (slot_of rows)) (shelf_of rows)
 
+-- keep KEEP ACTION and audit SHELF SLOT SECTORS KEEP: the file of the keep
+abbrev pub keep_name : List Row → Option Text
+keep_name = first_of (codes "keep")
+
+-- how many sectors the disk of a captured target has: as many at most as a target can have
+abbrev pub captured_sectors : List Row → Option ℕ
+captured_sectors = given (codes "sectors") (λ text. number_of text 1099511627776)
+
+-- audit SHELF SLOT SECTORS KEEP
+unfoldable pub audit_of : List Row → Option Audits
+audit_of rows =
+    option_and_then (λ name. option_and_then (λ major. option_and_then (λ minor. option_and_then (λ ports. option_and_then (λ mtu. option_map (λ sectors.
+    record { id = record { major = major; minor = minor }; ports = record { items = ports }; mtu = mtu; sectors = sectors })
+    (captured_sectors rows)) (mtu_of rows)) (given_or (codes "ports") ports_of (default_port ∷ []) rows)) (slot_of rows)) (shelf_of rows)) (keep_name rows)
+
 -- soak SEED N
 unfoldable pub soak_of : List Row → Option Soaks
 soak_of rows =
@@ -136,11 +162,7 @@ unfoldable pub switch_of : List Row → Option Switches
 switch_of rows =
     option_and_then (λ words. option_map (λ kinds. record { ports = record { items = kinds } }) (kinds_of words)) (all_of (codes "ports") rows)
 
--- keep KEEP ACTION: the file
-abbrev pub keep_name : List Row → Option Text
-keep_name = first_of (codes "keep")
-
--- what is to be done with it
+-- keep KEEP ACTION: what is to be done with it
 abbrev pub keep_action : Text → Option KeepAction
 keep_action action =
     if bytes_eq action (codes "show") then Some Show
@@ -160,11 +182,11 @@ list_tool_of name rows =
     else if bytes_eq name (codes "reserve") then option_map Reserve (reserve_of rows)
     else None
 
--- the tool of this name; discover and stat listen for 50 turns where nothing is said of it, and flush for 5000
+-- the tool of this name
 unfoldable pub tool_of : Text → List Row → Option Tool
 tool_of name rows =
-    if bytes_eq name (codes "discover") then option_map Discover (asking_of 50 rows)
-    else if bytes_eq name (codes "stat") then option_map Stat (asking_of 50 rows)
+    if bytes_eq name (codes "discover") then option_map Discover (discover_of rows)
+    else if bytes_eq name (codes "stat") then option_map Stat (stat_of rows)
     else if bytes_eq name (codes "flush") then option_map Flush (flush_of rows)
     else list_tool_of name rows
 
@@ -182,6 +204,7 @@ command_of name rows =
     else if bytes_eq name (codes "capture") then option_map Answer (answer_of true rows)
     else if bytes_eq name (codes "serve") then option_map Serve (serve_of rows)
     else if bytes_eq name (codes "mirror") then option_map Mirror (mirror_of rows)
+    else if bytes_eq name (codes "audit") then option_map Audit (audit_of rows)
     else if bytes_eq name (codes "replay") then Some Replay
     else if bytes_eq name (codes "soak") then option_map Soak (soak_of rows)
     else if bytes_eq name (codes "live") then option_map Live (live_of rows)
@@ -189,9 +212,13 @@ command_of name rows =
     else if bytes_eq name (codes "keep") then option_map Keep (keep_of rows)
     else asked_of name rows
 
+-- the command of this name with what clap found for it, or nothing
+abbrev pub with_rows : Text → List Row → Option (Command × List Row)
+with_rows name rows = option_map (λ c. (c, rows)) (command_of name rows)
+
 -- the command that the words spell with what clap found for it, or nothing
 abbrev pub spelled : List Text → Option (Command × List Row)
-spelled words = option_and_then (λ p. option_map (λ c. (c, p.1)) (command_of p.0 p.1)) (parsed words)
+spelled words = option_and_then (λ p. with_rows p.0 p.1) (parsed words)
 
 -- the command that the words spell, or nothing
 abbrev pub command : List Text → Option Command
@@ -202,6 +229,7 @@ abbrev pub files_of : Command → List Row → List Text
 files_of (Answer answer) rows = files rows
 files_of (Serve serve) rows = files rows
 files_of (Mirror mirror) rows = files rows
+files_of (Audit audit) rows = option_map_or (λ name. name ∷ []) (keep_name rows) []
 files_of Replay rows = []
 files_of (Soak soak) rows = []
 files_of (Live live) rows = []
@@ -219,6 +247,7 @@ abbrev pub stop_in : Command → List Row → Option Text
 stop_in (Answer answer) rows = None
 stop_in (Serve serve) rows = first_of (codes "stop") rows
 stop_in (Mirror asked) rows = None
+stop_in (Audit audit) rows = None
 stop_in Replay rows = None
 stop_in (Soak soak) rows = None
 stop_in (Live live) rows = None
@@ -242,6 +271,7 @@ abbrev pub links_of : Command → List Row → List PortWords
 links_of (Answer answer) rows = []
 links_of (Serve serve) rows = one_link rows
 links_of (Mirror mirror) rows = []
+links_of (Audit audit) rows = []
 links_of Replay rows = []
 links_of (Soak soak) rows = []
 links_of (Live live) rows = two_links rows
@@ -288,6 +318,14 @@ pub record CanMirror (mirror : Mirrors) : Type 0 where
   pub port : is_individual mirror.port ≡ true
   pub mtu : (1500 ≤ mirror.mtu) × (mirror.mtu ≤ 9000)
 
+-- what `audit` asks for is possible
+pub record CanAudit (audit : Audits) : Type 0 where
+  pub shelf : audit.id.major ≤ 65534
+  pub slot : audit.id.minor ≤ 254
+  pub ports : ArePorts audit.ports.items
+  pub mtu : (1500 ≤ audit.mtu) × (audit.mtu ≤ 9000)
+  pub sectors : audit.sectors ≤ 1099511627776
+
 -- what `soak` asks for is possible
 pub record CanSoak (soak : Soaks) : Type 0 where
   pub seed : soak.seed ≤ 65535
@@ -301,8 +339,8 @@ pub record CanLive (live : Lives) : Type 0 where
 
 -- what a tool asks for is possible
 abbrev pub CanRun : Tool → Type 0
-CanRun (Discover asking) = CanAsk asking
-CanRun (Stat asking) = CanAsk asking
+CanRun (Discover discover) = CanAsk discover.asking
+CanRun (Stat stat) = CanAsk stat.asking
 CanRun (Cfg cfg) = CanCfg cfg
 CanRun (Mask mask) = CanMask mask
 CanRun (Reserve reserve) = CanReserve reserve
@@ -312,6 +350,7 @@ abbrev pub IsInRange : Command → Type 0
 IsInRange (Answer answer) = CanAnswer answer
 IsInRange (Serve serve) = CanServe serve
 IsInRange (Mirror mirror) = CanMirror mirror
+IsInRange (Audit audit) = CanAudit audit
 IsInRange Replay = Unit
 IsInRange (Soak soak) = CanSoak soak
 IsInRange (Live live) = CanLive live
@@ -326,6 +365,7 @@ abbrev pub file_count : Command → ℕ
 file_count (Answer answer) = 2
 file_count (Serve serve) = 2 * serve.slots
 file_count (Mirror mirror) = 4
+file_count (Audit audit) = 1
 file_count Replay = 0
 file_count (Soak soak) = 0
 file_count (Live live) = 0
@@ -339,6 +379,7 @@ abbrev pub link_count : Command → ℕ
 link_count (Answer answer) = 0
 link_count (Serve serve) = 1
 link_count (Mirror mirror) = 0
+link_count (Audit audit) = 0
 link_count Replay = 0
 link_count (Soak soak) = 0
 link_count (Live live) = 2

@@ -43,6 +43,9 @@ const SHELF: Argument = ("shelf", Needed);
 /// The files that it works on.
 const FILES: Argument = ("files", Several);
 
+/// The file of a keep.
+const KEEP: Argument = ("keep", Needed);
+
 /// A device, by shelf and slot.
 const DEV: Argument = ("dev", Needed);
 
@@ -79,6 +82,9 @@ const TAP: Argument = ("tap", Optional);
 /// The address of a port.
 const PORT: Argument = ("port", Optional);
 
+/// The addresses of ports.
+const PORTS: Argument = ("ports", Optional);
+
 /// What a frame carries.
 const MTU: Argument = ("mtu", Optional);
 
@@ -93,7 +99,7 @@ const TURNS: Argument = ("turns", Optional);
 
 /// All commands. A function that names a `const` is proved with its whole value, and one that names
 /// a `static` isn't.
-pub(crate) static FORMS: [Form; 17] = [
+pub(crate) static FORMS: [Form; 18] = [
     (
         "answer",
         &[SHELF, ("slot", Needed), FILES, PORT, MTU, CACHE, DURABLE],
@@ -111,7 +117,7 @@ pub(crate) static FORMS: [Form; 17] = [
             PEERS,
             VXLAN,
             TAP,
-            ("ports", Optional),
+            PORTS,
             MTU,
             CACHE,
             ("frames", Optional),
@@ -121,6 +127,17 @@ pub(crate) static FORMS: [Form; 17] = [
         ],
     ),
     ("mirror", &[SHELF, ("slot", Needed), FILES, PORT, MTU]),
+    (
+        "audit",
+        &[
+            SHELF,
+            ("slot", Needed),
+            ("sectors", Needed),
+            KEEP,
+            PORTS,
+            MTU,
+        ],
+    ),
     ("replay", &[]),
     ("soak", &[("seed", Needed), COUNT]),
     (
@@ -137,8 +154,14 @@ pub(crate) static FORMS: [Form; 17] = [
         ],
     ),
     ("switch", &[("ports", Several)]),
-    ("discover", &[LOCAL, PEERS, VXLAN, TAP, PORT, TURNS]),
-    ("stat", &[LOCAL, PEERS, VXLAN, TAP, PORT, TURNS]),
+    (
+        "discover",
+        &[LOCAL, PEERS, VXLAN, TAP, PORT, TURNS, ("long", Flag)],
+    ),
+    (
+        "stat",
+        &[LOCAL, PEERS, VXLAN, TAP, PORT, TURNS, ("sectors", Flag)],
+    ),
     (
         "cfg",
         &[DEV, ACTION, TEXT, LOCAL, PEERS, VXLAN, TAP, PORT, TURNS],
@@ -156,8 +179,21 @@ pub(crate) static FORMS: [Form; 17] = [
         "get",
         &[DEV, AT, COUNT, LOCAL, PEERS, VXLAN, TAP, PORT, TURNS],
     ),
-    ("put", &[DEV, AT, LOCAL, PEERS, VXLAN, TAP, PORT, TURNS]),
-    ("keep", &[("keep", Needed), ACTION]),
+    (
+        "put",
+        &[
+            DEV,
+            AT,
+            LOCAL,
+            PEERS,
+            VXLAN,
+            TAP,
+            PORT,
+            TURNS,
+            ("verify", Flag),
+        ],
+    ),
+    ("keep", &[KEEP, ACTION]),
 ];
 
 /// Words by their place.

@@ -69,6 +69,23 @@ pub struct Mirror {
     pub mtu: u32,
 }
 
+/// What `audit SHELF SLOT SECTORS KEEP` asks for: to judge the capture in the source as one of this
+/// target, which had the lists of the keep when the capture began.
+#[derive(Debug, Drop, PartialEq, Eq)]
+pub struct Audit {
+    /// The target's name.
+    pub id: TargetId,
+
+    /// The addresses of its shelf.
+    pub ports: Ports,
+
+    /// The greatest length of what an Ethernet frame carries.
+    pub mtu: u32,
+
+    /// How many sectors the target's disk has.
+    pub sectors: u64,
+}
+
 /// What `soak SEED N` asks for: to run the script of `count` commands that a number picks, and to
 /// print what was seen.
 #[derive(Clone, Copy, Debug, PartialEq, Eq)]
@@ -129,6 +146,24 @@ pub struct Asking {
 
     /// The most turns that a tool listens for a response.
     pub turns: u32,
+}
+
+/// What `discover` asks for: to list the devices of the network.
+#[derive(Clone, Copy, Debug, PartialEq, Eq)]
+pub struct Discover {
+    pub asking: Asking,
+
+    /// Whether the line of a device has its config string.
+    pub long: bool,
+}
+
+/// What `stat` asks for: to list the devices of the network, with their sizes and states.
+#[derive(Clone, Copy, Debug, PartialEq, Eq)]
+pub struct Stat {
+    pub asking: Asking,
+
+    /// Whether the line of a device has its number of sectors.
+    pub sectors: bool,
 }
 
 /// What `cfg DEV ACTION TEXT` asks for: to read, test or set a device's config string.
@@ -207,17 +242,16 @@ pub struct Put {
 
     /// The first sector.
     pub at: u64,
+
+    /// Whether the sectors are read again behind the flush and compared.
+    pub verify: bool,
 }
 
 /// What a tool asks the targets of a network for.
 #[derive(Debug, Drop, PartialEq, Eq)]
 pub enum Tool {
-    /// What `discover` asks for: to list the devices of the network.
-    Discover(Asking),
-
-    /// What `stat` asks for: to list the devices of the network, with their sizes and states.
-    Stat(Asking),
-
+    Discover(Discover),
+    Stat(Stat),
     Cfg(Cfg),
     Mask(Mask),
     Reserve(Reserve),
@@ -230,6 +264,7 @@ pub enum Command {
     Answer(Answer),
     Serve(Serve),
     Mirror(Mirror),
+    Audit(Audit),
 
     /// What `replay` asks for: to run the script that the source spells, and to print its history.
     Replay,

@@ -14,6 +14,7 @@
 #![tactic(auto)]
 
 mod app;
+mod bounds;
 mod command;
 mod law;
 mod link;
@@ -27,9 +28,9 @@ mod values;
 mod word;
 
 pub use command::{
-    Answer, Asking, Cfg, Command, Flush, Get, KeepAction, Live, Mask, Mirror, PortKinds, PortWords,
-    Put, Reserve, Serve, Soak, Switch, Tool,
+    Answer, Asking, Audit, Cfg, Command, Discover, Flush, Get, KeepAction, Live, Mask, Mirror,
+    PortKinds, PortWords, Put, Reserve, Serve, Soak, Stat, Switch, Tool,
 };
 pub use law::plain_words_law;
 pub use read::{files_of, ports_of, read_words, stop_of};
-pub use slip::{Slip, Wrong, slip_of};
+pub use slip::{Actions, Slip, Wrong, slip_of};

@@ -4,13 +4,11 @@ ghost use Rattle.clap.specs.Words.{found_of, rows_of};
 ghost use Rattle.aoe_words.specs.Values.{ends_of, link, link_of, two_ends, vxlan_of, words_of};
 
 use crate::PortWords;
-use crate::values::{number_within, text};
+use crate::bounds::VXLAN;
+use crate::values::{number_if_given, text};
 use aoe_base::{Blob, NoMemory};
 use clap::ArgMatches;
 use std::alloc::Global;
-
-/// The greatest number of a VXLAN: it has 24 bits (RFC 7348, section 5).
-const LAST_VNI: u32 = 0xff_ffff;
 
 /// The texts that name a link.
 #[derive(Clone, Copy)]
@@ -32,10 +30,7 @@ pub(crate) enum LinkText<'a> {
 fn vxlan_of(found: &ArgMatches) -> Option<Option<u32>>
     ensures { result ≡ vxlan_of (rows_of (found_of found.now)) }
 {
-    match text(found, "vxlan") {
-        Some(text) => Some(Some(number_within(text.as_bytes(), 0, LAST_VNI)?)),
-        None => Some(None),
-    }
+    number_if_given(found, "vxlan", VXLAN)
 }
 
 /// The link that these texts name. One over UDP has both ends, and may have a VXLAN; one over a tap

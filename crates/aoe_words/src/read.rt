@@ -1,21 +1,27 @@
 //! What arguments spell.
-ghost use Rattle.std.specs.Prelude.{◌≡◌, ◌≢◌, ◌≤◌, length, false, map, option_map, string_bytes, IfOk, IfSome, IsSome, None, Ok, OnErr, OnOk};
+ghost use Rattle.std.specs.Prelude.{◌≡◌, ◌≢◌, ◌≤◌, length, false, map, option_map, string_bytes, IfErr, IfOk, IfSome, IsErr, IsOkAnd, IsSome, None, Ok};
 ghost use Rattle.std.specs.List.{list_all};
 ghost use Rattle.clap.specs.Values.{kind_of};
 ghost use Rattle.clap.specs.Words.{found_of, rows_of};
-ghost use Rattle.aoe_words.specs.Words.{CanRun, CanServe, Fits, IsInRange, answer_of, asked_of, command, command_of, file_count, file_names, files_of, holds_back_durably, idle_of, is_durable, is_word, keep_action, keep_name, keep_of, link_count, links_of, list_tool_of, live_of, mirror_of, parsed, port_words, serve_of, serve_with, soak_of, spelled, stop_in, stop_name, switch_of, tool_of};
+ghost use Rattle.aoe_words.specs.Words.{CanRun, CanServe, Fits, IsFoundIn, IsInRange, answer_of, asked_of, audit_of, command, command_of, file_count, file_names, files_of, holds_back_durably, idle_of, is_durable, is_word, keep_action, keep_name, keep_of, link_count, links_of, list_tool_of, live_of, mirror_of, parsed, port_words, serve_of, serve_with, soak_of, spelled, stop_in, stop_name, switch_of, tool_of, with_rows};
 ghost use Rattle.aoe_words.specs.Values.{link};
 
 use crate::app::matches;
+use crate::bounds::{
+    CACHE, FRAMES, IDLE, LAST_SEED, LIVE_COMMANDS, LIVE_SECTORS, MOST_CAPTURED_SECTORS, MTU,
+    SOAK_COMMANDS, TURNS,
+};
 use crate::link::{all_links, link, two_ends};
 use crate::switch::read_kinds;
-use crate::tools::{cfg_of, flush_of, get_of, mask_of, plain_of, put_of, reserve_of};
+use crate::tools::{cfg_of, discover_of, flush_of, get_of, mask_of, put_of, reserve_of, stat_of};
 use crate::values::{
-    DEFAULT_PORT, NumberOption, number, number_from, number_if_given, number_or, port_or_default,
+    DEFAULT_PORT, is_set, number, number_from, number_if_given, number_or, port_or_default,
     ports_or_default, text, texts,
 };
 use crate::word::is_word;
-use crate::{Answer, Command, KeepAction, Live, Mirror, PortWords, Serve, Soak, Switch, Tool};
+use crate::{
+    Answer, Audit, Command, KeepAction, Live, Mirror, PortWords, Serve, Soak, Switch, Tool,
+};
 use aoe_base::{LAST_MAJOR, LAST_MINOR, NoMemory, TargetId};
 use clap::ArgMatches;
 use clap::error::{Error, ErrorKind};
@@ -30,45 +36,17 @@ const MIRROR_FILES: usize = 4;
 /// The most files that `serve` works on.
 const MOST_FILES: usize = 32;
 
-/// What an Ethernet frame carries: an ordinary frame, to a jumbo frame.
-const MTU: NumberOption = NumberOption {
-    least: 1500,
-    most: 9000,
-    default: 1500,
-};
+/// What an Ethernet frame carries where nothing is said of it.
+const DEFAULT_MTU: u32 = 1500;
 
-/// How many sectors a slot buffers: none, to 32 mebibytes.
-const CACHE: NumberOption = NumberOption {
-    least: 0,
-    most: 65536,
-    default: 0,
-};
+/// How many sectors a slot buffers where nothing is said of it.
+const DEFAULT_CACHE: u32 = 0;
 
-/// How many turns without a frame end `serve`, where 0 says that none do.
-const IDLE: NumberOption = NumberOption {
-    least: 0,
-    most: 1_000_000,
-    default: 3000,
-};
+/// How many turns without a frame end `serve` where nothing is said of it.
+const DEFAULT_IDLE: u32 = 3000;
 
-/// The greatest number that picks a script of `soak`.
-const LAST_SEED: u64 = 65535;
-
-/// The most commands of such a script.
-const MOST_COMMANDS: u32 = 16_000;
-
-/// The most sectors of the disk that `live` works on: 32 mebibytes.
-const MOST_LIVE_SECTORS: u32 = 65_536;
-
-/// The most commands of `live`.
-const MOST_LIVE_COMMANDS: u32 = 10_000;
-
-/// How many turns that end no command end `live`.
-const LIVE_TURNS: NumberOption = NumberOption {
-    least: 1,
-    most: 1_000_000,
-    default: 5000,
-};
+/// How many turns that end no command end `live` where nothing is said of it.
+const LIVE_TURNS: u32 = 5000;
 
 /// A command that arguments spell, with what clap found for it.
 #[derive(Drop)]
@@ -84,15 +62,33 @@ fn are_words(words: &[String]) -> bool
     words.iter().all(|word| is_word(word.as_bytes()))
 }
 
-/// Refuses where clap was out of memory. Whatever else it refuses is the words.
-fn check_memory(error: &Error) -> Result<(), NoMemory>
-    ensures memory { OnErr result (kind_of error.now ≡ ErrorKind.OutOfMemory) }
-    ensures words { OnOk result (kind_of error.now ≢ ErrorKind.OutOfMemory) }
+/// What a refusal of clap's says: nothing where the words are at fault, and whatever else it refuses
+/// is its want of memory.
+fn refused<'a>(error: &Error) -> Result<Option<(&'a str, ArgMatches<'a>)>, NoMemory>
+    ensures memory { kind_of error.now ≡ ErrorKind.OutOfMemory → IsErr result }
+    ensures words { kind_of error.now ≢ ErrorKind.OutOfMemory → result ≡ Ok None }
 {
     if error.kind() == ErrorKind::OutOfMemory {
         return Err(NoMemory);
     }
-    Ok(())
+    Ok(None)
+}
+
+/// What an answer of clap's says: the name of the command that is asked for, and what it finds for
+/// it; nothing where it finds a fault in the words.
+fn asked<'a>(
+    answer: Result<ArgMatches<'a>, Error>,
+) -> Result<Option<(&'a str, ArgMatches<'a>)>, NoMemory>
+    ensures memory { IfErr answer.entry
+        (λ error. kind_of error ≡ ErrorKind.OutOfMemory → IsErr result) }
+    ensures words { IfErr answer.entry
+        (λ error. kind_of error ≢ ErrorKind.OutOfMemory → result ≡ Ok None) }
+    ensures found { IfOk answer.entry (λ found. IsOkAnd result (IsFoundIn found)) }
+{
+    match answer {
+        Ok(mut found) => Ok(found.remove_subcommand()),
+        Err(error) => refused(&error),
+    }
 }
 
 /// The name of the command that is asked for and what clap finds for it, where every word can stand
@@ -108,23 +104,14 @@ fn parsed<'a>(
     if !are_words(words) {
         return Ok(None);
     }
-    match matches(alloc, words) {
-        Ok(mut found) => Ok(found.remove_subcommand()),
-        Err(error) => {
-            check_memory(&error)?;
-            Ok(None)
-        }
-    }
+    asked(matches(alloc, words))
 }
 
 /// Whether each write is to be synced before it is answered.
 fn is_durable(found: &ArgMatches) -> bool
     ensures { result ≡ is_durable (rows_of (found_of found.now)) }
 {
-    match text(found, "durable") {
-        Some(text) => text == "true",
-        None => false,
-    }
+    is_set(found, "durable")
 }
 
 /// Whether that is asked for beside a number of sectors to hold back.
@@ -149,8 +136,8 @@ fn answer_of(found: &ArgMatches, captures: bool) -> Option<Command>
             minor: number(found, "slot", LAST_MINOR)? as u8,
         },
         port: port_or_default(found, "port", DEFAULT_PORT)?,
-        mtu: number_or(found, "mtu", &MTU)?,
-        cache: number_or(found, "cache", &CACHE)?,
+        mtu: number_or(found, "mtu", MTU, DEFAULT_MTU)?,
+        cache: number_or(found, "cache", CACHE, DEFAULT_CACHE)?,
         captures,
         durable: is_durable(found),
     }))
@@ -161,7 +148,7 @@ fn idle_of(found: &ArgMatches) -> Option<Option<u32>>
     ensures value { result ≡ idle_of (rows_of (found_of found.now)) }
     ensures bounds { IfSome result (λ idle. IfSome idle (λ n. (1 ≤ n) × (n ≤ 1000000))) }
 {
-    let turns = number_or(found, "idle", &IDLE)?;
+    let turns = number_or(found, "idle", IDLE, DEFAULT_IDLE)?;
     Some(if turns == 0 { None } else { Some(turns) })
 }
 
@@ -177,10 +164,10 @@ fn serve_with(found: &ArgMatches, slots: u8) -> Option<Serve>
         shelf: number(found, "shelf", LAST_MAJOR)? as u16,
         slots,
         ports: ports_or_default(found, "ports")?,
-        mtu: number_or(found, "mtu", &MTU)?,
-        cache: number_or(found, "cache", &CACHE)?,
+        mtu: number_or(found, "mtu", MTU, DEFAULT_MTU)?,
+        cache: number_or(found, "cache", CACHE, DEFAULT_CACHE)?,
         durable: is_durable(found),
-        frames: number_if_given(found, "frames", 1, u32::MAX)?,
+        frames: number_if_given(found, "frames", FRAMES)?,
         idle: idle_of(found)?,
     })
 }
@@ -214,7 +201,32 @@ fn mirror_of(found: &ArgMatches) -> Option<Command>
             minor: number(found, "slot", LAST_MINOR)? as u8,
         },
         port: port_or_default(found, "port", DEFAULT_PORT)?,
-        mtu: number_or(found, "mtu", &MTU)?,
+        mtu: number_or(found, "mtu", MTU, DEFAULT_MTU)?,
+    }))
+}
+
+/// The name of a keep's file.
+fn keep_name<'a>(found: &ArgMatches<'a>) -> Option<&'a str>
+    ensures { option_map (λ name. name.now) result ≡ keep_name (rows_of (found_of found.now)) }
+{
+    text(found, "keep")
+}
+
+/// What the arguments of `audit` ask for.
+#[tactic(auto, unfolding(crate::specs::Words::audit_of))]
+fn audit_of(found: &ArgMatches) -> Option<Command>
+    ensures value { result ≡ option_map Command.Audit (audit_of (rows_of (found_of found.now))) }
+    ensures fits { IfSome result (Fits (rows_of (found_of found.now))) }
+{
+    let _name = keep_name(found)?;
+    Some(Command::Audit(Audit {
+        id: TargetId {
+            major: number(found, "shelf", LAST_MAJOR)? as u16,
+            minor: number(found, "slot", LAST_MINOR)? as u8,
+        },
+        ports: ports_or_default(found, "ports")?,
+        mtu: number_or(found, "mtu", MTU, DEFAULT_MTU)?,
+        sectors: number(found, "sectors", MOST_CAPTURED_SECTORS)?,
     }))
 }
 
@@ -226,7 +238,7 @@ fn soak_of(found: &ArgMatches) -> Option<Command>
 {
     Some(Command::Soak(Soak {
         seed: number(found, "seed", LAST_SEED)? as u16,
-        count: number_from(found, "count", 1, MOST_COMMANDS)?,
+        count: number_from(found, "count", SOAK_COMMANDS)?,
     }))
 }
 
@@ -249,17 +261,10 @@ fn live_of(found: &ArgMatches) -> Option<Command>
 {
     let _ends = two_ends(found)?;
     Some(Command::Live(Live {
-        sectors: number_from(found, "sectors", 1, MOST_LIVE_SECTORS)?,
-        count: number_from(found, "count", 1, MOST_LIVE_COMMANDS)?,
-        turns: number_or(found, "turns", &LIVE_TURNS)?,
+        sectors: number_from(found, "sectors", LIVE_SECTORS)?,
+        count: number_from(found, "count", LIVE_COMMANDS)?,
+        turns: number_or(found, "turns", TURNS, LIVE_TURNS)?,
     }))
-}
-
-/// The name of a keep's file.
-fn keep_name<'a>(found: &ArgMatches<'a>) -> Option<&'a str>
-    ensures { option_map (λ name. name.now) result ≡ keep_name (rows_of (found_of found.now)) }
-{
-    text(found, "keep")
 }
 
 /// What is to be done with a keep.
@@ -309,8 +314,8 @@ fn tool_of(name: &str, found: &ArgMatches) -> Option<Tool>
     ensures link { IfSome result (λ tool. IsSome (link (rows_of (found_of found.now)))) }
 {
     match name {
-        "discover" => Some(Tool::Discover(plain_of(found)?)),
-        "stat" => Some(Tool::Stat(plain_of(found)?)),
+        "discover" => discover_of(found),
+        "stat" => stat_of(found),
         "flush" => flush_of(found),
         _ => list_tool_of(name, found),
     }
@@ -341,6 +346,7 @@ fn command_of(name: &str, found: &ArgMatches) -> Option<Command>
         "capture" => answer_of(found, true),
         "serve" => serve_of(found),
         "mirror" => mirror_of(found),
+        "audit" => audit_of(found),
         "replay" => Some(Command::Replay),
         "soak" => soak_of(found),
         "live" => live_of(found),
@@ -348,6 +354,16 @@ fn command_of(name: &str, found: &ArgMatches) -> Option<Command>
         "keep" => keep_of(found),
         _ => asked_of(name, found),
     }
+}
+
+/// The command that these arguments of it spell, with what clap found for it.
+fn with_command<'a>(name: &'a str, matches: ArgMatches<'a>) -> Option<Found<'a>>
+    ensures value { option_map (λ s. (s.command, rows_of (found_of s.matches))) result
+        ≡ with_rows name.entry.now (rows_of (found_of matches.entry)) }
+    ensures fits { IfSome result (λ s. Fits (rows_of (found_of s.matches)) s.command) }
+{
+    let command = command_of(name, &matches)?;
+    Some(Found { command, matches })
 }
 
 /// The command that the arguments spell, with what clap found for it.
@@ -358,11 +374,8 @@ fn spelled<'a>(alloc: Global, words: &'a [String]) -> Result<Option<Found<'a>>, 
         (rows_of (found_of s.matches)) s.command)) }
     ensures words { list_all is_word (map string_bytes words.entry.now) ≡ false → result ≡ Ok None }
 {
-    let Some((name, matches)) = parsed(alloc, words)? else {
-        return Ok(None);
-    };
-    match command_of(name, &matches) {
-        Some(command) => Ok(Some(Found { command, matches })),
+    match parsed(alloc, words)? {
+        Some((name, matches)) => Ok(with_command(name, matches)),
         None => Ok(None),
     }
 }
@@ -409,7 +422,7 @@ fn files_in(alloc: Global, found: &Found) -> Result<Vec<String>, NoMemory>
             Some(texts) => copies(alloc, texts),
             None => Ok(Vec::new(alloc)),
         },
-        Command::Keep(_) => match keep_name(&found.matches) {
+        Command::Audit(_) | Command::Keep(_) => match keep_name(&found.matches) {
             Some(name) => copies(alloc, &[name]),
             None => Ok(Vec::new(alloc)),
         },
@@ -417,8 +430,8 @@ fn files_in(alloc: Global, found: &Found) -> Result<Vec<String>, NoMemory>
     }
 }
 
-/// The names of the files that `answer`, `capture`, `serve`, `mirror` or `keep` works on, in their order; none
-/// for the other commands and where the arguments spell no command.
+/// The names of the files that `answer`, `capture`, `serve`, `mirror`, `audit` or `keep` works on, in
+/// their order; none for the other commands and where the arguments spell no command.
 pub fn files_of(alloc: Global, words: &[String]) -> Result<Vec<String>, NoMemory>
     ensures { IfOk result (λ names. map string_bytes names.items
         ≡ file_names (map string_bytes words.now)) }
@@ -437,6 +450,7 @@ fn links_in(alloc: Global, found: &Found) -> Result<Vec<PortWords>, NoMemory>
     match found.command {
         Command::Answer(_)
         | Command::Mirror(_)
+        | Command::Audit(_)
         | Command::Replay
         | Command::Soak(_)
         | Command::Switch(_)

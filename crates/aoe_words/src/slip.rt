@@ -1,22 +1,38 @@
 //! What is wrong with words that are no command.
-ghost use Rattle.std.specs.Prelude.{◌≡◌, ◌<◌, ◌≤◌, ◌↔◌, length, map, string_bytes, IfErr, IfOk, IfSome, IsSome, None, Some};
-ghost use Rattle.aoe_words.specs.Words.{command};
+ghost use Rattle.std.specs.Prelude.{◌≡◌, ◌<◌, ◌≤◌, ◌↔◌, false, is_some, length, map, string_bytes, true, IfErr, IfOk, IfSome, IsSome, None, Some};
+ghost use Rattle.aoe_words.specs.Slips.{IsMisfit, IsSlip, IsWrongOfAll, is_action, value_in, word_at};
+ghost use Rattle.aoe_words.specs.Values.{number_within};
+ghost use Rattle.aoe_words.specs.Words.{command, is_value, is_word};
 
 use crate::app::{Argument, FORMS, Form, Place};
+use crate::bounds::{
+    CACHE, FRAMES, GET_SECTORS, IDLE, LAST_SECTOR, LAST_SEED, LIVE_COMMANDS, LIVE_SECTORS,
+    MOST_CAPTURED_SECTORS, MTU, SOAK_COMMANDS, TURNS, VXLAN,
+};
 use crate::lists::read_dir;
 use crate::ports::{read_port, read_ports};
 use crate::read_words;
 use crate::switch::read_kind;
-use crate::word::is_word;
+use crate::word::{attached, is_value, is_word};
 use aoe_base::{LAST_MAJOR, LAST_MINOR, NoMemory, read_device, read_mac, read_number};
 use std::alloc::Global;
 use thiserror::Error;
 
-/// The greatest number of a VXLAN, which has 24 bits (RFC 7348, section 5).
-const LAST_VNI: u64 = 0xff_ffff;
+/// What can be done with what a device keeps, or with a keep.
+#[derive(Clone, Copy, Debug, PartialEq, Eq, Error)]
+pub enum Actions {
+    #[error("read, test, prefix, set, force, clear")]
+    Config,
 
-/// The last sector of a command of 48 bits.
-const LAST_SECTOR: u64 = 0xffff_ffff_ffff;
+    #[error("read, edit")]
+    Mask,
+
+    #[error("read, set, force, release")]
+    Reserve,
+
+    #[error("show, upgrade, lock, unlock")]
+    Keep,
+}
 
 /// What is wrong with a word, or with all of them.
 #[derive(Clone, Copy, Debug, PartialEq, Eq, Error)]
@@ -67,9 +83,8 @@ pub enum Wrong {
     #[error("neither add=MAC nor del=MAC, in lower-case hexadecimal as 02:00:00:00:00:0a")]
     Directive,
 
-    /// None of these actions, which `, ` parts.
     #[error("none of {0}")]
-    Action(&'static str),
+    Action(Actions),
 
     /// An argument or an option of this name isn't given.
     #[error("{0} is missing")]
@@ -110,30 +125,60 @@ fn no_number(command: &str, name: &str) -> Option<Wrong> {
     let (least, most) = match name {
         "shelf" => (0, LAST_MAJOR),
         "slot" => (0, LAST_MINOR),
-        "mtu" => (1500, 9000),
-        "cache" => (0, 65_536),
-        "frames" => (1, u64::from(u32::MAX)),
-        "idle" => (0, 1_000_000),
-        "turns" => (1, 1_000_000),
-        "vxlan" => (0, LAST_VNI),
-        "seed" => (0, 65_535),
-        "sectors" => (1, 65_536),
+        "mtu" => MTU.ends(),
+        "cache" => CACHE.ends(),
+        "frames" => FRAMES.ends(),
+        "idle" => IDLE.ends(),
+        "turns" => TURNS.ends(),
+        "vxlan" => VXLAN.ends(),
+        "seed" => (0, LAST_SEED),
+        "sectors" if command == "audit" => (0, MOST_CAPTURED_SECTORS),
+        "sectors" => LIVE_SECTORS.ends(),
         "at" => (0, LAST_SECTOR),
-        "count" if command == "soak" => (1, 16_000),
-        "count" if command == "live" => (1, 10_000),
-        "count" => (1, 32_768),
+        "count" if command == "soak" => SOAK_COMMANDS.ends(),
+        "count" if command == "live" => LIVE_COMMANDS.ends(),
+        "count" => GET_SECTORS.ends(),
         _ => return None,
     };
     Some(Wrong::Number { least, most })
 }
 
 /// The actions of a command.
-fn actions(command: &str) -> &'static str {
+fn actions_of(command: &str) -> Actions {
     match command {
-        "cfg" => "read, test, prefix, set, force, clear",
-        "mask" => "read, edit",
-        "reserve" => "read, set, force, release",
-        _ => "show, upgrade, lock, unlock",
+        "cfg" => Actions::Config,
+        "mask" => Actions::Mask,
+        "reserve" => Actions::Reserve,
+        _ => Actions::Keep,
+    }
+}
+
+/// Whether a text is one of these actions.
+fn is_action(actions: Actions, text: &[u8]) -> bool
+    ensures { result ≡ is_action actions text.now }
+{
+    match actions {
+        Actions::Config => {
+            text == b"read".as_slice()
+                || text == b"test".as_slice()
+                || text == b"prefix".as_slice()
+                || text == b"set".as_slice()
+                || text == b"force".as_slice()
+                || text == b"clear".as_slice()
+        }
+        Actions::Mask => text == b"read".as_slice() || text == b"edit".as_slice(),
+        Actions::Reserve => {
+            text == b"read".as_slice()
+                || text == b"set".as_slice()
+                || text == b"force".as_slice()
+                || text == b"release".as_slice()
+        }
+        Actions::Keep => {
+            text == b"show".as_slice()
+                || text == b"upgrade".as_slice()
+                || text == b"lock".as_slice()
+                || text == b"unlock".as_slice()
+        }
     }
 }
 
@@ -146,55 +191,62 @@ fn unfit(command: &str, name: &str) -> Option<Wrong> {
         "dev" => Some(Wrong::Device),
         "dirs" => Some(Wrong::Directive),
         "macs" => Some(Wrong::Address),
-        "action" => Some(Wrong::Action(actions(command))),
+        "action" => Some(Wrong::Action(actions_of(command))),
         _ => no_number(command, name),
     }
 }
 
-/// Whether this isn't wrong with a text.
-fn fits(wrong: Wrong, text: &[u8]) -> bool {
+/// Whether a text is a number from `least` to `most`.
+fn is_number(text: &[u8], least: u64, most: u64) -> bool
+    ensures { result ≡ is_some (number_within least most text.now) }
+{
+    match read_number(text, most) {
+        Some(number) => least <= number,
+        None => false,
+    }
+}
+
+/// Whether a text is what this says it isn't. What isn't said of a text alone is never so.
+#[tactic(auto, using(crate::proofs::SlipLemmas::is_none, crate::proofs::SlipLemmas::none_of))]
+fn fits(wrong: Wrong, text: &[u8]) -> bool
+    ensures { result ≡ false → IsMisfit wrong text.now }
+{
     match wrong {
-        Wrong::Number { least, most } => match read_number(text, most) {
-            Some(number) => least <= number,
-            None => false,
-        },
+        Wrong::Number { least, most } => is_number(text, least, most),
         Wrong::Port => read_port(text).is_some(),
         Wrong::Ports => read_ports(text).is_some(),
         Wrong::SwitchPort => read_kind(text).is_some(),
         Wrong::Device => read_device(text).is_some(),
         Wrong::Directive => read_dir(text).is_some(),
         Wrong::Address => read_mac(text).is_some(),
-        Wrong::Action(actions) => actions.split(", ").any(|action| action.as_bytes() == text),
+        Wrong::Action(actions) => is_action(actions, text),
         _ => true,
     }
 }
 
 /// What is wrong with the text of an argument of this name.
-fn misfit(command: &str, name: &str, text: &str) -> Option<Wrong> {
+fn misfit(command: &str, name: &str, text: &[u8]) -> Option<Wrong>
+    ensures { IfSome result (λ wrong. IsMisfit wrong text.now) }
+{
     let wrong = unfit(command, name)?;
-    if fits(wrong, text.as_bytes()) {
-        None
-    } else {
-        Some(wrong)
-    }
+    if fits(wrong, text) { None } else { Some(wrong) }
 }
 
-/// The name of an option, and the value behind its `=`.
-fn option_parts(word: &str) -> (&str, Option<&str>) {
+/// The name of an option.
+fn option_name(word: &str) -> &str {
     let text = word.strip_prefix("--").unwrap_or("");
     match text.split_once('=') {
-        Some((name, value)) => (name, Some(value)),
-        None => (text, None),
+        Some((name, _)) => name,
+        None => text,
     }
 }
 
-/// The option of this name, where the form has one: whether it stands without a value.
-fn option_in(form: Form, name: &str) -> Option<bool> {
-    'arguments: for (argument, place) in form.1 {
-        if *argument == name {
-            return match place {
-                Place::Optional => Some(false),
-                Place::Flag => Some(true),
+/// The option of this name, where the form has one.
+fn option_in(form: Form, name: &str) -> Option<Argument> {
+    'arguments: for argument in form.1 {
+        if argument.0 == name {
+            return match argument.1 {
+                Place::Optional | Place::Flag => Some(*argument),
                 _ => None,
             };
         }
@@ -204,48 +256,66 @@ fn option_in(form: Form, name: &str) -> Option<bool> {
 
 /// Whether one of these words is an option of this name.
 fn is_given(words: &[String], name: &str) -> bool {
-    words.iter().any(|word| word.as_str().starts_with("--")
-        && option_parts(word.as_str()).0 == name)
+    words.iter().any(|word| word.as_str().starts_with("--") && option_name(word.as_str()) == name)
 }
 
-/// What is wrong with the value of the option at this place.
-fn value_slip(form: Form, words: &[String], place: usize) -> Option<Slip>
+/// The bytes of the word at this place.
+fn word_at(words: &[String], place: usize) -> &[u8]
     requires { place < length words.now }
-    ensures { IfSome result (λ slip. IfSome slip.word (λ n. n < length words.now)) }
+    ensures { result.now ≡ word_at place (map string_bytes words.now) }
 {
-    let (name, value) = option_parts(words[place].as_str());
-    if let Some(value) = value {
-        return misfit(form.0, name, value).map(|wrong| at(place, wrong));
+    words[place].as_bytes()
+}
+
+/// What is wrong with the text that the word at this place gives to an argument of this name.
+#[tactic(auto, using(crate::proofs::SlipLemmas::misfit_is))]
+fn text_slip(command: &str, name: &str, words: &[String], place: usize, text: &[u8]) -> Option<Slip>
+    requires place { (1 ≤ place) × (place < length words.now) }
+    requires text { text.now ≡ value_in (word_at place (map string_bytes words.now)) }
+    ensures { IfSome result (IsSlip (map string_bytes words.now)) }
+{
+    let wrong = misfit(command, name, text)?;
+    Some(at(place, wrong))
+}
+
+/// What is wrong with the value of the option at this place, which is of this name.
+fn value_slip(command: &str, name: &str, words: &[String], place: usize) -> Option<Slip>
+    requires place { (1 ≤ place) × (place < length words.now) }
+    requires option { is_value (word_at place (map string_bytes words.now)) ≡ false }
+    ensures { IfSome result (IsSlip (map string_bytes words.now)) }
+{
+    if let Some(value) = attached(word_at(words, place)) {
+        return text_slip(command, name, words, place, value);
     }
-    match words.get(place + 1) {
-        Some(next) if !next.as_str().starts_with('-') => {
-            misfit(form.0, name, next.as_str()).map(|wrong| at(place + 1, wrong))
-        }
-        _ => Some(at(place, Wrong::NoValue)),
+    if place + 1 < words.len() && is_value(word_at(words, place + 1)) {
+        return text_slip(command, name, words, place + 1, word_at(words, place + 1));
     }
+    Some(at(place, Wrong::NoValue))
 }
 
 /// What is wrong with the option at this place, or whether the next word is its value.
 fn option_slip(form: Form, words: &[String], place: usize) -> Result<bool, Slip>
-    requires { place < length words.now }
-    ensures { IfErr result (λ slip. IfSome slip.word (λ n. n < length words.now)) }
+    requires place { (1 ≤ place) × (place < length words.now) }
+    requires option { is_value (word_at place (map string_bytes words.now)) ≡ false }
+    ensures { IfErr result (IsSlip (map string_bytes words.now)) }
 {
-    let (name, value) = option_parts(words[place].as_str());
-    let Some(is_flag) = option_in(form, name) else {
+    let Some((name, kind)) = option_in(form, option_name(words[place].as_str())) else {
         return Err(at(place, Wrong::Option));
     };
     if is_given(&words[..place], name) {
         return Err(at(place, Wrong::Twice));
     }
-    if is_flag {
-        return match value {
-            Some(_) => Err(at(place, Wrong::Flag)),
-            None => Ok(false),
+    let has_value = attached(word_at(words, place)).is_some();
+    if matches!(kind, Place::Flag) {
+        return if has_value {
+            Err(at(place, Wrong::Flag))
+        } else {
+            Ok(false)
         };
     }
-    match value_slip(form, words, place) {
+    match value_slip(form.0, name, words, place) {
         Some(slip) => Err(slip),
-        None => Ok(value.is_none()),
+        None => Ok(!has_value),
     }
 }
 
@@ -269,34 +339,32 @@ fn argument(form: Form, before: usize) -> Option<Argument> {
 
 /// What is wrong with the word at this place, which is no option, behind so many others.
 fn word_slip(form: Form, words: &[String], place: usize, before: usize) -> Option<Slip>
-    requires { place < length words.now }
-    ensures { IfSome result (λ slip. IfSome slip.word (λ n. n < length words.now)) }
+    requires place { (1 ≤ place) × (place < length words.now) }
+    requires word { is_value (word_at place (map string_bytes words.now)) ≡ true }
+    ensures { IfSome result (IsSlip (map string_bytes words.now)) }
 {
     match argument(form, before) {
-        Some((name, _)) => {
-            misfit(form.0, name, words[place].as_str()).map(|wrong| at(place, wrong))
-        }
+        Some((name, _)) => text_slip(form.0, name, words, place, word_at(words, place)),
         None => Some(at(place, Wrong::Further)),
     }
 }
 
 /// How many words behind the command are no options nor values of them, or the first of them that is wrong.
 fn walk(form: Form, words: &[String]) -> Result<usize, Slip>
-    ensures there { IfErr result (λ slip. IfSome slip.word (λ n. n < length words.now)) }
+    ensures { IfErr result (IsSlip (map string_bytes words.now)) }
 {
     let mut before = 0;
-    let mut is_value = false;
+    let mut awaits_value = false;
     'words: for place in 1..words.len() {
-        let word = words[place].as_str();
-        if is_value {
-            is_value = false;
-        } else if word.starts_with('-') {
-            is_value = option_slip(form, words, place)?;
-        } else {
+        if awaits_value {
+            awaits_value = false;
+        } else if is_value(word_at(words, place)) {
             if let Some(slip) = word_slip(form, words, place, before) {
                 return Err(slip);
             }
             before += 1;
+        } else {
+            awaits_value = option_slip(form, words, place)?;
         }
     }
     Ok(before)
@@ -342,7 +410,10 @@ fn lacking_end(form: Form, words: &[String]) -> Option<&'static str> {
 }
 
 /// What is wrong with words each of which is good, of which so many are no options.
-fn lack(form: Form, words: &[String], before: usize) -> Wrong {
+fn lack(form: Form, words: &[String], before: usize) -> Wrong
+    requires { 1 ≤ length words.now }
+    ensures { IsWrongOfAll (map string_bytes words.now) result }
+{
     let needed = form
         .1
         .iter()
@@ -359,11 +430,24 @@ fn lack(form: Form, words: &[String], before: usize) -> Wrong {
     }
 }
 
+/// The first word that can stand on no command line.
+fn first_bad(words: &[String]) -> Option<usize>
+    ensures { IfSome result (λ n. (n < length words.now)
+        × (is_word (word_at n (map string_bytes words.now)) ≡ false)) }
+{
+    'words: for place in 0..words.len() {
+        if !is_word(word_at(words, place)) {
+            return Some(place);
+        }
+    }
+    None
+}
+
 /// The first thing that is wrong with words that are no command.
 fn first_slip(words: &[String]) -> Slip
-    ensures { IfSome result.word (λ n. n < length words.now) }
+    ensures { IsSlip (map string_bytes words.now) result }
 {
-    if let Some(place) = words.iter().position(|word| !is_word(word.as_bytes())) {
+    if let Some(place) = first_bad(words) {
         return at(place, Wrong::Word);
     }
     let Some(name) = words.first() else {
@@ -384,6 +468,7 @@ pub fn slip_of(alloc: Global, words: &[String]) -> Result<Option<Slip>, NoMemory
         ↔ IsSome (command (map string_bytes words.now))) }
     ensures there { IfOk result (λ slip. IfSome slip
         (λ s. IfSome s.word (λ n. n < length words.now))) }
+    ensures reason { IfOk result (λ slip. IfSome slip (IsSlip (map string_bytes words.now))) }
 {
     match read_words(alloc, words)? {
         Some(_) => Ok(None),

@@ -7,6 +7,7 @@ ghost use Rattle.aoe_words.specs.Switching.{access_of, all_different, is_port_co
 ghost use Rattle.aoe_words.specs.Values.{up_to};
 
 use crate::PortKinds;
+use crate::bounds::Bounds;
 use crate::values::number_within;
 use aoe_vlan::{MAX_PORTS, MAX_VLANS, PortKind};
 use arrayvec::ArrayVec;
@@ -20,12 +21,18 @@ const FIRST_VID: u16 = 1;
 /// The number of the last VLAN.
 const LAST_VID: u16 = 4094;
 
+/// The numbers of VLANs.
+const VIDS: Bounds = Bounds {
+    least: FIRST_VID as u32,
+    most: LAST_VID as u32,
+};
+
 /// The number of a VLAN that a text spells.
 fn read_vid(text: &[u8]) -> Option<u16>
     ensures value { result ≡ vid_of text.now }
     ensures range { IfSome result (λ vid. is_vid vid ≡ true) }
 {
-    Some(number_within(text, u32::from(FIRST_VID), u32::from(LAST_VID))? as u16)
+    Some(number_within(text, VIDS)? as u16)
 }
 
 /// The numbers that the parts of a text spell, where they are 64 at most.

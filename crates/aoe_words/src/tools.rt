@@ -1,16 +1,17 @@
 //! What the arguments of the tools spell.
 ghost use Rattle.std.specs.Prelude.{◌≡◌, ◌≤◌, ◌<◌, ◌^◌, option_map, IfSome, IsSome};
 ghost use Rattle.clap.specs.Words.{found_of, rows_of};
-ghost use Rattle.aoe_words.specs.Tools.{CanAsk, CanGet, CanPut, IsDevice, asking_of, ccmd_alone, ccmd_with_text, cfg_of, device, flush_of, get_of, mask_of, put_of, rcmd_alone, rcmd_with_list, reserve_of, sector};
+ghost use Rattle.aoe_words.specs.Tools.{CanAsk, CanGet, CanPut, IsDevice, asking_of, ccmd_alone, ccmd_with_text, cfg_of, device, discover_of, flush_of, get_of, mask_of, put_of, rcmd_alone, rcmd_with_list, reserve_of, sector, stat_of};
 ghost use Rattle.aoe_words.specs.Values.{link};
 ghost use Rattle.aoe_words.specs.Words.{CanRun};
 
+use crate::bounds::{GET_SECTORS, LAST_SECTOR, TURNS};
 use crate::link::link;
 use crate::lists::{read_dirs, read_macs, read_text};
 use crate::values::{
-    NumberOption, TOOL_PORT, number, number_from, number_or, port_or_default, text, texts,
+    TOOL_PORT, is_set, number, number_from, number_or, port_or_default, text, texts,
 };
-use crate::{Asking, Cfg, Flush, Get, Mask, Put, Reserve, Tool};
+use crate::{Asking, Cfg, Discover, Flush, Get, Mask, Put, Reserve, Stat, Tool};
 use aoe_base::{TargetId, device_law, read_device};
 use arrayvec::ArrayVec;
 use clap::ArgMatches;
@@ -21,12 +22,6 @@ const TOOL_TURNS: u32 = 50;
 /// How many turns `flush`, `get` and `put` listen where nothing is said of it.
 const SECTOR_TURNS: u32 = 5000;
 
-/// The last sector that a command can name: it has 48 bits (AoEr11, "ATA command").
-const LAST_SECTOR: u64 = 0xffff_ffff_ffff;
-
-/// The most sectors that `get` reads.
-const MOST_SECTORS: u32 = 32768;
-
 /// Who asks, where the link is named; `turns` is how long where nothing is said of it.
 #[tactic(auto, unfolding(crate::specs::Tools::asking_of))]
 fn asking_of(found: &ArgMatches, turns: u32) -> Option<Asking>
@@ -36,14 +31,9 @@ fn asking_of(found: &ArgMatches, turns: u32) -> Option<Asking>
     ensures link { IfSome result (λ asking. IsSome (link (rows_of (found_of found.now)))) }
 {
     let _link = link(found)?;
-    let option = NumberOption {
-        least: 1,
-        most: 1_000_000,
-        default: turns,
-    };
     Some(Asking {
         port: port_or_default(found, "port", TOOL_PORT)?,
-        turns: number_or(found, "turns", &option)?,
+        turns: number_or(found, "turns", TURNS, turns)?,
     })
 }
 
@@ -56,13 +46,30 @@ fn device_of(found: &ArgMatches) -> Option<TargetId>
     read_device(text(found, "dev")?.as_bytes())
 }
 
-/// What a tool without words asks for.
-pub(crate) fn plain_of(found: &ArgMatches) -> Option<Asking>
-    ensures value { result ≡ asking_of 50 (rows_of (found_of found.now)) }
-    ensures range { IfSome result CanAsk }
-    ensures link { IfSome result (λ asking. IsSome (link (rows_of (found_of found.now)))) }
+/// What the arguments of `discover` ask for.
+#[tactic(auto, unfolding(crate::specs::Tools::discover_of))]
+pub(crate) fn discover_of(found: &ArgMatches) -> Option<Tool>
+    ensures value { result ≡ option_map Tool.Discover (discover_of (rows_of (found_of found.now))) }
+    ensures range { IfSome result CanRun }
+    ensures link { IfSome result (λ tool. IsSome (link (rows_of (found_of found.now)))) }
 {
-    asking_of(found, TOOL_TURNS)
+    Some(Tool::Discover(Discover {
+        asking: asking_of(found, TOOL_TURNS)?,
+        long: is_set(found, "long"),
+    }))
+}
+
+/// What the arguments of `stat` ask for.
+#[tactic(auto, unfolding(crate::specs::Tools::stat_of))]
+pub(crate) fn stat_of(found: &ArgMatches) -> Option<Tool>
+    ensures value { result ≡ option_map Tool.Stat (stat_of (rows_of (found_of found.now))) }
+    ensures range { IfSome result CanRun }
+    ensures link { IfSome result (λ tool. IsSome (link (rows_of (found_of found.now)))) }
+{
+    Some(Tool::Stat(Stat {
+        asking: asking_of(found, TOOL_TURNS)?,
+        sectors: is_set(found, "sectors"),
+    }))
 }
 
 /// The field CCmd of an action of `cfg` that has no text.
@@ -209,7 +216,7 @@ pub(crate) fn get_of(found: &ArgMatches) -> Option<Get>
         asking: asking_of(found, SECTOR_TURNS)?,
         id: device_of(found)?,
         at: sector(found)?,
-        count: number_from(found, "count", 1, MOST_SECTORS)?,
+        count: number_from(found, "count", GET_SECTORS)?,
     })
 }
 
@@ -224,5 +231,6 @@ pub(crate) fn put_of(found: &ArgMatches) -> Option<Put>
         asking: asking_of(found, SECTOR_TURNS)?,
         id: device_of(found)?,
         at: sector(found)?,
+        verify: is_set(found, "verify"),
     })
 }

@@ -3,9 +3,10 @@ ghost use Rattle.std.specs.Prelude.{◌≡◌, ◌≤◌, [], ◌∷◌, map, op
 ghost use Rattle.clap.specs.Words.{all_of, first_of, found_of, rows_of};
 ghost use Rattle.aoe_base.specs.Decimal.{number_of};
 ghost use Rattle.aoe_base.specs.Addresses.{is_individual};
-ghost use Rattle.aoe_words.specs.Values.{default_port, given, given_or, number_within, port_of, ports_of};
+ghost use Rattle.aoe_words.specs.Values.{default_port, given, given_or, is_set, number_within, port_of, ports_of};
 ghost use Rattle.aoe_words.specs.Words.{ArePorts};
 
+use crate::bounds::Bounds;
 use crate::ports::{read_port, read_ports};
 use aoe_base::{Mac, Ports, read_number};
 use clap::ArgMatches;
@@ -15,14 +16,6 @@ pub(crate) const DEFAULT_PORT: Mac = Mac([2, 0, 0, 0, 0, 1]);
 
 /// The address of a tool's port where none is given.
 pub(crate) const TOOL_PORT: Mac = Mac([2, 0, 0, 0, 0, 10]);
-
-/// The numbers that an option takes, and the one that stands where it isn't given.
-#[derive(Clone, Copy)]
-pub(crate) struct NumberOption {
-    pub(crate) least: u32,
-    pub(crate) most: u32,
-    pub(crate) default: u32,
-}
 
 /// The text of a word or an option.
 pub(crate) fn text<'a>(found: &ArgMatches<'a>, id: &str) -> Option<&'a str>
@@ -49,54 +42,63 @@ pub(crate) fn number(found: &ArgMatches, id: &str, most: u64) -> Option<u64>
     read_number(text(found, id)?.as_bytes(), most)
 }
 
-/// The number from `least` to `most` that a text spells.
-pub(crate) fn number_within(text: &[u8], least: u32, most: u32) -> Option<u32>
-    ensures value { result ≡ number_within least most text.now }
-    ensures bounds { IfSome result (λ n. (least ≤ n) × (n ≤ most)) }
+/// The number that a text spells, where it is one of these.
+pub(crate) fn number_within(text: &[u8], bounds: Bounds) -> Option<u32>
+    ensures value { result ≡ number_within bounds.least bounds.most text.now }
+    ensures bounds { IfSome result (λ n. (bounds.least ≤ n) × (n ≤ bounds.most)) }
 {
-    let number = read_number(text, u64::from(most))? as u32;
-    if number < least { None } else { Some(number) }
+    let number = read_number(text, u64::from(bounds.most))? as u32;
+    if number < bounds.least {
+        None
+    } else {
+        Some(number)
+    }
 }
 
-/// The number from `least` to `most` that a word spells.
-pub(crate) fn number_from(found: &ArgMatches, id: &str, least: u32, most: u32) -> Option<u32>
-    ensures value { result ≡ given id.now (number_within least most)
+/// The number that a word spells, where it is one of these.
+pub(crate) fn number_from(found: &ArgMatches, id: &str, bounds: Bounds) -> Option<u32>
+    ensures value { result ≡ given id.now (number_within bounds.least bounds.most)
         (rows_of (found_of found.now)) }
-    ensures bounds { IfSome result (λ n. (least ≤ n) × (n ≤ most)) }
+    ensures bounds { IfSome result (λ n. (bounds.least ≤ n) × (n ≤ bounds.most)) }
 {
-    number_within(text(found, id)?.as_bytes(), least, most)
+    number_within(text(found, id)?.as_bytes(), bounds)
 }
 
-/// The number of an option.
-pub(crate) fn number_or(found: &ArgMatches, id: &str, option: &NumberOption) -> Option<u32>
-    requires least { option.now.least ≤ option.now.default }
-    requires most { option.now.default ≤ option.now.most }
-    ensures value { result
-        ≡ given_or id.now (number_within option.now.least option.now.most) option.now.default
+/// The number of an option, or its default.
+pub(crate) fn number_or(found: &ArgMatches, id: &str, bounds: Bounds, default: u32) -> Option<u32>
+    requires least { bounds.least ≤ default }
+    requires most { default ≤ bounds.most }
+    ensures value { result ≡ given_or id.now (number_within bounds.least bounds.most) default
         (rows_of (found_of found.now)) }
-    ensures bounds { IfSome result (λ n. (option.now.least ≤ n) × (n ≤ option.now.most)) }
+    ensures bounds { IfSome result (λ n. (bounds.least ≤ n) × (n ≤ bounds.most)) }
 {
     match text(found, id) {
-        Some(text) => number_within(text.as_bytes(), option.least, option.most),
-        None => Some(option.default),
+        Some(text) => number_within(text.as_bytes(), bounds),
+        None => Some(default),
     }
 }
 
 /// The number of an option that needn't be given.
-pub(crate) fn number_if_given(
-    found: &ArgMatches,
-    id: &str,
-    least: u32,
-    most: u32,
-) -> Option<Option<u32>>
-    ensures value { result
-        ≡ given_or id.now (λ text. option_map Some (number_within least most text)) None
+pub(crate) fn number_if_given(found: &ArgMatches, id: &str, bounds: Bounds) -> Option<Option<u32>>
+    ensures value { result ≡ given_or id.now
+        (λ text. option_map Some (number_within bounds.least bounds.most text)) None
         (rows_of (found_of found.now)) }
-    ensures bounds { IfSome result (λ number. IfSome number (λ n. (least ≤ n) × (n ≤ most))) }
+    ensures bounds { IfSome result
+        (λ number. IfSome number (λ n. (bounds.least ≤ n) × (n ≤ bounds.most))) }
 {
     match text(found, id) {
-        Some(text) => Some(Some(number_within(text.as_bytes(), least, most)?)),
+        Some(text) => Some(Some(number_within(text.as_bytes(), bounds)?)),
         None => Some(None),
+    }
+}
+
+/// Whether an option without a value is given.
+pub(crate) fn is_set(found: &ArgMatches, id: &str) -> bool
+    ensures { result ≡ is_set id.now (rows_of (found_of found.now)) }
+{
+    match text(found, id) {
+        Some(text) => text == "true",
+        None => false,
     }
 }
 

@@ -7,7 +7,7 @@ ghost use Rattle.aoe_words.specs.Words.{attached, is_value, is_word};
 const LONGEST_WORD: usize = 4096;
 
 /// Whether a text can be the value of an option: it is nonempty and doesn't begin with a hyphen.
-fn is_value(text: &[u8]) -> bool
+pub(crate) fn is_value(text: &[u8]) -> bool
     ensures { result ≡ is_value text.now }
 {
     !text.is_empty() && text[0] != b'-'
@@ -32,7 +32,7 @@ fn option_text(word: &[u8]) -> Option<&[u8]>
 }
 
 /// What stands behind the first `=` of `--name=value`.
-fn attached(word: &[u8]) -> Option<&[u8]>
+pub(crate) fn attached(word: &[u8]) -> Option<&[u8]>
     ensures { option_map (λ value. value.now) result ≡ attached word.now }
 {
     let text = option_text(word)?;

@@ -12,7 +12,7 @@ use Rattle.aoe_sim_setup.specs.Stations.{HasHosts, HasShelves}
 use Rattle.aoe_sim_setup.proofs.LineLemmas.{same-self}
 use Rattle.aoe_sim_shelves.specs.Rack.{MemoryRack, Serves}
 use Rattle.aoe_script.specs.declared.setup.Setup.{Setup as Line}
-use Rattle.aoe_script.specs.declared.setup.Setup.TheVariants.{Life, Shelf, Slot, Host, Attach}
+use Rattle.aoe_script.specs.declared.setup.Setup.TheVariants.{Life, Shelf, Slot, Host, Attach, Readonly}
 use Rattle.aoe_script.specs.Lines.{IsScript, ScriptLines}
 use Rattle.aoe_world.proofs.BuildLists.{along-more, at-own, grown-none, grown-some}
 use Rattle.aoe_world.specs.Build.{IsBuilt}
@@ -41,10 +41,12 @@ module _ {lines : List Line} {n : ℕ} {line : Line} {sim : Sim} {places : List 
   }
 
   pub built-past : ((x : ℕ) × (y : Option ℕ) × (line ≡ Life x y)) ⊎ (((x : ArrayVec ℕ) × (y : ℕ) × (z : ℕ) × (w : Option ℕ) × (line ≡ Slot x y z w))
-      ⊎ ((x : ArrayVec ℕ) × (y : ArrayVec ℕ) × (z : ℕ) × (line ≡ Attach x y z))) → IsBuilt lines (n + 1) sim places
+      ⊎ (((x : ArrayVec ℕ) × (y : ArrayVec ℕ) × (z : ℕ) × (line ≡ Attach x y z)) ⊎ ((x : ArrayVec ℕ) × (y : ℕ) × (line ≡ Readonly x y))))
+      → IsBuilt lines (n + 1) sim places
   built-past (inl (x, y, e)) = built-on (rw e) (rw e) (rw e)
   built-past (inr (inl (x, y, z, w, e))) = built-on (rw e) (rw e) (rw e)
-  built-past (inr (inr (x, y, z, e))) = built-on (rw e) (rw e) (rw e)
+  built-past (inr (inr (inl (x, y, z, e)))) = built-on (rw e) (rw e) (rw e)
+  built-past (inr (inr (inr (x, y, e)))) = built-on (rw e) (rw e) (rw e)
 
   module _ {later : Sim} {there : List Place} (run : later.run ≡ sim.run) where
     pub built-shelf : {name : ArrayVec ℕ} {major : ℕ} {ports : ArrayVec Mac} {mtu : ℕ} {x : MemoryRack} → line ≡ Shelf name major ports mtu

@@ -45,6 +45,16 @@ struct SlotLine {
     room: Option<u64>,
 }
 
+/// A slot to be added to a shelf: the words of its line behind the name of the shelf, and whether a
+/// line marks it as read-only.
+#[derive(Clone, Copy)]
+struct NewSlot {
+    minor: u64,
+    sectors: u64,
+    room: Option<u64>,
+    read_only: bool,
+}
+
 /// The words of a host line.
 #[derive(Drop)]
 struct HostLine {
@@ -250,11 +260,11 @@ fn build_host(alloc: Global, script: &Script, line: HostLine) -> Result<NamedHos
     Ok(host)
 }
 
-/// What a line says of a slot of the shelf with a name.
-fn slot_in(line: &Setup, wanted: &Name) -> Option<SlotLine>
+/// What the lines of a script say of the slot of a line, where it is one of the shelf with a name.
+fn slot_in(script: &Script, line: &Setup, wanted: &Name) -> Option<NewSlot>
     ensures line { IfSome result (λ x. line.now ≡ Setup.Slot wanted.now x.minor x.sectors x.room) }
-    ensures slot { (major : ℕ) (ports : List Mac) (mtu : ℕ) → slot_of_shelf wanted.now major ports mtu line.now
-        ≡ option_map (λ x. slot_with major ports mtu x.minor x.sectors x.room) result }
+    ensures slot { (major : ℕ) (ports : List Mac) (mtu : ℕ) → slot_of_shelf script.now.setups wanted.now major ports mtu line.now
+        ≡ option_map (λ x. slot_with major ports mtu x.minor x.sectors x.room x.read_only) result }
 {
     match line {
         Setup::Slot {
@@ -264,10 +274,11 @@ fn slot_in(line: &Setup, wanted: &Name) -> Option<SlotLine>
             room,
         } => {
             if same(shelf, wanted) {
-                Some(SlotLine {
+                Some(NewSlot {
                     minor: *minor,
                     sectors: *sectors,
                     room: *room,
+                    read_only: script.is_read_only(wanted, *minor),
                 })
             } else {
                 None
@@ -289,17 +300,20 @@ fn small_room(room: Option<u64>) -> Option<u32>
 }
 
 /// Adds a slot to a shelf, where there is one.
-fn add_slot(shelf: &mut MemoryRack, alloc: Global, slot: Option<SlotLine>) -> Result<(), NoMemory>
+fn add_slot(shelf: &mut MemoryRack, alloc: Global, slot: Option<NewSlot>) -> Result<(), NoMemory>
     requires can { IfSome slot (λ x. CanAdd x.minor x.sectors x.room shelf.old) }
     ensures serves { OnOk result ((slots : List SlotSetup) → Serves slots [] shelf.old → Serves (slots
-        ++ option_to_list (option_map (λ x. slot_with shelf.old.shelf.major shelf.old.shelf.ports shelf.old.shelf.mtu x.minor x.sectors x.room) slot)) [] shelf.new) }
+        ++ option_to_list (option_map (λ x. slot_with shelf.old.shelf.major shelf.old.shelf.ports shelf.old.shelf.mtu x.minor x.sectors x.room x.read_only) slot)) [] shelf.new) }
     ensures stations { OnOk result (map (λ t. t.station) shelf.new.shelf.targets ≡ map (λ t. t.station) shelf.old.shelf.targets
-        ++ map (λ s. s.station) (option_to_list (option_map (λ x. slot_with shelf.old.shelf.major shelf.old.shelf.ports shelf.old.shelf.mtu x.minor x.sectors x.room) slot))) }
+        ++ map (λ s. s.station) (option_to_list (option_map (λ x. slot_with shelf.old.shelf.major shelf.old.shelf.ports shelf.old.shelf.mtu x.minor x.sectors x.room x.read_only) slot))) }
     ensures rest { OnOk result (shelf.new.shelf
         ≡ record shelf.old.shelf { targets = shelf.new.shelf.targets }) }
 {
     match slot {
-        Some(x) => shelf.add(alloc, x.minor as u8, x.sectors, small_room(x.room)),
+        Some(x) => {
+            let room = small_room(x.room);
+            shelf.add(alloc, x.minor as u8, x.sectors, room, x.read_only)
+        }
         None => Ok(()),
     }
 }
@@ -321,7 +335,7 @@ fn build_shelf(
     let ports = copy_of(&line.ports);
     let mut shelf = MemoryRack::new(alloc, line.major as u16, ports, line.mtu as u32)?;
     'lines: for i in 0..count {
-        add_slot(&mut shelf, alloc, slot_in(script.setup(i), name))?;
+        add_slot(&mut shelf, alloc, slot_in(script, script.setup(i), name))?;
     }
     Ok(shelf)
 }
@@ -420,7 +434,10 @@ impl Builder<'_> {
                 let host = build_host(alloc, script, line)?;
                 self.add_host(name, ports, host)
             }
-            Setup::Life { .. } | Setup::Slot { .. } | Setup::Attach { .. } => Ok(()),
+            Setup::Life { .. }
+            | Setup::Slot { .. }
+            | Setup::Attach { .. }
+            | Setup::Readonly { .. } => Ok(()),
         }
     }
 }

@@ -47,6 +47,19 @@ fn reads_serve(rt: HostRuntime) -> Result<(), Fail> {
 }
 
 #[test]
+fn reads_audit(rt: HostRuntime) -> Result<(), Fail> {
+    let cases = [
+        ("audit 1 0 16 keep", audit(1, 0, &[mac(1)], 1500, 16)),
+        (
+            "audit 65534 254 1099511627776 k --mtu 9000 --ports 02:00:00:00:00:ff,02:00:00:00:00:01",
+            audit(65534, 254, &[mac(255), mac(1)], 9000, 1099511627776),
+        ),
+        ("audit 0 0 0 k", audit(0, 0, &[mac(1)], 1500, 0)),
+    ];
+    reads(&rt, rt.alloc(), "", &cases)
+}
+
+#[test]
 fn reads_replay_live_and_soak(rt: HostRuntime) -> Result<(), Fail> {
     let cases = [
         ("replay", Command::Replay),
@@ -82,11 +95,13 @@ fn reads_discover_and_stat(rt: HostRuntime) -> Result<(), Fail> {
         turns: 1_000_000,
     };
     let cases = [
-        ("discover", Command::Ask(Tool::Discover(asking()))),
+        ("discover", discover(asking(), false)),
+        ("discover --long", discover(asking(), true)),
         (
             "stat --turns=1000000 --port 02:00:00:00:00:ff",
-            Command::Ask(Tool::Stat(other)),
+            stat(other, false),
         ),
+        ("stat --sectors", stat(asking(), true)),
     ];
     reads(&rt, rt.alloc(), ENDS, &cases)
 }
@@ -141,7 +156,8 @@ fn reads_flush_get_and_put(rt: HostRuntime) -> Result<(), Fail> {
             "get e1.2 281474976710655 32768 --turns 1",
             get(281474976710655, 32768, 1),
         ),
-        ("put e1.2 7", put(7, 5000)),
+        ("put e1.2 7", put(7, 5000, false)),
+        ("put e1.2 --verify 7 --turns=1", put(7, 1, true)),
     ];
     reads(&rt, rt.alloc(), ENDS, &cases)
 }

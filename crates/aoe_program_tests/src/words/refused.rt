@@ -91,6 +91,23 @@ fn refuses_links_files_and_numbers_of_serve(rt: HostRuntime) -> Result<(), Fail>
 }
 
 #[test]
+fn refuses_words_of_audit(rt: HostRuntime) -> Result<(), Fail> {
+    let lines = [
+        "audit 1 0 16",
+        "audit 1 0 keep",
+        "audit 1 0 16 keep keep",
+        "audit 65535 0 16 keep",
+        "audit 1 255 16 keep",
+        "audit 1 0 1099511627777 keep",
+        "audit 1 0 16 keep --mtu 1499",
+        "audit 1 0 16 keep --port 02:00:00:00:00:01",
+        "audit 1 0 16 keep --ports 03:00:00:00:00:01",
+        "audit 1 0 16 keep --tap t",
+    ];
+    refuses(&rt, rt.alloc(), "", &lines)
+}
+
+#[test]
 fn refuses_no_words(rt: HostRuntime) -> Result<(), Fail> {
     let read = read_words(rt.alloc(), &[])?;
     assert!(rt; read.is_none());

@@ -92,6 +92,16 @@ pub(crate) fn shelf_of_two(alloc: Global) -> Result<MemShelf, Fail> {
     }
 }
 
+/// The shelf 1 with the target 1.0, which writes through.
+pub(crate) fn shelf_of_one(alloc: Global) -> Result<MemShelf, Fail> {
+    let mut shelf = empty_shelf(alloc)?;
+    if adds(alloc, &mut shelf, 0, direct(alloc)) {
+        Ok(shelf)
+    } else {
+        Err(Fail::from("not added"))
+    }
+}
+
 /// Whether both slots have the string, and there are two.
 fn are_set(shelf: &MemShelf) -> bool {
     for slot in 0..shelf.count() {

@@ -73,6 +73,10 @@ pub returns-in-Ok-Some-clause-keeps : goal.returns-in-Ok-Some-clause-keeps
 returns-in-Ok-Some-clause-keeps g c action is =
     inr (c.run_command.ensures.keeps action (same-command _ _ _ _ c.in-Ok-Some.field-0-is c.in-Ok-Some.ensures.command is))
 
+pub returns-in-Ok-Some-clause-audits : goal.returns-in-Ok-Some-clause-audits
+returns-in-Ok-Some-clause-audits g c asked is =
+    inr (c.run_command.ensures.audits asked (same-command _ _ _ _ c.in-Ok-Some.field-0-is c.in-Ok-Some.ensures.command is))
+
 pub returns-in-Ok-Some-clause-file_fault : goal.returns-in-Ok-Some-clause-file_fault
 returns-in-Ok-Some-clause-file_fault g c exported slot e = file-fault _ _ _ _ _ _ _ _ c.run_command.ensures.run c.run_command.ensures.refused
     (c.requires.count ∙ counted _ _ _ c.in-Ok-Some.field-0-is c.in-Ok-Some.ensures.files) (paired _ _ _ c.in-Ok-Some.field-0-is c.in-Ok-Some.ensures.command exported) slot e

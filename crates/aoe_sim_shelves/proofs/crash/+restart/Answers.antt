@@ -52,4 +52,4 @@ returns-clause-restarts t c =
     restart_last r k.1 c.seat.ensures c.restart.ensures.restarts
     (seated_again c.args.shelf.now r c.id-minor.result.minor c.reopen.result c.lose.result c.mount-keep.result
     (last_target c.args.shelf.now front k.0 k.1 c.requires) (rw c.in-Some-take_last.ensures.rest at c.restart.ensures.rest) (ap (λ z. z.minor) name)
-    (rw store at c.reopen.ensures) (rw disk at c.lose.ensures) c.mount-keep.ensures)
+    (rw store at c.reopen.ensures) (rw disk at c.lose.ensures) c.mount-keep.ensures.mounted)

@@ -1,13 +1,20 @@
-use Rattle.std.proofs.Common.{◌∙◌, arith, refl}
+use Rattle.std.proofs.Common.{◌∙◌, ap, arith, refl}
+use Rattle.aoe_tools.proofs.AskLemmas.{behind}
 use Rattle.aoe_tools.proofs.DiscoverLemmas.{begun, ends, fails, forgets, goes-on}
+use Rattle.aoe_tools.specs.One.{args_of}
 use Rattle.aoe_tools.proofs.finding.find_all.Goals as goal
+
+pub args_of-args-requires : goal.args_of-args-requires
+args_of-args-requires g c = rw (behind c.deref.ensures.0) (rw c.in-Ok-Some.field-0-is at c.in-Ok-Some.ensures.here).1
 
 pub responses-init : goal.responses-init
 responses-init g c = (rw c.new-found.ensures begun, omega arith, refl)
 
 pub responses-preserved : goal.responses-preserved
 responses-preserved g c = (
-  goes-on c.responses.invariant.0 c.in-Ok.ensures.noted (rw c.in-Ok-Some.field-0-is at c.in-Ok-Some.ensures.listens),
+  goes-on c.responses.invariant.0
+      (rw (c.args_of-args.ensures ∙ ap (λ l. args_of (record { reply = c.in-Ok-Some.reply; args = l })) (behind c.deref.ensures.0)) at c.in-Ok.ensures.noted)
+      (rw c.in-Ok-Some.field-0-is at c.in-Ok-Some.ensures.listens),
   c.listen.ensures.within,
   c.in-Ok-Some.ensures.link.no_fault (λ e. absurd cc) ∙ c.responses.invariant.2,
 )

@@ -8,3 +8,6 @@ returns-in-Slot c = rw c.in-Slot.is c.slot_why.ensures
 
 pub returns-in-Attach : goal.returns-in-Attach
 returns-in-Attach c = rw c.in-Attach.is c.attach_why.ensures
+
+pub returns-in-Readonly : goal.returns-in-Readonly
+returns-in-Readonly c = rw c.in-Readonly.is c.readonly_why.ensures

@@ -1,14 +1,10 @@
 use Rattle.std.proofs.Common.{suc, ap, arith}
-use Rattle.aoe_lists.specs.Settings.{empty_settings}
 use Rattle.aoe_cache.specs.Any.{over}
 use Rattle.aoe_sim_shelves.specs.Rack.{MemoryRack}
 use Rattle.aoe_sim_shelves.proofs.FrontLemmas.{length_last, more_minors, more_targets}
-use Rattle.aoe_sim_shelves.proofs.SeatLemmas.{new_serves, new_station, not_refused, seated_target, zeros_found, zeros_sectors, IsNew}
+use Rattle.aoe_sim_shelves.proofs.SeatLemmas.{new_serves, new_station, not_refused, seated_target, IsNew}
 use Rattle.aoe_sim_shelves.proofs.Words.{Shelf}
 use Rattle.aoe_sim_shelves.proofs.rack.MemoryRack.add.Goals as goal
-
-pub mount-requires-clause-lists : goal.mount-requires-clause-lists
-mount-requires-clause-lists c = (empty_settings, rw c.in-Ok-Ok.ensures' (zeros_found 8192))
 
 pub seat-requires-clause-taken : goal.seat-requires-clause-taken
 seat-requires-clause-taken c = not_refused _ _ (rw (← c.self.view_is) at c.requires.room) (rw (← c.self.view_is) at c.requires.repeats)
@@ -17,8 +13,7 @@ pub invariant_of-self : goal.invariant_of-self
 invariant_of-self c =
     let shelf = c.self.inside.shelf in
     let seats = rw c.in-Ok.ensures.store at c.seat.ensures in
-    let one = seated_target shelf.major shelf.ports shelf.mtu c.args.minor (over c.args.room c.in-Ok-Ok.store) c.in-Ok-Ok.keep c.mount.result c.requires.minor
-    (omega (arith, zeros_sectors 16 c.in-Ok-Ok.keep c.in-Ok-Ok.ensures')) c.mount.ensures in
+    let one = seated_target shelf.major shelf.ports shelf.mtu c.args.minor (over c.args.room c.in-Ok-Ok.store) c.requires.minor c.in-Ok-Ok.ensures' in
     record {
       number = rw seats c.self.invariant.number;
       count = rw (c.push.ensures.items, length_last c.self.inside.stops.items c.none.result, seats, length_last) (ap suc c.self.invariant.count);
@@ -30,8 +25,7 @@ returns-clause-serves c slots k =
     let shelf = c.self.inside.shelf in
     let x : MemoryRack = record { shelf = shelf; stops = c.self.inside.stops.items } in
     let seats = rw c.in-Ok.ensures.store at c.seat.ensures in
-    let new : IsNew c.args.sectors 8192 c.in-Ok-Ok.store c.in-Ok-Ok.keep c.mount.result =
-    record { zeros = c.in-Ok-Ok.ensures; lists = c.in-Ok-Ok.ensures'; mounted = c.mount.ensures } in
+    let new : IsNew c.args.sectors c.args.read_only c.in-Ok-Ok.store c.in-Ok-Ok.keep = record { zeros = c.in-Ok-Ok.ensures; keep_is = c.in-Ok-Ok.ensures' } in
     rw (← c.self.view_is) (new_serves shelf.major shelf.ports shelf.mtu c.args.minor c.args.room new {x = x} (ap (λ (z : Shelf). z.targets) seats)
     (rw c.none.ensures at c.push.ensures.items) (rw (← c.self.view_is) at k))
 
@@ -39,8 +33,7 @@ pub returns-clause-added : goal.returns-clause-added
 returns-clause-added c =
     let shelf = c.self.inside.shelf in
     let seats = rw c.in-Ok.ensures.store at c.seat.ensures in
-    let new : IsNew c.args.sectors 8192 c.in-Ok-Ok.store c.in-Ok-Ok.keep c.mount.result =
-    record { zeros = c.in-Ok-Ok.ensures; lists = c.in-Ok-Ok.ensures'; mounted = c.mount.ensures } in
+    let new : IsNew c.args.sectors c.args.read_only c.in-Ok-Ok.store c.in-Ok-Ok.keep = record { zeros = c.in-Ok-Ok.ensures; keep_is = c.in-Ok-Ok.ensures' } in
     rw (← c.self.view_is, seats) (new_station shelf.major shelf.ports shelf.mtu c.args.minor c.args.room new shelf.targets)
 
 pub returns-clause-count : goal.returns-clause-count

@@ -37,5 +37,5 @@ loop-preserved g c =
 
 pub returns-clause-some : goal.returns-clause-some
 returns-clause-some g c =
-    let full : c.loop.counter ≡ 32769 = omega (arith, c.loop-test.false, c.loop.auto.counter-end) in
+    let full : c.loop.counter ≡ 65537 = omega (arith, c.loop-test.false, c.loop.auto.counter-end) in
     sends-full c.requires (rw full at c.loop.invariant.sending)

@@ -10,7 +10,7 @@ exchange-requires g c =
     record { gives_up = a.gives_up; clock_is = a.clock; same = a.same; last = a.last; tag = a.no_tag } in
     record {
       fit = fit-turn adv c.take_all.ensures.host c.args.turns c.args.self.now.course _ c.advance.new.self.waiting
-          (record { attached = c.requires.attached; few = c.requires.few; tickets = c.requires.tickets })
+          (record { attached = c.requires.attached; few = c.requires.few; tickets = c.requires.tickets; behind = c.requires.behind })
           c.in-None.ensures.course c.ticket_law.ensures.taken;
       waiting = c.in-None.ensures.all;
     }

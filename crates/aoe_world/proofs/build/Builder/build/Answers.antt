@@ -21,3 +21,6 @@ returns-in-Life-2-clause-built c = built-past c.setup.ensures.setup c.requires.b
 
 pub returns-in-Life-3-clause-built : goal.returns-in-Life-3-clause-built
 returns-in-Life-3-clause-built c = built-past c.setup.ensures.setup c.requires.built c.in-Life.is
+
+pub returns-in-Life-4-clause-built : goal.returns-in-Life-4-clause-built
+returns-in-Life-4-clause-built c = built-past c.setup.ensures.setup c.requires.built c.in-Life.is

@@ -1,0 +1,6 @@
+mod EndLemmas
+mod ReplyFields
+mod Alike
+mod Beginnings
+mod Explaining
+mod Passing

@@ -1,0 +1,3 @@
+pub mod Records
+pub mod Ends
+pub mod Capturing
