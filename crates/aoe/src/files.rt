@@ -283,7 +283,9 @@ impl Disk for FileDisk {
         self.sectors
     }
 
-    #[inline(always)]
+    /// In a function of its own: the stores over it are inlined where they are called, and this is the
+    /// call that each of them comes to.
+    #[inline(never)]
     fn read(&mut self, at: u64, out: &mut [u8]) -> Result<(), Failed>
         requires { IsRange at (length out.old) self.old.sectors }
         ensures sectors { self.new.sectors ≡ self.old.sectors }
@@ -303,7 +305,7 @@ impl Disk for FileDisk {
         }
     }
 
-    #[inline(always)]
+    #[inline(never)]
     fn write(&mut self, at: u64, piece: &[u8]) -> Result<(), Failed>
         requires { IsRange at (length piece.now) self.old.sectors }
         ensures sectors { self.new.sectors ≡ self.old.sectors }

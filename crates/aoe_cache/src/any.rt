@@ -66,6 +66,7 @@ impl<D: Disk> Store for AnyStore<D> {
         }
     }
 
+    #[inline(always)]
     fn read(&mut self, at: u64, out: &mut [u8]) -> Result<(), Failed>
         requires { IsRange at (length out.old) (any_state D.state self.old).sectors }
         ensures reads { Reads at (length out.old) result out.new
@@ -82,6 +83,7 @@ impl<D: Disk> Store for AnyStore<D> {
         }
     }
 
+    #[inline(always)]
     fn write(&mut self, at: u64, piece: &[u8]) -> Result<(), Failed>
         requires { IsRange at (length piece.now) (any_state D.state self.old).sectors }
         ensures stores { StoresTo at piece.now result (any_state D.state self.old)

@@ -88,6 +88,7 @@ pub fn fill_from<S: Source>(source: &mut S, out: &mut [u8]) -> Result<usize, Fai
 }
 
 /// Takes the length of the next frame, or `None` where the input ends before it.
+#[inline(always)]
 fn read_length<S: Source>(source: &mut S, offset: u64) -> Result<Option<usize>, StreamRefusal>
     ensures length { IfOk result (λ came. IfSome came IsLength) }
     ensures gave { IfOk result (λ came. IfSome came
@@ -121,6 +122,7 @@ fn read_length<S: Source>(source: &mut S, offset: u64) -> Result<Option<usize>, 
 
 /// Makes `out` the next `count` bytes of the source: false where the input ends before, and then `out`
 /// may hold any bytes, as after a failure.
+#[inline(always)]
 pub fn fill_frame<S: Source>(source: &mut S, count: usize, out: &mut Frame) -> Result<bool, Failed>
     requires some { 0 < count }
     requires room { count ≤ 9018 }
@@ -142,6 +144,7 @@ pub fn fill_frame<S: Source>(source: &mut S, count: usize, out: &mut Frame) -> R
 
 /// Makes `out` the next frame of a stream of which `offset` bytes were taken. After a refusal what
 /// was taken stays taken, and `out` may hold any bytes.
+#[inline(always)]
 pub fn next_frame<S: Source>(
     source: &mut S,
     offset: u64,
@@ -241,6 +244,7 @@ fn give_short<K: Sink>(sink: &mut K, frame: &[u8]) -> Result<(), Failed>
 
 /// Writes a frame on the stream. The length of a short frame goes out together with it, and that of
 /// a long one in front of it, so that no byte of it is copied.
+#[inline(always)]
 pub fn give_frame<K: Sink>(sink: &mut K, frame: &[u8]) -> Result<(), Failed>
     requires { length frame.now ≤ 9018 }
     ensures all { OnOk result (Took (K.held sink.old) (K.held sink.new) (framed frame.now)) }

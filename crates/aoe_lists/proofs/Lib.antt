@@ -4,3 +4,4 @@ pub mod ChangeLemmas
 mod EditLemmas
 mod PieceLemmas
 mod ReadLemmas
+mod SortedLemmas

@@ -1,5 +1,5 @@
 -- What a device keeps for its hosts, as contracts see it.
-use Rattle.std.specs.Prelude.{ℕ, Bool, false, ◌||◌, ◌&&◌, ◌==◌, List, [], length}
+use Rattle.std.specs.Prelude.{ℕ, Bool, false, ◌||◌, ◌&&◌, ◌==◌, ◌≡◌, List, [], length}
 use Rattle.std.proofs.Math.Bool.{beq}
 use Rattle.std.specs.Str.{bytes_eq}
 use Rattle.std.specs.Cmp.Lexicographic.{pointwise}
@@ -33,6 +33,10 @@ empty_settings = record { config = []; masks = []; reserves = []; read_only = fa
 -- a list that lets in whom it names, and everyone where it names nobody
 abbrev pub is_open_to : List Mac → Mac → Bool
 is_open_to list a = length list == 0 || holds list a
+
+-- both lists let in the same stations
+abbrev pub LetInTheSame : List Mac → List Mac → Type 0
+LetInTheSame one other = (a : Mac) → is_open_to one a ≡ is_open_to other a
 
 -- the station is answered
 abbrev pub admits : Settings → Mac → Bool

@@ -16,6 +16,7 @@ mod dir;
 mod lists;
 mod masks;
 mod reserves;
+mod sorted;
 
 pub use answer::Answer;
 pub use args::{Args, MAX_ARGS};
@@ -27,3 +28,4 @@ pub use lists::{
 };
 pub use masks::{Directive, MaskCommand, MaskError, mask_step};
 pub use reserves::{ReserveCommand, reserve_step, reserves_are_the_given_stations};
+pub use sorted::SortedList;

@@ -49,10 +49,12 @@ impl<D: Disk> Store for Direct<D> {
         self.disk.sectors()
     }
 
+    #[inline(always)]
     fn read(&mut self, at: u64, out: &mut [u8]) -> Result<(), Failed> {
         self.disk.read(at, out)
     }
 
+    #[inline(always)]
     fn write(&mut self, at: u64, piece: &[u8]) -> Result<(), Failed>
         requires { IsRange at (length piece.now) (D.state self.old).sectors }
         ensures stores { StoresTo at piece.now result (D.state self.old) (D.state self.new) }

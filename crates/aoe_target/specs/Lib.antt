@@ -1,3 +1,4 @@
+pub mod Admission
 pub mod Verdict
 pub mod Reply
 pub mod Front

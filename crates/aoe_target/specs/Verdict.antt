@@ -1,5 +1,5 @@
 -- What a target does with a frame: the first check that applies decides (AoEr11, "Common AoE header" and the four commands).
-use Rattle.std.specs.Prelude.{ℕ, ◌^◌, ◌<◌, Bool, true, ◌&&◌, ◌||◌, ◌==◌, not, List, drop, nat_lt, Option, Some, None, Result, Ok, Err, if◌then◌else◌, is_some}
+use Rattle.std.specs.Prelude.{ℕ, ◌^◌, ◌<◌, Bool, ◌&&◌, ◌||◌, ◌==◌, not, List, drop, nat_lt, Option, Some, None, Result, Ok, Err, if◌then◌else◌, is_some}
 use Rattle.aoe_base.specs.declared.address.Mac.{Mac}
 use Rattle.aoe_frame.specs.Header.{head, fields}
 use Rattle.aoe_frame.specs.declared.header.Header.{Header}
@@ -31,12 +31,17 @@ is_heard station h = (holds station.ports.items h.dst || same_address h.dst broa
 
 -- a write within a read-only device is aborted (ATA/ATAPI Command Set, "WRITE SECTOR(S)": ABRT); all else is done there as elsewhere
 abbrev pub as_marked : Bool → AtaAnswer → AtaAnswer
-as_marked true (Put span) = Abort
+as_marked read_only (Put span) = if read_only then Abort else Put span
 as_marked read_only answer = answer
+
+-- what is done with a frame, by a device that may be read-only
+abbrev pub marked : Bool → Verdict → Verdict
+marked read_only (Ata d) = Ata (record d { answer = as_marked read_only d.answer })
+marked read_only v = v
 
 -- the registers are taken, or there is an error
 abbrev pub decided : Bool → Result AtaDecision AoeError → Verdict
-decided read_only (Ok d) = Ata (record d { answer = as_marked read_only d.answer })
+decided read_only (Ok d) = marked read_only (Ata d)
 decided read_only (Err error) = Refused error
 
 -- an ATA command: its source may be kept out by the reserve list, before its arguments are looked at

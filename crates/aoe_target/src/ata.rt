@@ -17,6 +17,7 @@ ghost use Rattle.aoe_target.specs.Receive.{Leaves, TurnsUnder, ata_calls, calls_
 ghost use Rattle.aoe_target.specs.Mounted.{FitsStore};
 ghost use Rattle.aoe_target.specs.Told.{Names};
 ghost use Rattle.aoe_target.specs.Lasting.{LeavesFirm};
+ghost use Rattle.aoe_target.specs.Verdict.{as_marked};
 
 use crate::reply::{DATA_AT, put_front, reply_apart, reply_ata, reply_page};
 use crate::verdict::args_of;
@@ -204,8 +205,8 @@ fn sync<S: Store>(
     }
 }
 
-/// Does what is decided on an ATA command, and makes `out` its reply. The sectors of a write are put
-/// into `wrote`.
+/// Does what is decided on an ATA command, and makes `out` its reply. A read-only device aborts a write.
+/// The sectors of a write are put into `wrote`.
 #[inline(always)]
 pub(crate) fn serve<S: Store>(
     store: &mut S,
@@ -213,6 +214,7 @@ pub(crate) fn serve<S: Store>(
     header: &HeaderView<'_>,
     frame: &[u8],
     decision: AtaDecision,
+    read_only: bool,
     wrote: &mut Span,
     out: &mut Frame,
 ) -> Effect
@@ -221,16 +223,16 @@ pub(crate) fn serve<S: Store>(
         (drop 24 frame.now) decision.answer }
     requires len { 24 ≤ length frame.now }
     ensures allowed { AllowsAta station.now (option_map sectors_of (S.state store.old).contents) header.now
-        decision.args decision.answer (replied result out.new.items) }
-    ensures leaves { Leaves frame.now decision.answer result out.new.items
+        decision.args (as_marked read_only decision.answer) (replied result out.new.items) }
+    ensures leaves { Leaves frame.now (as_marked read_only decision.answer) result out.new.items
         (S.state store.old).contents (S.state store.new).contents }
-    ensures call { OnTrue (calls_for decision.answer)
+    ensures call { OnTrue (calls_for (as_marked read_only decision.answer))
         (IsRun 1 (is_fault result) (S.state store.old) (S.state store.new)) }
-    ensures log { Logs (ata_calls frame.now decision.answer) (S.state store.old)
+    ensures log { Logs (ata_calls frame.now (as_marked read_only decision.answer)) (S.state store.old)
         (S.state store.new) }
-    ensures under { TurnsUnder decision.answer (is_fault result) (S.state store.old).contents
+    ensures under { TurnsUnder (as_marked read_only decision.answer) (is_fault result) (S.state store.old).contents
         (S.under store.old) (S.under store.new) }
-    ensures idle { calls_for decision.answer ≡ false → store.new ≡ store.old }
+    ensures idle { calls_for (as_marked read_only decision.answer) ≡ false → store.new ≡ store.old }
     ensures fault { is_fault result ≡ true → Rose (S.state store.old).faults
         (S.state store.new).faults }
     ensures firm { S.lasts ≡ true → LeavesFirm result (S.state store.new).contents }
@@ -252,6 +254,10 @@ pub(crate) fn serve<S: Store>(
         }
         AtaAnswer::Mode => {
             reply_apart(station, header, args, AtaOutcome::Active, out);
+            Effect::None
+        }
+        AtaAnswer::Put(_) if read_only => {
+            reply_apart(station, header, args, AtaOutcome::Aborted, out);
             Effect::None
         }
         AtaAnswer::Give(span) => give(store, station, header, args, span, out),

@@ -10,7 +10,7 @@ ghost use Rattle.aoe_target.specs.Device.{State};
 ghost use Rattle.aoe_target.specs.Front.{data_front};
 ghost use Rattle.aoe_target.specs.Law.{Allows, replied, step_of};
 ghost use Rattle.aoe_target.specs.Reply.{ata_reply, data_reply, identity, repeated, spelled, step_reply};
-ghost use Rattle.aoe_target.specs.Verdict.{CanAct, verdict};
+ghost use Rattle.aoe_target.specs.Verdict.{CanAct, marked, verdict};
 ghost use Rattle.aoe_target.specs.declared.heard.Effect.{Effect};
 ghost use Rattle.aoe_target.specs.declared.station.Station.{Station as AnyStation};
 ghost use Rattle.aoe_target.specs.declared.verdict.Verdict.{Verdict as AnyVerdict};
@@ -18,7 +18,7 @@ ghost use Rattle.aoe_target.specs.declared.verdict.Verdict.{Verdict as AnyVerdic
 pub use crate::scratch::Scratch;
 use crate::verdict::{args_of, header_of, judge, step};
 use crate::{ListCommand, Station, Verdict, reply};
-use aoe_ata::{AtaArgs, AtaOutcome};
+use aoe_ata::{AtaAnswer, AtaArgs, AtaDecision, AtaOutcome};
 use aoe_base::AoeError;
 use aoe_frame::{Frame, HeaderView, stretch};
 use aoe_lists::{Answer, Lists};
@@ -31,8 +31,29 @@ pub fn verdict_on(station: &Station, lists: &Lists, frame: &[u8]) -> Verdict
     ensures heard { result ≢ Verdict.Ignored → is_some (head frame.now) ≡ true }
 {
     match header_of(frame) {
-        Some(header) => judge(station, lists, &header, args_of(frame)),
+        Some(header) => {
+            let verdict = judge(station, lists, None, &header, args_of(frame));
+            with_mark(lists.read_only, verdict)
+        }
         None => Verdict::Ignored,
+    }
+}
+
+/// What is done with a frame by a device that may be read-only, which aborts a write within it.
+fn with_mark(read_only: bool, verdict: Verdict) -> Verdict
+    ensures { result ≡ marked read_only verdict }
+{
+    match verdict {
+        Verdict::Ata(
+            AtaDecision {
+                args,
+                answer: AtaAnswer::Put(_),
+            },
+        ) if read_only => Verdict::Ata(AtaDecision {
+            args,
+            answer: AtaAnswer::Abort,
+        }),
+        _ => verdict,
     }
 }
 

@@ -17,6 +17,7 @@
 //! `sync`.
 #![tactic(auto)]
 
+mod admission;
 mod ata;
 mod heard;
 pub mod judging;

@@ -8,9 +8,11 @@ ghost use Rattle.aoe_keep.specs.Found.{AlwaysFinds, FindsOffered};
 ghost use Rattle.aoe_keep.specs.Keep.{KeepsOthers};
 ghost use Rattle.aoe_frame.specs.Header.{fields};
 ghost use Rattle.aoe_lists.specs.Step.{reply_of};
+ghost use Rattle.aoe_target.specs.Admission.{AdmitsAs};
 ghost use Rattle.aoe_target.specs.Law.{AllowsStep, step_of};
 ghost use Rattle.aoe_target.specs.Receive.{fate_of, is_change, is_faulty, is_unkept, KeepsStep, Replaces};
 
+use crate::admission::Admission;
 use crate::ata::serve;
 use crate::heard::{Told, heard_of, tell_of};
 use crate::reply::{refuse, reply, reply_step};
@@ -34,25 +36,36 @@ pub struct Target<S: Store, D: Disk> {
     keep: Keep<D>,
     store: S,
 
+    /// Whom the lists of the keep let in.
+    admission: Admission,
+
     /// What the last request to the lists wrote, kept so that the next needs no new room.
     scratch: Scratch,
 }
 
 impl<S: Store, D: Disk> Model for Target<S, D> {
+    ghost use Rattle.aoe_target.specs.Admission.{AdmitsAs};
     ghost use Rattle.aoe_target.specs.Mounted.{Mounted, FitsStore};
 
     ghost Value = { Mounted S D };
 
     ghost view = { λ t. record { station = t.station; keep = t.keep; store = t.store } };
 
-    ghost invariant = { λ t. FitsStore t.station (S.state t.store) };
+    ghost invariant = { λ t. FitsStore t.station (S.state t.store)
+        × AdmitsAs t.admission t.keep.lists };
 }
 
 /// Makes `next` the lists of the keep. It stands apart, so that other requests don't make room for
 /// its pages.
 #[cold]
 #[inline(never)]
-fn replace<D: Disk>(keep: &mut Keep<D>, next: &Lists) -> Result<(), Failed>
+fn replace<D: Disk>(
+    keep: &mut Keep<D>,
+    admission: &mut Admission,
+    next: &Lists,
+) -> Result<(), Failed>
+    ensures admits { OnOk result (AdmitsAs admission.new next.now) }
+    ensures admits_as { OnErr result (admission.new ≡ admission.old) }
     ensures lists { OnOk result (keep.new.lists ≡ next.now) }
     ensures finds { OnOk result (AlwaysFinds (D.state keep.new.disk) next.now) }
     ensures stays { OnErr result (keep.new.lists ≡ keep.old.lists) }
@@ -62,7 +75,13 @@ fn replace<D: Disk>(keep: &mut Keep<D>, next: &Lists) -> Result<(), Failed>
     ensures run { IsRun 6 (is_err result) (D.state keep.old.disk) (D.state keep.new.disk) }
     ensures calls { ReplacesBy D.state next.now (is_err result) keep.old keep.new }
 {
-    keep.replace(next)
+    match keep.replace(next) {
+        Ok(()) => {
+            *admission = Admission::of(next);
+            Ok(())
+        }
+        Err(Failed) => Err(Failed),
+    }
 }
 
 /// Does what a request comes to that reads or changes the lists, by a step.
@@ -70,6 +89,7 @@ fn replace<D: Disk>(keep: &mut Keep<D>, next: &Lists) -> Result<(), Failed>
 fn tell_step<D: Disk>(
     station: &Station,
     keep: &mut Keep<D>,
+    admission: &mut Admission,
     header: &HeaderView<'_>,
     frame: &[u8],
     command: ListCommand,
@@ -78,6 +98,8 @@ fn tell_step<D: Disk>(
 ) -> Heard
     requires header { header.now ≡ fields frame.now }
     requires len { 24 ≤ length frame.now }
+    requires admits { AdmitsAs admission.old keep.old.lists }
+    ensures admits { AdmitsAs admission.new keep.new.lists }
     ensures allowed { AllowsStep station.now frame.now (step_of station.now keep.old.lists frame.now command)
         (fate_of result out.new.items) }
     ensures keeps { KeepsStep (step_of station.now keep.old.lists frame.now command) result
@@ -112,7 +134,7 @@ fn tell_step<D: Disk>(
                 effect: Effect::None,
             }
         }
-        Answer::Change => match replace(keep, &scratch.next) {
+        Answer::Change => match replace(keep, admission, &scratch.next) {
             Ok(()) => {
                 reply(station, header, None, args, out);
                 Heard::Replied {
@@ -152,6 +174,7 @@ fn empty_string(
 fn tell<D: Disk>(
     station: &Station,
     keep: &mut Keep<D>,
+    admission: &mut Admission,
     header: &HeaderView<'_>,
     frame: &[u8],
     command: ListCommand,
@@ -160,6 +183,8 @@ fn tell<D: Disk>(
 ) -> Heard
     requires header { header.now ≡ fields frame.now }
     requires len { 24 ≤ length frame.now }
+    requires admits { AdmitsAs admission.old keep.old.lists }
+    ensures admits { AdmitsAs admission.new keep.new.lists }
     ensures allowed { AllowsStep station.now frame.now (step_of station.now keep.old.lists frame.now command)
         (fate_of result out.new.items) }
     ensures keeps { KeepsStep (step_of station.now keep.old.lists frame.now command) result
@@ -181,7 +206,16 @@ fn tell<D: Disk>(
                 effect: Effect::None,
             }
         }
-        None => tell_step(station, keep, &header.copy(), frame, command, scratch, out),
+        None => tell_step(
+            station,
+            keep,
+            admission,
+            &header.copy(),
+            frame,
+            command,
+            scratch,
+            out,
+        ),
     }
 }
 
@@ -221,6 +255,7 @@ impl<S: Store, D: Disk> Target<S, D> {
                 max: max_sectors(mtu) as u8,
                 sectors,
             },
+            admission: Admission::of(keep.lists()),
             keep,
             store,
             scratch: Scratch::new(),
@@ -307,7 +342,15 @@ impl<S: Store, D: Disk> Target<S, D> {
             out.clear();
             return Heard::Ignored;
         };
-        match judge(&self.station, self.keep.lists(), &header, args_of(frame)) {
+        let kept = self.keep.lists();
+        let verdict = judge(
+            &self.station,
+            kept,
+            Some(&self.admission),
+            &header,
+            args_of(frame),
+        );
+        match verdict {
             Verdict::Ignored => {
                 out.clear();
                 Heard::Ignored
@@ -326,6 +369,7 @@ impl<S: Store, D: Disk> Target<S, D> {
                 tell(
                     &self.station,
                     &mut self.keep,
+                    &mut self.admission,
                     &header,
                     frame,
                     command,
@@ -340,6 +384,7 @@ impl<S: Store, D: Disk> Target<S, D> {
                     &header,
                     frame,
                     decision,
+                    kept.read_only,
                     span,
                     out,
                 );

@@ -4,11 +4,13 @@ ghost use Rattle.std.specs.Prelude.{◌≡◌, ◌≤◌, IfSome, drop, is_some,
 ghost use Rattle.aoe_frame.specs.Header.{fields, head};
 ghost use Rattle.aoe_lists.specs.Settings.{admits, may_use};
 ghost use Rattle.aoe_lists.specs.Step.{step_with};
-ghost use Rattle.aoe_target.specs.Verdict.{as_marked, ata_verdict, judged, list_command_of, list_step, CanAct};
+ghost use Rattle.aoe_target.specs.Admission.{AdmitsAs};
+ghost use Rattle.aoe_target.specs.Verdict.{ata_verdict, judged, list_command_of, list_step, marked, CanAct};
 
 use crate::Station;
+use crate::admission::Admission;
 use crate::scratch::Scratch;
-use aoe_ata::{AtaAnswer, AtaDecision, decide};
+use aoe_ata::{AtaDecision, decide};
 use aoe_base::{AoeError, Mac};
 use aoe_frame::{HEADER_LEN, HeaderView};
 use aoe_lists::{
@@ -77,47 +79,51 @@ pub(crate) fn args_of(frame: &[u8]) -> &[u8]
 }
 
 /// Whether the target answers the source of a frame. Where it answers every station, the source isn't
-/// read.
+/// read. An admission by these lists finds it sooner.
 #[inline(always)]
-fn is_admitted(lists: &Lists, header: &HeaderView<'_>) -> bool
+fn is_admitted(lists: &Lists, admission: Option<&Admission>, header: &HeaderView<'_>) -> bool
+    requires { IfSome admission (λ a. AdmitsAs a.now lists.now) }
     ensures { result ≡ admits lists.now header.now.src }
 {
-    answers_all(lists) || admits(lists, header.src())
+    answers_all(lists)
+        || match admission {
+            Some(admission) => admission.masks.lets_in(header.src()),
+            None => admits(lists, header.src()),
+        }
 }
 
 /// Whether the target does ATA commands of the source of a frame.
 #[inline(always)]
-fn is_served(lists: &Lists, header: &HeaderView<'_>) -> bool
+fn is_served(lists: &Lists, admission: Option<&Admission>, header: &HeaderView<'_>) -> bool
+    requires { IfSome admission (λ a. AdmitsAs a.now lists.now) }
     ensures { result ≡ may_use lists.now header.now.src }
 {
-    serves_all(lists) || may_use(lists, header.src())
+    serves_all(lists)
+        || match admission {
+            Some(admission) => admission.reserves.lets_in(header.src()),
+            None => may_use(lists, header.src()),
+        }
 }
 
-/// What is answered by a device that may be read-only, which aborts a write within it.
+/// What a target does with an ATA command, but for a read-only mark.
 #[inline(always)]
-fn unless_read_only(read_only: bool, answer: AtaAnswer) -> AtaAnswer
-    ensures { result ≡ as_marked read_only answer }
-{
-    match answer {
-        AtaAnswer::Put(_) if read_only => AtaAnswer::Abort,
-        _ => answer,
-    }
-}
-
-/// What a target does with an ATA command.
-#[inline(always)]
-fn judge_ata(station: &Station, lists: &Lists, header: &HeaderView<'_>, args: &[u8]) -> Verdict
-    ensures verdict { result ≡ ata_verdict station.now lists.now header.now.src args.now }
+fn judge_ata(
+    station: &Station,
+    lists: &Lists,
+    admission: Option<&Admission>,
+    header: &HeaderView<'_>,
+    args: &[u8],
+) -> Verdict
+    requires { IfSome admission (λ a. AdmitsAs a.now lists.now) }
+    ensures verdict { marked lists.now.read_only result
+        ≡ ata_verdict station.now lists.now header.now.src args.now }
     ensures can_act { CanAct station.now args.now result }
 {
-    if !is_served(lists, header) {
+    if !is_served(lists, admission, header) {
         return Verdict::Refused(AoeError::TargetIsReserved);
     }
     match decide(station.sectors, station.max, args) {
-        Ok(AtaDecision { args, answer }) => Verdict::Ata(AtaDecision {
-            args,
-            answer: unless_read_only(lists.read_only, answer),
-        }),
+        Ok(decision) => Verdict::Ata(decision),
         Err(error) => Verdict::Refused(error),
     }
 }
@@ -135,28 +141,32 @@ fn list_command(command: u8) -> Option<ListCommand>
     }
 }
 
-/// What a target does with a frame that has this header and these bytes behind it.
+/// What a target does with a frame that has this header and these bytes behind it, but for a read-only
+/// mark, which is looked at where a write would be done.
 #[inline(always)]
 pub(crate) fn judge(
     station: &Station,
     lists: &Lists,
+    admission: Option<&Admission>,
     header: &HeaderView<'_>,
     args: &[u8],
 ) -> Verdict
-    ensures verdict { result ≡ judged station.now lists.now header.now args.now }
+    requires { IfSome admission (λ a. AdmitsAs a.now lists.now) }
+    ensures verdict { marked lists.now.read_only result
+        ≡ judged station.now lists.now header.now args.now }
     ensures can_act { CanAct station.now args.now result }
 {
     if !station.hears(header) {
         return Verdict::Ignored;
     }
-    if !is_admitted(lists, header) {
+    if !is_admitted(lists, admission, header) {
         return Verdict::Silent;
     }
     if header.version() != AOE_VERSION {
         return Verdict::Refused(AoeError::UnsupportedVersion);
     }
     if header.command() == ATA {
-        return judge_ata(station, lists, header, args);
+        return judge_ata(station, lists, admission, header, args);
     }
     match list_command(header.command()) {
         Some(command) => Verdict::Lists(command),

@@ -1,5 +1,8 @@
-use Rattle.std.proofs.Common.{◌≡◌, ◌∙◌, false, true, refl, sym}
+use Rattle.std.proofs.Common.{◌≡◌, ◌∙◌, false, true, ap, refl, sym}
 use Rattle.aoe_disk.proofs.Runs.{logs_none}
+use Rattle.aoe_lists.specs.Settings.{Settings}
+use Rattle.aoe_ata.specs.declared.decision.AtaDecision.{AtaDecision}
+use Rattle.aoe_target.specs.Verdict.{as_marked, marked}
 use Rattle.aoe_target.specs.Receive.{calls_for, is_edit_fault, is_fault, is_faulty}
 use Rattle.std.specs.Option.{option_map}
 use Rattle.aoe_target.specs.Sectors.{sectors_of}
@@ -28,7 +31,7 @@ returns-in_default-clause-receives g c =
 
 pub returns-in-Ignored-clause-receives : goal.returns-in-Ignored-clause-receives
 returns-in-Ignored-clause-receives g c =
-    let v = judged_is _ _ Ignored c.in-Some.ensures.there c.in-Some.ensures.fields c.args_of.ensures c.lists.ensures c.in-Ignored.ensures.verdict in
+    let v = judged_is _ _ Ignored c.in-Some.ensures.there c.in-Some.ensures.fields c.args_of.ensures c.lists-kept.ensures c.in-Ignored.ensures.verdict in
     let t : Mounted _ _ = record { station = c.self.inside.station; keep = c.self.inside.keep; store = c.self.inside.store } in
     rw (← c.self.view_is) (unmoved _ _ t _ _ _ Ignored (record {
       by = v;
@@ -42,7 +45,7 @@ returns-in-Ignored-clause-receives g c =
 
 pub returns-in-Silent-clause-receives : goal.returns-in-Silent-clause-receives
 returns-in-Silent-clause-receives g c =
-    let v = judged_is _ _ Silent c.in-Some.ensures.there c.in-Some.ensures.fields c.args_of.ensures c.lists.ensures c.in-Silent.ensures.verdict in
+    let v = judged_is _ _ Silent c.in-Some.ensures.there c.in-Some.ensures.fields c.args_of.ensures c.lists-kept.ensures c.in-Silent.ensures.verdict in
     let t : Mounted _ _ = record { station = c.self.inside.station; keep = c.self.inside.keep; store = c.self.inside.store } in
     rw (← c.self.view_is) (unmoved _ _ t _ _ _ Silent (record {
       by = v;
@@ -56,7 +59,7 @@ returns-in-Silent-clause-receives g c =
 
 pub returns-in-Refused-clause-receives : goal.returns-in-Refused-clause-receives
 returns-in-Refused-clause-receives g c =
-    let v = judged_is _ _ (Refused c.in-Refused.error) c.in-Some.ensures.there c.in-Some.ensures.fields c.args_of.ensures c.lists.ensures c.in-Refused.ensures.verdict in
+    let v = judged_is _ _ (Refused c.in-Refused.error) c.in-Some.ensures.there c.in-Some.ensures.fields c.args_of.ensures c.lists-kept.ensures c.in-Refused.ensures.verdict in
     let t : Mounted _ _ = record { station = c.self.inside.station; keep = c.self.inside.keep; store = c.self.inside.store } in
     rw (← c.self.view_is) (unmoved _ _ t _ _ _ (Refused c.in-Refused.error) (record {
       by = v;
@@ -71,7 +74,7 @@ returns-in-Refused-clause-receives g c =
 pub returns-in-Lists-clause-receives : goal.returns-in-Lists-clause-receives
 returns-in-Lists-clause-receives g c =
     let v =
-    judged_is _ _ (Lists c.in-Lists.command) c.in-Some.ensures.there c.in-Some.ensures.fields c.args_of.ensures c.lists.ensures c.in-Lists.ensures.verdict in
+    judged_is _ _ (Lists c.in-Lists.command) c.in-Some.ensures.there c.in-Some.ensures.fields c.args_of.ensures c.lists-kept.ensures c.in-Lists.ensures.verdict in
     let old : Mounted _ _ = record { station = c.self.inside.station; keep = c.self.inside.keep; store = c.self.inside.store } in
     let new : Mounted _ _ = record { station = c.self.inside.station; keep = c.tell.new.keep; store = c.self.inside.store } in
     let calls = by_it g.S.Store.state g.D.Disk.state _ c.tell.result old new (Lists c.in-Lists.command) v
@@ -92,16 +95,17 @@ returns-in-Lists-clause-receives g c =
 
 pub returns-in-Ata-clause-receives : goal.returns-in-Ata-clause-receives
 returns-in-Ata-clause-receives g c =
-    let v = judged_is _ _ (Ata c.in-Ata.decision) c.in-Some.ensures.there c.in-Some.ensures.fields c.args_of.ensures c.lists.ensures c.in-Ata.ensures.verdict in
+    let d : AtaDecision = record c.in-Ata.decision { answer = as_marked c.kept.inside.read_only c.in-Ata.decision.answer } in
+    let v = judged_is _ _ (Ata d) c.in-Some.ensures.there c.in-Some.ensures.fields c.args_of.ensures c.lists-kept.ensures (ap (λ (lists : Settings). marked lists.read_only (Ata c.in-Ata.decision)) c.kept.view_is ∙ c.in-Ata.ensures.verdict) in
     let e = c.serve-effect.result in
     let old : Mounted _ _ = record { station = c.self.inside.station; keep = c.self.inside.keep; store = c.self.inside.store } in
     let new : Mounted _ _ = record { station = c.self.inside.station; keep = c.self.inside.keep; store = c.serve-effect.new.store } in
-    let calls = by_it g.S.Store.state g.D.Disk.state _ (heard.Replied e) old new (Ata c.in-Ata.decision) v
+    let calls = by_it g.S.Store.state g.D.Disk.state _ (heard.Replied e) old new (Ata d) v
     (record { call = c.serve-effect.ensures.call; log = c.serve-effect.ensures.log; idle = c.serve-effect.ensures.idle; edit = tt; unedited = λ _. refl }) in
-    let kept : is_edit_fault e ≡ false = keeps_lists c.self.inside.station (option_map sectors_of (g.S.Store.state c.self.inside.store).contents) c.in-Some.header c.in-Ata.decision.args c.in-Ata.decision.answer e c.serve-effect.new.out.items c.serve-effect.ensures.allowed in
+    let kept : is_edit_fault e ≡ false = keeps_lists c.self.inside.station (option_map sectors_of (g.S.Store.state c.self.inside.store).contents) c.in-Some.header d.args d.answer e c.serve-effect.new.out.items c.serve-effect.ensures.allowed in
     rw (← c.self.view_is) (record {
       station = refl;
-      step = λ k h. ata_step c.self.inside.station _ _ k c.args.frame.now h c.in-Some.header c.in-Ata.decision e c.serve-effect.new.out.items v c.in-Some.ensures.fields c.serve-effect.ensures.allowed c.serve-effect.ensures.leaves refl refl;
+      step = λ k h. ata_step c.self.inside.station _ _ k c.args.frame.now h c.in-Some.header d e c.serve-effect.new.out.items v c.in-Some.ensures.fields c.serve-effect.ensures.allowed c.serve-effect.ensures.leaves refl refl;
       silent = λ (clash : heard.Replied e ≡ heard.Silent). absurd cc;
       ignored = λ (clash : heard.Replied e ≡ heard.Ignored). absurd cc;
       call = calls.call;
@@ -119,34 +123,35 @@ returns-in_default-clause-under g c =
 
 pub returns-in-Ignored-clause-under : goal.returns-in-Ignored-clause-under
 returns-in-Ignored-clause-under g c =
-    let v = judged_is _ _ Ignored c.in-Some.ensures.there c.in-Some.ensures.fields c.args_of.ensures c.lists.ensures c.in-Ignored.ensures.verdict in
+    let v = judged_is _ _ Ignored c.in-Some.ensures.there c.in-Some.ensures.fields c.args_of.ensures c.lists-kept.ensures c.in-Ignored.ensures.verdict in
     rw (← c.self.view_is, v) refl
 
 pub returns-in-Silent-clause-under : goal.returns-in-Silent-clause-under
 returns-in-Silent-clause-under g c =
-    let v = judged_is _ _ Silent c.in-Some.ensures.there c.in-Some.ensures.fields c.args_of.ensures c.lists.ensures c.in-Silent.ensures.verdict in
+    let v = judged_is _ _ Silent c.in-Some.ensures.there c.in-Some.ensures.fields c.args_of.ensures c.lists-kept.ensures c.in-Silent.ensures.verdict in
     rw (← c.self.view_is, v) refl
 
 pub returns-in-Refused-clause-under : goal.returns-in-Refused-clause-under
 returns-in-Refused-clause-under g c =
-    let v = judged_is _ _ (Refused c.in-Refused.error) c.in-Some.ensures.there c.in-Some.ensures.fields c.args_of.ensures c.lists.ensures c.in-Refused.ensures.verdict in
+    let v = judged_is _ _ (Refused c.in-Refused.error) c.in-Some.ensures.there c.in-Some.ensures.fields c.args_of.ensures c.lists-kept.ensures c.in-Refused.ensures.verdict in
     rw (← c.self.view_is, v) refl
 
 pub returns-in-Lists-clause-under : goal.returns-in-Lists-clause-under
 returns-in-Lists-clause-under g c =
     let v =
-    judged_is _ _ (Lists c.in-Lists.command) c.in-Some.ensures.there c.in-Some.ensures.fields c.args_of.ensures c.lists.ensures c.in-Lists.ensures.verdict in
+    judged_is _ _ (Lists c.in-Lists.command) c.in-Some.ensures.there c.in-Some.ensures.fields c.args_of.ensures c.lists-kept.ensures c.in-Lists.ensures.verdict in
     rw (← c.self.view_is, v) refl
 
 pub returns-in-Ata-clause-under : goal.returns-in-Ata-clause-under
 returns-in-Ata-clause-under g c =
-    let v = judged_is _ _ (Ata c.in-Ata.decision) c.in-Some.ensures.there c.in-Some.ensures.fields c.args_of.ensures c.lists.ensures c.in-Ata.ensures.verdict in
+    let d : AtaDecision = record c.in-Ata.decision { answer = as_marked c.kept.inside.read_only c.in-Ata.decision.answer } in
+    let v = judged_is _ _ (Ata d) c.in-Some.ensures.there c.in-Some.ensures.fields c.args_of.ensures c.lists-kept.ensures (ap (λ (lists : Settings). marked lists.read_only (Ata c.in-Ata.decision)) c.kept.view_is ∙ c.in-Ata.ensures.verdict) in
     rw (← c.self.view_is, v) c.serve-effect.ensures.under
 
 pub invariant_of-self-in-Ata : goal.invariant_of-self-in-Ata
 invariant_of-self-in-Ata g c =
-    let same = same_sectors g.S.Store.state (calls_for c.in-Ata.decision.answer) (is_fault c.serve-effect.result) c.self.inside.store c.serve-effect.new.store c.serve-effect.ensures.call c.serve-effect.ensures.idle in
-    record { size = c.self.invariant.size ∙ sym same; bound = c.self.invariant.bound; room = c.self.invariant.room }
+    let same = same_sectors g.S.Store.state (calls_for (as_marked c.kept.inside.read_only c.in-Ata.decision.answer)) (is_fault c.serve-effect.result) c.self.inside.store c.serve-effect.new.store c.serve-effect.ensures.call c.serve-effect.ensures.idle in
+    (record { size = c.self.invariant.0.size ∙ sym same; bound = c.self.invariant.0.bound; room = c.self.invariant.0.room }, c.self.invariant.1)
 
 pub returns-in-Lists-clause-firm : goal.returns-in-Lists-clause-firm
 returns-in-Lists-clause-firm g c = λ lasts. step_firm c.self.inside.station c.args.frame.now _ _ _ c.tell.ensures.allowed
