@@ -8,7 +8,7 @@ use Rattle.aoe_serve.specs.declared.over_stream.Format.TheVariants as format
 use Rattle.aoe_serve.specs.declared.plan.Plan.{Plan}
 use Rattle.aoe_serve.specs.declared.plan.Plan.TheVariants as plan
 use Rattle.aoe_words.specs.declared.command.Command.{Command}
-use Rattle.aoe_words.specs.declared.command.Command.TheVariants.{Answer, Ask, Audit, Get, Keep, Live, Mirror, Put, Replay, Serve}
+use Rattle.aoe_words.specs.declared.command.Command.TheVariants.{Answer, Ask, Audit, Get, Keep, Live, LongGet, Mirror, Put, Replay, Serve}
 use Rattle.aoe_words.specs.declared.command.Answer.{Answer as Answers}
 use Rattle.aoe_words.specs.declared.command.Mirror.{Mirror as Mirrors}
 use Rattle.aoe_words.specs.declared.command.Serve.{Serve as Serves}
@@ -56,6 +56,7 @@ is_over_keep command = false
 abbrev pub is_tool : Option Command → Bool
 is_tool (Some (Ask tool)) = true
 is_tool (Some (Get asked)) = true
+is_tool (Some (LongGet asked)) = true
 is_tool (Some (Put asked)) = true
 is_tool command = false
 
@@ -63,6 +64,11 @@ is_tool command = false
 abbrev pub is_live : Option Command → Bool
 is_live (Some (Live asked)) = true
 is_live command = false
+
+-- it writes out what it has before it has all
+abbrev pub is_long_get : Option Command → Bool
+is_long_get (Some (LongGet asked)) = true
+is_long_get command = false
 
 -- it takes frames of links and the clock, and serves nothing
 abbrev pub uses_clock : Option Command → Bool

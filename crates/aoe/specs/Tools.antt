@@ -2,6 +2,7 @@
 use Rattle.std.specs.Prelude.{ℕ, ◌≡◌, ◌≤◌, Bool, true, false, List, [], Option, Result, Ok, Err, option_map}
 use Rattle.arrayvec.specs.ArrayVec.{ArrayVec}
 use Rattle.aoe_base.specs.declared.failure.NoMemory.{NoMemory}
+use Rattle.aoe_copy.specs.Runs.{Copies}
 use Rattle.aoe_io.specs.Bytes.{Took, TookSome}
 use Rattle.aoe_lists.specs.declared.dir.Dir.{Dir}
 use Rattle.aoe_tools.specs.Runs.{RunsConfig, RunsDiscovery, RunsFlush, RunsGet, RunsMasks, RunsPut, RunsReserves, RunsStat, Told}
@@ -17,6 +18,7 @@ use Rattle.aoe_words.specs.declared.command.Cfg.{Cfg}
 use Rattle.aoe_words.specs.declared.command.Discover.{Discover}
 use Rattle.aoe_words.specs.declared.command.Flush.{Flush}
 use Rattle.aoe_words.specs.declared.command.Get.{Get}
+use Rattle.aoe_words.specs.declared.command.LongGet.{LongGet}
 use Rattle.aoe_words.specs.declared.command.Mask.{Mask}
 use Rattle.aoe_words.specs.declared.command.Put.{Put}
 use Rattle.aoe_words.specs.declared.command.Reserve.{Reserve}
@@ -145,6 +147,16 @@ is_copy_status s = is_tool_status s
 pub record CopiesOut (asked : Get) (s : Status) (held held' : Option (List ℕ)) (t : Told) : Type 0 where
   pub result : Result Unit CopyRefusal
   pub runs : RunsGet result (ask_of asked.asking) asked.id asked.at asked.count t held held'
+  pub ends : s ≡ copied result
+
+-- the most sectors of a command: as many as a frame of 9018 bytes has room for
+abbrev pub most_sectors : ℕ
+most_sectors = 17
+
+-- A `get` of any length ran over a link and a clock, a sink took what it read as it came, and the status tells how it ended.
+pub record CopiesAll (asked : LongGet) (s : Status) (held held' : Option (List ℕ)) (t : Told) : Type 0 where
+  pub result : Result Unit CopyRefusal
+  pub runs : Copies result (ask_of asked.asking) asked.id asked.at asked.count most_sectors t held held'
   pub ends : s ≡ copied result
 
 -- `put` ran over a source, a link and a clock, and the status tells how it ended

@@ -5,7 +5,7 @@ ghost use Rattle.aoe_tools.specs.Runs.{told};
 ghost use Rattle.aoe_words.specs.Tools.{CanGet};
 ghost use Rattle.aoe_base.specs.Faults.{Blamed};
 ghost use Rattle.aoe_lists.specs.Settings.{max_directives};
-ghost use Rattle.aoe.specs.Tools.{CanAsk, CopiesIn, CopiesOut, RunsTool, Says, SaysConfig, SaysFlush, SaysFound, SaysMasks, SaysReserves, SaysStat, ask_of, copy_status, dirs_of, is_copy_status, is_tool_status, said, tool_status};
+ghost use Rattle.aoe.specs.Tools.{CanAsk, CopiesAll, CopiesIn, CopiesOut, RunsTool, Says, SaysConfig, SaysFlush, SaysFound, SaysMasks, SaysReserves, SaysStat, ask_of, copy_status, dirs_of, is_copy_status, is_tool_status, said, tool_status};
 
 use crate::status::{Status, What};
 use aoe_base::{Blob, Failed, NoMemory};
@@ -15,8 +15,11 @@ use aoe_tools::{
     Ask, CopyRefusal, ToolRefusal, cfg, discover, flush, get, mask, print_config, print_found,
     print_masks, print_reserves, print_stat, put, reserve, stat,
 };
-use aoe_words::{Asking, Cfg, Discover, Flush, Get, Mask, Put, Reserve, Stat, Tool};
+use aoe_words::{Asking, Cfg, Discover, Flush, Get, LongGet, Mask, Put, Reserve, Stat, Tool};
 use std::alloc::Global;
+
+/// The most sectors of a command of a long `get`: as many as a frame has room for.
+const MOST_SECTORS: u32 = 17;
 
 /// Who asks, and how long it listens.
 fn ask_of(asking: Asking) -> Ask
@@ -261,6 +264,39 @@ pub(crate) fn run_get<K: Sink, L: Link, C: Clock>(
         asked.id,
         asked.at,
         asked.count,
+        sink,
+        link,
+        clock,
+    ) {
+        Ok(()) => Status::Ok,
+        Err(refusal) => copy_status(refusal),
+    }
+}
+
+/// Copies sectors of a device to the sink, each as soon as all before it came.
+pub(crate) fn run_long_get<K: Sink, L: Link, C: Clock>(
+    alloc: Global,
+    asked: &LongGet,
+    sink: &mut K,
+    link: &mut L,
+    clock: &mut C,
+) -> Status
+    ensures run { CopiesAll asked.now result (K.held sink.old) (K.held sink.new)
+        (told C.least C.answers L.turns L.given L.taken clock.old clock.new link.old link.new) }
+    ensures status { is_copy_status result ≡ true }
+    ensures unread { result ≢ Status.SourceFault }
+    ensures sink { Blamed (result ≡ Status.SinkFault) (K.faults sink.old) (K.faults sink.new) }
+    ensures link { Blamed (result ≡ Status.LinkFault 0) (L.faults link.old) (L.faults link.new) }
+    ensures alone { (port : ℕ) → result ≡ Status.LinkFault port → port ≡ 0 }
+{
+    let ask = ask_of(asked.asking);
+    match aoe_copy::get(
+        alloc,
+        &ask,
+        asked.id,
+        asked.at,
+        asked.count,
+        MOST_SECTORS,
         sink,
         link,
         clock,

@@ -133,15 +133,15 @@ list_tool name rule = with_tool_options (with_rule (with_rule (with_rule (bare n
 abbrev pub flush_app : App
 flush_app = with_tool_options (with_rule (bare (codes "flush")) (needed (codes "dev")))
 
--- get DEV AT COUNT and put DEV AT
-abbrev pub sector_tool : Text → App
-sector_tool name = with_rule (with_rule (bare name) (needed (codes "dev"))) (needed (codes "at"))
+-- get DEV [AT [COUNT]] and put DEV AT
+abbrev pub device_tool : Text → App
+device_tool name = with_rule (bare name) (needed (codes "dev"))
 
 abbrev pub get_app : App
-get_app = with_tool_options (with_rule (sector_tool (codes "get")) (needed (codes "count")))
+get_app = with_tool_options (with_rule (with_rule (device_tool (codes "get")) (allowed (codes "at"))) (allowed (codes "count")))
 
 abbrev pub put_app : App
-put_app = with_rule (with_tool_options (sector_tool (codes "put"))) (flag (codes "verify"))
+put_app = with_rule (with_tool_options (with_rule (device_tool (codes "put")) (needed (codes "at")))) (flag (codes "verify"))
 
 -- what all commands stand under: one has to be named, and it is the first word
 abbrev pub top : App

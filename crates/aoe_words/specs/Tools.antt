@@ -17,6 +17,7 @@ use Rattle.aoe_words.specs.declared.command.Cfg.{Cfg as Cfgs}
 use Rattle.aoe_words.specs.declared.command.Discover.{Discover as Discovers}
 use Rattle.aoe_words.specs.declared.command.Flush.{Flush as Flushes}
 use Rattle.aoe_words.specs.declared.command.Get.{Get as Gets}
+use Rattle.aoe_words.specs.declared.command.LongGet.{LongGet as LongGets}
 use Rattle.aoe_words.specs.declared.command.Put.{Put as Puts}
 use Rattle.aoe_words.specs.declared.command.Mask.{Mask as Masks}
 use Rattle.aoe_words.specs.declared.command.Reserve.{Reserve as Reserves}
@@ -134,18 +135,30 @@ reserve_of rows =
 unfoldable pub flush_of : List Row → Option Flushes
 flush_of rows = option_and_then (λ asking. option_map (λ id. record { asking = asking; id = id }) (device rows)) (asking_of 5000 rows)
 
--- ---- get DEV AT COUNT and put DEV AT
+-- ---- get DEV [AT [COUNT]] and put DEV AT
 
 -- AT: a sector of 48 bits
 abbrev pub sector : List Row → Option ℕ
 sector = given (codes "at") (λ text. number_of text (2 ^ 48 - 1))
 
+-- the first one where none is given
+abbrev pub first_sector : List Row → Option ℕ
+first_sector = given_or (codes "at") (λ text. number_of text (2 ^ 48 - 1)) 0
+
+-- COUNT, where it is given: as many sectors at most as have numbers of 48 bits
+abbrev pub sector_count : List Row → Option (Option ℕ)
+sector_count = given_or (codes "count") (λ text. option_map Some (number_within 1 (2 ^ 48) text)) None
+
 -- they listen for 5000 turns where nothing is said of it
-unfoldable pub get_of : List Row → Option Gets
-get_of rows =
+unfoldable pub long_get_of : List Row → Option LongGets
+long_get_of rows =
     option_and_then (λ asking. option_and_then (λ id. option_and_then (λ at. option_map (λ count.
     record { asking = asking; id = id; at = at; count = count })
-    (given (codes "count") (number_within 1 32768) rows)) (sector rows)) (device rows)) (asking_of 5000 rows)
+    (sector_count rows)) (first_sector rows)) (device rows)) (asking_of 5000 rows)
+
+-- up to 32,768 sectors are read before any of them is written
+abbrev pub short_get : LongGets → ℕ → Gets
+short_get g count = record { asking = g.asking; id = g.id; at = g.at; count = count }
 
 unfoldable pub put_of : List Row → Option Puts
 put_of rows =
@@ -191,6 +204,12 @@ pub record CanGet (get : Gets) : Type 0 where
   pub device : IsDevice get.id
   pub at : get.at < 2 ^ 48
   pub count : (1 ≤ get.count) × (get.count ≤ 32768)
+
+pub record CanGetLong (get : LongGets) : Type 0 where
+  pub asking : CanAsk get.asking
+  pub device : IsDevice get.id
+  pub at : get.at < 2 ^ 48
+  pub count : IfSome get.count (λ count. (1 ≤ count) × (count ≤ 2 ^ 48))
 
 pub record CanPut (put : Puts) : Type 0 where
   pub asking : CanAsk put.asking

@@ -177,7 +177,17 @@ pub(crate) static FORMS: [Form; 18] = [
     ("flush", &[DEV, LOCAL, PEERS, VXLAN, TAP, PORT, TURNS]),
     (
         "get",
-        &[DEV, AT, COUNT, LOCAL, PEERS, VXLAN, TAP, PORT, TURNS],
+        &[
+            DEV,
+            ("at", Allowed),
+            ("count", Allowed),
+            LOCAL,
+            PEERS,
+            VXLAN,
+            TAP,
+            PORT,
+            TURNS,
+        ],
     ),
     (
         "put",

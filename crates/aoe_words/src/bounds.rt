@@ -71,11 +71,11 @@ pub(crate) const LIVE_COMMANDS: Bounds = Bounds {
     most: 10_000,
 };
 
-/// How many sectors `get` reads.
-pub(crate) const GET_SECTORS: Bounds = Bounds {
-    least: 1,
-    most: 32_768,
-};
+/// How many sectors `get` reads before it writes any of them.
+pub(crate) const SHORT_GET: u64 = 32_768;
+
+/// The most sectors that `get` reads: as many as a device can have whose sectors have numbers of 48 bits.
+pub(crate) const MOST_GET_SECTORS: u64 = 1 << 48;
 
 /// The greatest number that picks a script of `soak`.
 pub(crate) const LAST_SEED: u64 = 65_535;

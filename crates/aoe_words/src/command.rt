@@ -217,7 +217,7 @@ pub struct Flush {
     pub id: TargetId,
 }
 
-/// What `get DEV AT COUNT` asks for: to read sectors of a device.
+/// What `get DEV AT COUNT` asks for: to read up to 32,768 sectors of a device.
 #[derive(Clone, Copy, Debug, PartialEq, Eq)]
 pub struct Get {
     pub asking: Asking,
@@ -230,6 +230,22 @@ pub struct Get {
 
     /// How many sectors.
     pub count: u32,
+}
+
+/// What `get DEV`, `get DEV AT` and a `get DEV AT COUNT` of more than 32,768 sectors ask for: to read
+/// sectors of a device, and to write each out as soon as all before it are there.
+#[derive(Clone, Copy, Debug, PartialEq, Eq)]
+pub struct LongGet {
+    pub asking: Asking,
+
+    /// The device.
+    pub id: TargetId,
+
+    /// The first sector.
+    pub at: u64,
+
+    /// How many sectors; all from the first one on where there is no number.
+    pub count: Option<u64>,
 }
 
 /// What `put DEV AT` asks for: to write the sectors of the source to a device.
@@ -274,6 +290,7 @@ pub enum Command {
     Switch(Switch),
     Ask(Tool),
     Get(Get),
+    LongGet(LongGet),
     Put(Put),
     Keep(KeepAction),
 }

@@ -328,7 +328,7 @@ fn asked_of(name: &str, found: &ArgMatches) -> Option<Command>
     ensures fits { IfSome result (Fits (rows_of (found_of found.now))) }
 {
     let command = match name {
-        "get" => Command::Get(get_of(found)?),
+        "get" => get_of(found)?,
         "put" => Command::Put(put_of(found)?),
         _ => Command::Ask(tool_of(name, found)?),
     };
@@ -459,9 +459,11 @@ fn links_in(alloc: Global, found: &Found) -> Result<Vec<PortWords>, NoMemory>
             Some((one, two)) => all_links(alloc, &[one, two]),
             None => Ok(Vec::new(alloc)),
         },
-        Command::Serve(_) | Command::Ask(_) | Command::Get(_) | Command::Put(_) => match link(
-            &found.matches,
-        ) {
+        Command::Serve(_)
+        | Command::Ask(_)
+        | Command::Get(_)
+        | Command::LongGet(_)
+        | Command::Put(_) => match link(&found.matches) {
             Some(link) => all_links(alloc, &[link]),
             None => Ok(Vec::new(alloc)),
         },

@@ -6,8 +6,8 @@ ghost use Rattle.aoe_words.specs.Words.{command, is_value, is_word};
 
 use crate::app::{Argument, FORMS, Form, Place};
 use crate::bounds::{
-    CACHE, FRAMES, GET_SECTORS, IDLE, LAST_SECTOR, LAST_SEED, LIVE_COMMANDS, LIVE_SECTORS,
-    MOST_CAPTURED_SECTORS, MTU, SOAK_COMMANDS, TURNS, VXLAN,
+    CACHE, FRAMES, IDLE, LAST_SECTOR, LAST_SEED, LIVE_COMMANDS, LIVE_SECTORS,
+    MOST_CAPTURED_SECTORS, MOST_GET_SECTORS, MTU, SOAK_COMMANDS, TURNS, VXLAN,
 };
 use crate::lists::read_dir;
 use crate::ports::{read_port, read_ports};
@@ -141,7 +141,7 @@ fn no_number(command: &str, name: &str) -> Option<Wrong> {
         "at" => (0, LAST_SECTOR),
         "count" if command == "soak" => SOAK_COMMANDS.ends(),
         "count" if command == "live" => LIVE_COMMANDS.ends(),
-        "count" => GET_SECTORS.ends(),
+        "count" => (1, MOST_GET_SECTORS),
         _ => return None,
     };
     Some(Wrong::Number { least, most })

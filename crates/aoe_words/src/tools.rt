@@ -1,18 +1,18 @@
 //! What the arguments of the tools spell.
 ghost use Rattle.std.specs.Prelude.{◌≡◌, ◌≤◌, ◌<◌, ◌^◌, option_map, IfSome, IsSome};
 ghost use Rattle.clap.specs.Words.{found_of, rows_of};
-ghost use Rattle.aoe_words.specs.Tools.{CanAsk, CanGet, CanPut, IsDevice, asking_of, ccmd_alone, ccmd_with_text, cfg_of, device, discover_of, flush_of, get_of, mask_of, put_of, rcmd_alone, rcmd_with_list, reserve_of, sector, stat_of};
+ghost use Rattle.aoe_words.specs.Tools.{CanAsk, CanGetLong, CanPut, IsDevice, asking_of, ccmd_alone, ccmd_with_text, cfg_of, device, discover_of, first_sector, flush_of, long_get_of, mask_of, put_of, rcmd_alone, rcmd_with_list, reserve_of, sector, sector_count, stat_of};
 ghost use Rattle.aoe_words.specs.Values.{link};
-ghost use Rattle.aoe_words.specs.Words.{CanRun};
+ghost use Rattle.aoe_words.specs.Words.{CanRun, Fits, get_command};
 
-use crate::bounds::{GET_SECTORS, LAST_SECTOR, TURNS};
+use crate::bounds::{LAST_SECTOR, MOST_GET_SECTORS, SHORT_GET, TURNS};
 use crate::link::link;
 use crate::lists::{read_dirs, read_macs, read_text};
 use crate::values::{
     TOOL_PORT, is_set, number, number_from, number_or, port_or_default, text, texts,
 };
-use crate::{Asking, Cfg, Discover, Flush, Get, Mask, Put, Reserve, Stat, Tool};
-use aoe_base::{TargetId, device_law, read_device};
+use crate::{Asking, Cfg, Command, Discover, Flush, Get, LongGet, Mask, Put, Reserve, Stat, Tool};
+use aoe_base::{TargetId, device_law, read_device, read_number};
 use arrayvec::ArrayVec;
 use clap::ArgMatches;
 
@@ -205,19 +205,73 @@ fn sector(found: &ArgMatches) -> Option<u64>
     number(found, "at", LAST_SECTOR)
 }
 
-/// What the arguments of `get` ask for.
-#[tactic(auto, unfolding(crate::specs::Tools::get_of))]
-pub(crate) fn get_of(found: &ArgMatches) -> Option<Get>
-    ensures value { result ≡ get_of (rows_of (found_of found.now)) }
-    ensures range { IfSome result CanGet }
+/// The first sector, where one may be named.
+fn first_sector(found: &ArgMatches) -> Option<u64>
+    ensures value { result ≡ first_sector (rows_of (found_of found.now)) }
+    ensures range { IfSome result (λ at. at < 2 ^ 48) }
+{
+    match text(found, "at") {
+        Some(text) => read_number(text.as_bytes(), LAST_SECTOR),
+        None => Some(0),
+    }
+}
+
+/// How many sectors, where a number is named.
+fn sector_count(found: &ArgMatches) -> Option<Option<u64>>
+    ensures value { result ≡ sector_count (rows_of (found_of found.now)) }
+    ensures range { IfSome result
+        (λ number. IfSome number (λ n. (1 ≤ n) × (n ≤ 2 ^ 48))) }
+{
+    let Some(text) = text(found, "count") else {
+        return Some(None);
+    };
+    match read_number(text.as_bytes(), MOST_GET_SECTORS) {
+        Some(count) if count > 0 => Some(Some(count)),
+        _ => None,
+    }
+}
+
+/// What the arguments of `get` ask for, however many sectors these are.
+#[tactic(auto, unfolding(crate::specs::Tools::long_get_of))]
+fn long_get_of(found: &ArgMatches) -> Option<LongGet>
+    ensures value { result ≡ long_get_of (rows_of (found_of found.now)) }
+    ensures range { IfSome result CanGetLong }
     ensures link { IfSome result (λ get. IsSome (link (rows_of (found_of found.now)))) }
 {
-    Some(Get {
+    Some(LongGet {
         asking: asking_of(found, SECTOR_TURNS)?,
         id: device_of(found)?,
-        at: sector(found)?,
-        count: number_from(found, "count", GET_SECTORS)?,
+        at: first_sector(found)?,
+        count: sector_count(found)?,
     })
+}
+
+/// What the arguments of `get` ask for.
+pub(crate) fn get_of(found: &ArgMatches) -> Option<Command>
+    ensures value { result ≡ option_map get_command (long_get_of (rows_of (found_of found.now))) }
+    ensures fits { IfSome result (Fits (rows_of (found_of found.now))) }
+{
+    let LongGet {
+        asking,
+        id,
+        at,
+        count,
+    } = long_get_of(found)?;
+    let command = match count {
+        Some(count) if count <= SHORT_GET => Command::Get(Get {
+            asking,
+            id,
+            at,
+            count: count as u32,
+        }),
+        _ => Command::LongGet(LongGet {
+            asking,
+            id,
+            at,
+            count,
+        }),
+    };
+    Some(command)
 }
 
 /// What the arguments of `put` ask for.

@@ -142,6 +142,10 @@ pub returns-in-Ok-Some-clause-gets : goal.returns-in-Ok-Some-clause-gets
 returns-in-Ok-Some-clause-gets g c asked is =
     inr (c.run_command.ensures.gets asked (same-command _ _ _ _ c.in-Ok-Some.field-0-is c.in-Ok-Some.ensures.command is))
 
+pub returns-in-Ok-Some-clause-copies : goal.returns-in-Ok-Some-clause-copies
+returns-in-Ok-Some-clause-copies g c asked is =
+    inr (c.run_command.ensures.copies asked (same-command _ _ _ _ c.in-Ok-Some.field-0-is c.in-Ok-Some.ensures.command is))
+
 pub returns-in-Ok-Some-clause-puts : goal.returns-in-Ok-Some-clause-puts
 returns-in-Ok-Some-clause-puts g c asked is =
     inr (c.run_command.ensures.puts asked (same-command _ _ _ _ c.in-Ok-Some.field-0-is c.in-Ok-Some.ensures.command is))
