@@ -32,7 +32,7 @@ mod until;
 mod upkeep;
 mod wire;
 
-use aoe_base::{Blob, NoMemory};
+use aoe_base::{Blob, NoMemory, SECTOR_LEN};
 use aoe_tap::{OpenRefusal as TapRefusal, TapMedium};
 use aoe_udp::{OpenRefusal, UdpMedium};
 use aoe_wire::WireLink;
@@ -319,24 +319,25 @@ fn say_slip(rt: &HostRuntime, words: &[String]) {
     say(rt, b"--help\n");
 }
 
-/// Runs the command over its files and links, the standard streams and the clock.
+/// Runs the command over its files and links, the standard streams and the clock, and counts the bytes
+/// that standard output took.
 fn run_over(
     rt: &HostRuntime,
     words: &[String],
     disks: &mut [Option<FileDisk>],
     links: &mut [Until<WireLink<Wire>>],
-) -> Status
+) -> (Status, u64)
     requires count { length disks.old ≡ length (file_names (map string_bytes words.now)) }
     requires there { All IsSome disks.old }
     requires links { length links.old ≡ length (port_words (map string_bytes words.now)) }
 {
     let Ok(reader) = BufReader::with_capacity(rt.alloc(), READ_AHEAD, rt.stdin()) else {
-        return Status::NoMemory;
+        return (Status::NoMemory, 0);
     };
     let mut source = Input::new(reader);
     let mut sink = Output::new(rt.stdout());
     let mut clock = SystemClock::new(rt);
-    aoe(
+    let status = aoe(
         rt.alloc(),
         words,
         &mut source,
@@ -344,7 +345,21 @@ fn run_over(
         disks,
         links,
         &mut clock,
-    )
+    );
+    (status, sink.taken())
+}
+
+/// Says how far a copy came that didn't come to its end, so that another can go on from there.
+fn tell_written(rt: &HostRuntime, at: u64, bytes: u64) {
+    let sectors = bytes / SECTOR_LEN as u64;
+    if sectors == 0 {
+        say(rt, b"aoe: nothing was written\n");
+        return;
+    }
+    let last = at.saturating_add(sectors - 1);
+    if let Ok(text) = format!(in rt.alloc(); "aoe: nothing was written behind sector {last}\n") {
+        say(rt, text.as_bytes());
+    }
 }
 
 /// Opens the files with these names and the links that these arguments name, runs the command that the
@@ -378,7 +393,7 @@ fn run_named(
     if let (Some(log), Some(Command::Serve(serve))) = (&mut log, &command) {
         log.start(serve, ends);
     }
-    let status = run_over(rt, words, disks.as_mut_slice(), links.as_mut_slice());
+    let (status, written) = run_over(rt, words, disks.as_mut_slice(), links.as_mut_slice());
     tell_offloaded(rt, links.as_slice());
     if let (Some(log), [link]) = (&log, links.as_slice())
         && matches!(command, Some(Command::Serve(_)))
@@ -386,9 +401,15 @@ fn run_named(
         log.end(disks.as_slice(), link);
     }
     let is_usage = matches!(status, Status::Usage);
+    let is_ok = matches!(status, Status::Ok);
     let code = tell(rt, status);
     if is_usage {
         say_slip(rt, words);
+    }
+    if let Some(Command::LongGet(asked)) = &command
+        && !is_ok
+    {
+        tell_written(rt, asked.at, written);
     }
     code
 }

@@ -1,5 +1,5 @@
 //! A reader as a source, and a writer as a sink. They tell nothing of what they give and take.
-ghost use Rattle.std.specs.Prelude.{◌≡◌, ◌≢◌, ◌<◌, ◌≤◌, ◌+◌, IfErr, IfOk, None, OnErr, OnOk, length};
+ghost use Rattle.std.specs.Prelude.{◌≡◌, ◌≢◌, ◌<◌, ◌≤◌, ◌+◌, ◌^◌, IfErr, IfOk, None, OnErr, OnOk, length};
 ghost use Rattle.std.specs.Io.{ReadsAtMost, WritesAtMost};
 ghost use Rattle.std.specs.Io.KnownBytes.{WriteAppends};
 ghost use Rattle.std.specs.IoError.{error_kind};
@@ -101,18 +101,32 @@ impl<R: Read> Source for Input<R> {
     }
 }
 
-/// A writer that counts its faults. Nothing is held back: what a call took, the writer has.
+/// A writer that counts its faults and the bytes that it took. Nothing is held back: what a call took,
+/// the writer has.
 #[derive(Drop)]
 pub struct Output<W> {
     writer: W,
     faults: u64,
+    taken: u64,
 }
 
 impl<W: Write> Output<W> {
     pub fn new(writer: W) -> Output<W>
-        ensures { result.faults ≡ 0 }
+        ensures faults { result.faults ≡ 0 }
+        ensures taken { result.taken ≡ 0 }
     {
-        Output { writer, faults: 0 }
+        Output {
+            writer,
+            faults: 0,
+            taken: 0,
+        }
+    }
+
+    /// How many bytes the writer took.
+    pub fn taken(&self) -> u64
+        ensures { result ≡ self.now.taken }
+    {
+        self.taken
     }
 
     /// Writes once more where a signal interrupted the call, and else counts its fault. It stands apart,
@@ -125,6 +139,8 @@ impl<W: Write> Output<W> {
         ensures within { IfOk result (λ n. n ≤ length piece.now) }
         ensures bytes { WriteAppends (W.contents self.old.writer) (W.contents self.new.writer)
             result piece.now }
+        ensures taken { IfOk result (λ n. self.old.taken + n < 2 ^ 64
+            → self.new.taken ≡ self.old.taken + n) }
         ensures count { self.old.faults ≤ self.new.faults }
         ensures cause { OnErr result (Rose self.old.faults self.new.faults) }
         ensures no_fault { OnOk result (self.new.faults ≡ self.old.faults) }
@@ -134,6 +150,7 @@ impl<W: Write> Output<W> {
             && let Ok(n) = write_through(&mut self.writer, piece)
             && n > 0
         {
+            self.taken = self.taken.wrapping_add(n as u64);
             return Ok(n);
         }
         self.faults = self.faults.saturating_add(1);
@@ -154,13 +171,18 @@ impl<W: Write> Sink for Output<W> {
         ensures within { IfOk result (λ n. n ≤ length piece.now) }
         ensures bytes { WriteAppends (W.contents self.old.writer) (W.contents self.new.writer)
             result piece.now }
+        ensures taken { IfOk result (λ n. self.old.taken + n < 2 ^ 64
+            → self.new.taken ≡ self.old.taken + n) }
         ensures count { self.old.faults ≤ self.new.faults }
         ensures cause { OnErr result (Rose self.old.faults self.new.faults) }
         ensures no_fault { OnOk result (self.new.faults ≡ self.old.faults) }
         ensures one_fault { self.new.faults ≤ self.old.faults + 1 }
     {
         let is_interrupted = match self.writer.write(piece) {
-            Ok(n) if n > 0 => return Ok(n),
+            Ok(n) if n > 0 => {
+                self.taken = self.taken.wrapping_add(n as u64);
+                return Ok(n);
+            }
             Ok(_) => false,
             Err(error) => error.kind() == ErrorKind::Interrupted,
         };

@@ -6,9 +6,9 @@ use aoe_base::{Blob, Mac, NoMemory, Ports, TargetId};
 use aoe_lists::Dir;
 use aoe_vlan::PortKind;
 use aoe_words::{
-    Answer, Asking, Audit, Cfg, Command, Discover, Flush, Get, Live, Mask, PortKinds, PortWords,
-    Put, Reserve, Serve, Soak, Stat, Switch, Tool, files_of, ports_of, read_words, slip_of,
-    stop_of,
+    Answer, Asking, Audit, Cfg, Command, Discover, Flush, Get, Live, LongGet, Mask, PortKinds,
+    PortWords, Put, Reserve, Serve, Soak, Stat, Switch, Tool, files_of, ports_of, read_words,
+    slip_of, stop_of,
 };
 use arrayvec::ArrayVec;
 use std::alloc::{AllocError, Global};
@@ -336,6 +336,20 @@ fn get(at: u64, count: u32, turns: u32) -> Command {
         turns,
     };
     Command::Get(Get {
+        asking,
+        id: device(),
+        at,
+        count,
+    })
+}
+
+/// What a `get` of any length asks of the device.
+fn long_get(at: u64, count: Option<u64>) -> Command {
+    let asking = Asking {
+        port: mac(10),
+        turns: 5000,
+    };
+    Command::LongGet(LongGet {
         asking,
         id: device(),
         at,

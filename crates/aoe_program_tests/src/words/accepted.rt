@@ -156,6 +156,13 @@ fn reads_flush_get_and_put(rt: HostRuntime) -> Result<(), Fail> {
             "get e1.2 281474976710655 32768 --turns 1",
             get(281474976710655, 32768, 1),
         ),
+        ("get e1.2", long_get(0, None)),
+        ("get e1.2 7", long_get(7, None)),
+        ("get e1.2 7 32769", long_get(7, Some(32769))),
+        (
+            "get e1.2 0 281474976710656",
+            long_get(0, Some(281474976710656)),
+        ),
         ("put e1.2 7", put(7, 5000, false)),
         ("put e1.2 --verify 7 --turns=1", put(7, 1, true)),
     ];

@@ -138,8 +138,12 @@ fn says_what_is_wrong_with_numbers(rt: HostRuntime) -> Result<(), Fail> {
             "9001: not a number from 1500 to 9000",
         ),
         (
-            "get e1.0 0 32769 --tap t",
-            "32769: not a number from 1 to 32768",
+            "get e1.0 0 281474976710657 --tap t",
+            "281474976710657: not a number from 1 to 281474976710656",
+        ),
+        (
+            "get e1.0 0 0 --tap t",
+            "0: not a number from 1 to 281474976710656",
         ),
         (
             "audit 1 0 1099511627777 keep",
