@@ -91,7 +91,7 @@ is-within a b not_not = grind arith
 -- a device was asked for, and then this was copied or not
 module _ {ask : Ask} {id : TargetId} {range : Range} {least : ℕ} (first : ℕ) {before mid after : LinkState} {answers later answers' : Option (List ℕ)}
     {found : Result Device ToolRefusal} {result : Result Course ToolRefusal} (answered_is : Answers first least answers later)
-    (finds : Finds found ask id first before mid) where
+    (finds : Finds found ask id first 2 before mid) where
   pub copies : CopiesAt found result ask id range mid after later answers' → Copies result ask id range least before after answers answers'
   copies at = record {
     first = first;

@@ -1,24 +1,24 @@
 mod AskLemmas
 mod CopiedLemmas
-mod CopyLemmas
+pub mod CopyLemmas
 mod CourseLemmas
-mod DataLemmas
+pub mod DataLemmas
 mod DiscoverLemmas
 mod ExchangeLemmas
 mod FoundLemmas
-mod HearLemmas
+pub mod HearLemmas
 mod JoinLemmas
-mod ListenLemmas
-mod OnceLemmas
+pub mod ListenLemmas
+pub mod OnceLemmas
 mod OneLemmas
 mod OtherLemmas
 mod PutLemmas
 mod QuestionLemmas
-mod RunLemmas
-mod SendingLemmas
+pub mod RunLemmas
+pub mod SendingLemmas
 mod StatLemmas
 mod SubmitLemmas
-mod TagLemmas
-mod TransferHost
+pub mod TagLemmas
+pub mod TransferHost
 mod TurnLemmas
 mod VisitLemmas

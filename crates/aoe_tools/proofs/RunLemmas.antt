@@ -43,13 +43,13 @@ open_in log = count_by unended (commands log)
 pub pending-open : {host : Host} {log : List Event} → Matches log host → length host.pending ≡ open_in log
 pending-open m = simp (length-map, length-filter) at (ap (λ (l : List Waiting). length l) m.pending)
 
-ended-fewer : (ticket : Ticket) (c : HostCommand) → unended (at_ticket ticket after_end c) ≡ true → unended c ≡ true
+pub ended-fewer : (ticket : Ticket) (c : HostCommand) → unended (at_ticket ticket after_end c) ≡ true → unended c ≡ true
 ended-fewer ticket c e = elim (cases_Bool (nat_eq c.ticket.0 ticket.0)) [
   | inl own ↦ absurd (let ended = rw own at e in cc)
   | inr other ↦ rw other at e
 ]
 
-open-ended : (gave_up : List Done) (log : List Event) → open_in (ended gave_up log) ≤ open_in log
+pub open-ended : (gave_up : List Done) (log : List Event) → open_in (ended gave_up log) ≤ open_in log
 open-ended [] log = omega arith
 open-ended (d ∷ dones) log =
     omega (arith, open-ended dones log, count-fewer unended (at_ticket d.ticket after_end) (ended-fewer d.ticket) (commands (ended dones log)))
@@ -59,7 +59,7 @@ open-submits [] log = omega arith
 open-submits (s ∷ earlier) log =
     omega (arith, open-submits earlier log, count-end unended (commands (after_submits earlier log)) (submitted_as s.ticket (record { 0 = 0 }) s.op))
 
-open-frames : (sent : List Outgoing) (log : List Event) → open_in (after_frames sent log) ≡ open_in log
+pub open-frames : (sent : List Outgoing) (log : List Event) → open_in (after_frames sent log) ≡ open_in log
 open-frames [] log = refl
 open-frames (o ∷ earlier) log =
     let before = after_frames earlier log in
@@ -81,7 +81,7 @@ abbrev pub count_heard : Option Heard → ℕ
 count_heard None = 0
 count_heard (Some h) = 1
 
-open-heard : (base : Host) (log : List Event) (t : Turn) (heard : Option Heard) → Hears base log t heard
+pub open-heard : (base : Host) (log : List Event) (t : Turn) (heard : Option Heard) → Hears base log t heard
     → open_in (after_heard heard log) + count_heard heard ≤ open_in log
 open-heard base log t None hears = omega arith
 open-heard base log (came frame) (Some h) a =
@@ -118,7 +118,7 @@ less-to-do {base} {turns} {start} {rounds} {r} run more =
     )
 
 -- so a turn leads on, whether it ended a command or none
-smaller : (turns before after quiet : ℕ) (heard : Option Heard) → after + count_heard heard ≤ before → quiet < turns
+pub smaller : (turns before after quiet : ℕ) (heard : Option Heard) → after + count_heard heard ≤ before → quiet < turns
     → after * (turns + 1) + (turns - quiet_by heard quiet) < before * (turns + 1) + (turns - quiet)
 smaller turns before after quiet None less below =
     let more : (turns + 1) * after ≤ (turns + 1) * before = mul-le-mul_left (turns + 1) (omega (arith, less)) in
@@ -127,7 +127,7 @@ smaller turns before after quiet (Some h) less below =
     let more : (turns + 1) * (after + 1) ≤ (turns + 1) * before = mul-le-mul_left (turns + 1) less in
     grind (arith, more)
 
-told-then : (a b c : Option (List ℕ)) (xs : List ℕ) (n : ℕ) → Told a b xs → IfSome c (λ all. Added b c (n ∷ [])) → Told a c (n ∷ xs)
+pub told-then : (a b c : Option (List ℕ)) (xs : List ℕ) (n : ℕ) → Told a b xs → IfSome c (λ all. Added b c (n ∷ [])) → Told a c (n ∷ xs)
 told-then a b None xs n first second = tt
 told-then a None (Some l) xs n first second = absurd cc
 told-then a (Some k) (Some l) xs n first second = Added-then a (Some k) (Some l) xs (n ∷ []) first second

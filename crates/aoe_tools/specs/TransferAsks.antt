@@ -1,5 +1,5 @@
 -- The two requests before a transfer: where a device is, and how long it is.
-use Rattle.std.specs.Prelude.{ℕ, ◌≡◌, true, false, nat_lt, List, [], ◌∷◌, length, drop, Option, Some, None, Result, Ok, Err, if◌then◌else◌, slice_index, unwrap_or}
+use Rattle.std.specs.Prelude.{ℕ, ◌≡◌, min, true, false, nat_lt, List, [], ◌∷◌, length, drop, Option, Some, None, Result, Ok, Err, if◌then◌else◌, slice_index, unwrap_or}
 use Rattle.aoe_base.specs.declared.address.Mac.{Mac}
 use Rattle.aoe_base.specs.declared.address.TargetId.{TargetId}
 use Rattle.aoe_base.specs.Addresses.{broadcast}
@@ -53,9 +53,10 @@ abbrev pub with_args : List ℕ → Result Reply ToolRefusal → Result Response
 with_args frame (Ok r) = Ok record { reply = r; args = drop 24 frame }
 with_args frame (Err e) = Err e
 
--- how many sectors a command has at most: as many as the device says (AoEr11, "Query Config Information", Sector Count), but one or two
-abbrev pub max_of : List ℕ → ℕ
-max_of args = if nat_lt 1 (slice_index args 4) then 2 else 1
+-- how many sectors a command has at most: as many as the device says (AoEr11, "Query Config Information", Sector Count), but one at
+-- least, and no more than a number
+abbrev pub max_of : ℕ → List ℕ → ℕ
+max_of most args = if nat_lt 1 (slice_index args 4) then min most (slice_index args 4) else 1
 
 -- how many sectors a device has: none where its page declares no number
 abbrev pub total_of : Answer → List ℕ → ℕ
@@ -73,9 +74,9 @@ config_frame ask id first = request (op.Config 0 []) id broadcast ask.port (tag_
 abbrev pub page_frame : Ask → TargetId → ℕ → Mac → List ℕ
 page_frame ask id first remote = request op.Identify id remote ask.port (tag_of first 1)
 
-abbrev pub port_in : Result Response ToolRefusal → Result (Mac × ℕ) ToolRefusal
-port_in (Ok r) = Ok (r.reply.source, max_of r.args)
-port_in (Err e) = Err e
+abbrev pub port_in : ℕ → Result Response ToolRefusal → Result (Mac × ℕ) ToolRefusal
+port_in most (Ok r) = Ok (r.reply.source, max_of most r.args)
+port_in most (Err e) = Err e
 
 abbrev pub total_in : Result Response ToolRefusal → Result ℕ ToolRefusal
 total_in (Ok r) = Ok (total_of r.reply.answer r.args)
@@ -92,9 +93,9 @@ FindsAt (Ok found) result ask id first mid after =
     × (result ≡ with_total found (total_in page))
 FindsAt (Err e) result ask id first mid after = (result ≡ Err e) × (after ≡ mid)
 
--- a device is found by its response to a query config request to all, and by its page
-pub record Finds (result : Result Device ToolRefusal) (ask : Ask) (id : TargetId) (first : ℕ) (before after : LinkState) : Type 0 where
+-- a device is found by its response to a query config request to all, and by its page; a command has no more sectors than a number
+pub record Finds (result : Result Device ToolRefusal) (ask : Ask) (id : TargetId) (first most : ℕ) (before after : LinkState) : Type 0 where
   pub mid : LinkState
   pub config : Result Response ToolRefusal
   pub asks : Asks config (config_question ask id first) (config_frame ask id first) ask.turns before mid
-  pub finds : FindsAt (port_in config) result ask id first mid after
+  pub finds : FindsAt (port_in most config) result ask id first mid after

@@ -119,7 +119,7 @@ pub record Copies (result : Result Course ToolRefusal) (ask : Ask) (id : TargetI
   pub answered : Answers first least answers later
   pub found : Result Device ToolRefusal
   pub mid : LinkState
-  pub finds : Finds found ask id first before mid
+  pub finds : Finds found ask id first 2 before mid
   pub copies : CopiesAt found result ask id range mid after later answers'
 
 -- the sink takes what was read, and nothing where nothing was

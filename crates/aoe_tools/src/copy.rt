@@ -22,6 +22,9 @@ use aoe_block::{Block, BlockRefusal, ticket_law};
 use aoe_io::{Clock, Link, Sink, Source, give_all};
 use std::alloc::Global;
 
+/// The most sectors of a command: as many as a frame of 1500 bytes has room for.
+const MOST_SECTORS: u32 = 2;
+
 /// A read of these sectors.
 fn course_of_read(
     alloc: Global,
@@ -176,7 +179,7 @@ fn read_all<L: Link, C: Clock>(
         (L.faults link.new) }
 {
     let first = clock.now();
-    let device = match look_up(ask, id, first, link) {
+    let device = match look_up(ask, id, first, MOST_SECTORS, link) {
         Ok(device) => device,
         Err(refusal) => return Err(refusal),
     };
@@ -210,7 +213,7 @@ fn write_all<L: Link, C: Clock>(
         (L.faults link.new) }
 {
     let first = clock.now();
-    let device = match look_up(ask, id, first, link) {
+    let device = match look_up(ask, id, first, MOST_SECTORS, link) {
         Ok(device) => device,
         Err(refusal) => return Err(refusal),
     };

@@ -9,6 +9,7 @@
 //! - [`get`] reads sectors and gives them to a sink once all have come. [`put`] reads a source to
 //!   its end, writes that to sectors, and flushes, and may read the sectors again and compare them;
 //!   [`flush`] does the flush alone.
+//! - [`look_up`] finds a device as these do, for a tool of another crate.
 //! - [`print_found`], [`print_stat`], [`print_config`], [`print_masks`] and [`print_reserves`] then
 //!   make the text of an answer. A refusal has the exit status and the text of the program (`code`,
 //!   `text`).
@@ -46,6 +47,7 @@ pub use finding::discover;
 pub use found::{Found, Seen, State};
 pub use law::{copied_law, submitted_law};
 pub use lists::{cfg, mask, reserve};
+pub use lookup::{Device, look_up};
 pub use question::Ask;
 pub use text::{print_config, print_found, print_masks, print_reserves, print_stat};
 pub use visiting::stat;

@@ -16,25 +16,29 @@ use aoe_initiator::{Op, write_request};
 use aoe_io::Link;
 
 /// A device that answered.
-#[derive(Clone, Copy)]
-pub(crate) struct Device {
+#[derive(Clone, Copy, Debug, PartialEq, Eq)]
+pub struct Device {
     /// The address that it answered from.
-    pub(crate) port: Mac,
+    pub port: Mac,
 
     /// How many sectors a command has at most.
-    pub(crate) max: u32,
+    pub max: u32,
 
     /// How many sectors the device has.
-    pub(crate) total: u64,
+    pub total: u64,
 }
 
 /// How many sectors a command has at most, by the arguments of a query config response: as many as
-/// the device says (AoEr11, "Query Config Information", Sector Count), but one or two.
-fn max_of(args: &[u8]) -> u32
-    ensures { result ≡ max_of args.now }
+/// the device says (AoEr11, "Query Config Information", Sector Count), but one at least, and no more
+/// than `most`.
+fn max_of(args: &[u8], most: u32) -> u32
+    requires { 0 < most }
+    ensures value { result ≡ max_of most args.now }
+    ensures some { 0 < result }
+    ensures few { result ≤ most }
 {
     match args.get(4) {
-        Some(count) if *count > 1 => 2,
+        Some(count) if *count > 1 => most.min(u32::from(*count)),
         _ => 1,
     }
 }
@@ -44,11 +48,13 @@ fn find_port<L: Link>(
     ask_by: &Ask,
     id: TargetId,
     first: u64,
+    most: u32,
     link: &mut L,
 ) -> Result<(Mac, u32), ToolRefusal>
+    requires { 0 < most }
     ensures asks { (r : Result Response Refused) × Asks r (config_question ask_by.now id first) (config_frame ask_by.now id first) ask_by.now.turns (record { turns = L.turns link.old; given = L.given link.old; taken = L.taken link.old }) (record { turns = L.turns link.new; given = L.given link.new; taken = L.taken link.new })
-        × (result ≡ port_in r) }
-    ensures max { IfOk result (λ found. (0 < found.1) × (found.1 ≤ 2)) }
+        × (result ≡ port_in most r) }
+    ensures max { IfOk result (λ found. (0 < found.1) × (found.1 ≤ most)) }
     ensures count { L.faults link.old ≤ L.faults link.new }
     ensures link { Blamed (result ≡ Err ToolRefusal.LinkFault) (L.faults link.old)
         (L.faults link.new) }
@@ -58,7 +64,7 @@ fn find_port<L: Link>(
     config_request(0, b"", id, ask_by.port, question.tag, &mut request);
     let mut frame = Frame::new();
     match ask(&question, &request, ask_by.turns, link, &mut frame) {
-        Ok(reply) => Ok((reply.source, max_of(&frame[HEADER_LEN..]))),
+        Ok(reply) => Ok((reply.source, max_of(&frame[HEADER_LEN..], most))),
         Err(refusal) => Err(refusal),
     }
 }
@@ -95,23 +101,25 @@ fn find_total<L: Link>(
     }
 }
 
-/// Finds a device.
-pub(crate) fn look_up<L: Link>(
+/// Finds a device: where it is, and how long. A command to it has at most `most` sectors.
+pub fn look_up<L: Link>(
     ask_by: &Ask,
     id: TargetId,
     first: u64,
+    most: u32,
     link: &mut L,
 ) -> Result<Device, ToolRefusal>
-    ensures finds { Finds result ask_by.now id first
+    requires { 0 < most }
+    ensures finds { Finds result ask_by.now id first most
         (record { turns = L.turns link.old; given = L.given link.old; taken = L.taken link.old })
         (record { turns = L.turns link.new; given = L.given link.new; taken = L.taken link.new }) }
-    ensures max { IfOk result (λ d. (0 < d.max) × (d.max ≤ 2)) }
+    ensures max { IfOk result (λ d. (0 < d.max) × (d.max ≤ most)) }
     ensures total { IfOk result (λ d. d.total < 2 ^ 48) }
     ensures count { L.faults link.old ≤ L.faults link.new }
     ensures link { Blamed (result ≡ Err ToolRefusal.LinkFault) (L.faults link.old)
         (L.faults link.new) }
 {
-    let (port, max) = match find_port(ask_by, id, first, link) {
+    let (port, max) = match find_port(ask_by, id, first, most, link) {
         Ok(found) => found,
         Err(refusal) => return Err(refusal),
     };

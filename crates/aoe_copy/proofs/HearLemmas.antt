@@ -1,0 +1,98 @@
+-- A turn of the link, and what it ends.
+use Rattle.std.proofs.Common.{ℕ, ◌≡◌, ◌+◌, ◌≤◌, Bool, true, false, List, [], ◌∷◌, ◌++◌, reverse, Option, Some, None, refl, sym, ap, ◌∙◌, arith, inl, inr}
+use Rattle.std.specs.Prelude.{◌⊎◌}
+use Rattle.std.proofs.lemmas.List.Elements.{Contains-append_right}
+use Rattle.aoe_initiator.proofs.MatchLemmas.{same-then}
+use Rattle.aoe_initiator.specs.declared.outcome.Done.{Done}
+use Rattle.aoe_initiator.specs.Host.{Matches}
+use Rattle.aoe_io.proofs.LinkLemmas.{turned-then}
+use Rattle.aoe_io.specs.Link.{Turn, Turned}
+use Rattle.aoe_tools.proofs.RunLemmas.{open-heard, count_heard as count_of}
+use Rattle.aoe_tools.specs.TransferRun.{after_heard, quiet_by, told_by, Heard, Hears}
+use Rattle.aoe_tools.specs.TransferSteps.{is_heard, HearsOne}
+use Rattle.aoe_copy.specs.declared.copying.Copying.{Copying}
+use Rattle.aoe_copy.specs.declared.plan.Plan.{Plan}
+use Rattle.aoe_copy.specs.Copying.{count_heard, left_of, GoOn, InOrder, Keeps, Passes, Setting, Stands, Went}
+use Rattle.aoe_copy.specs.Plan.{reach}
+use Rattle.aoe_copy.specs.Runs.{Seen}
+use Rattle.aoe_copy.specs.Steps.{asked, given, log_of, outcomes, turns_of, GoesOn, IsFilled, Step}
+use Rattle.aoe_copy.specs.Steps.Step.{hears}
+use Rattle.aoe_copy.proofs.StepLemmas.{go-on-then, goes-on, Sent-so}
+use Rattle.aoe_copy.proofs.WindowLemmas.{there-more}
+
+told-back : (heard : Option Heard) → reverse (told_by heard) ≡ told_by heard
+told-back None = refl
+told-back (Some h) = refl
+
+count-same : (heard : Option Heard) → count_of heard ≡ count_heard heard
+count-same None = refl
+count-same (Some h) = refl
+
+-- frames leave the window filled
+pub still-filled : (p : Plan) (steps steps' : List Step) → IsFilled p steps → asked steps' ≡ asked steps → given steps' ≡ given steps → IsFilled p steps'
+still-filled p steps steps' filled asked_is given_is = rw (asked_is, given_is) filled
+
+-- what one turn brought, of a host that goes on
+pub heard-one : {c : Setting} (seen : Seen) {turns turns' : ℕ} {given_by given_by' : Option (List Turn)} {steps : List Step} {x y : Copying} {finished : Bool}
+    (w : Went c (record seen { turns = turns; given = given_by }) steps x) → GoesOn steps → IsFilled c.plan w.steps' → x.host.waiting ≡ []
+    → HearsOne finished x.host y.host turns turns' given_by given_by' → y ≡ record x { host = y.host }
+    → (heard : Option Heard) × Passes c (record seen { turns = turns'; given = given_by' }) steps y heard × (finished ≡ is_heard heard)
+heard-one {c} seen {turns} {turns'} {given_by} {given_by'} {steps} {x} {y} w well filled none one is =
+    let k = w.keeps in
+    let s = w.stands.seen_is in
+    let log = log_of c.plan w.steps' in
+    let h = one.hears c.base log k.same k.matches in
+    let heard = h.0 in
+    let waiting : y.host.waiting ≡ told_by heard = rw none at h.3 in
+    let still = goes-on w well in (
+      heard,
+      record {
+        steps' = hears one.brought heard ∷ w.steps';
+        stands = record {
+          are = (w.stands.are, (still, filled, h.1));
+          seen_is = record {
+            turned = turned-then c.before.turns turns turns' c.before.given given_by given_by' (turns_of w.steps') (one.brought ∷ []) s.turned one.turned;
+            took = s.took;
+            told = s.told;
+            wrote = s.wrote;
+          };
+        };
+        keeps = record {
+          plan_is = ap (λ (z : Copying). z.plan) is ∙ k.plan_is;
+          same = same-then c.base x.host y.host k.same one.held.same;
+          matches = h.2;
+          asked_is = one.held.last ∙ k.asked_is;
+          given_is = ap (λ (z : Copying). z.window.given) is ∙ k.given_is;
+          reached_is = ap (λ (z : Copying). z.reached) is ∙ k.reached_is;
+          there = rw is (there-more _ _ (λ (d : Done) there. Contains-append_right (told_by heard) (outcomes w.steps') d there) _ _ k.there);
+        };
+        order = record {
+          taken = outcomes w.steps';
+          order = ap (λ (l : List Done). l ++ outcomes w.steps') (sym (ap (λ (l : List Done). reverse l) waiting ∙ told-back heard));
+          well = still;
+        };
+        quiet_is = ap (quiet_by heard) w.on.quiet_is;
+        left_is = omega (arith, open-heard c.base log one.brought heard h.1, count-same heard, w.on.left_is);
+      },
+      h.4,
+    )
+
+pub was-answered : {c : Setting} {seen : Seen} {steps : List Step} {y : Copying} {finished : Bool} → finished ≡ true
+    → (heard : Option Heard) × Passes c seen steps y heard × (finished ≡ is_heard heard) → (h : Heard) × Passes c seen steps y (Some h)
+was-answered {c} {seen} {steps} {y} is x = at x.0 x.1 (sym is ∙ x.2)
+  where
+    at : (heard : Option Heard) → Passes c seen steps y heard → true ≡ is_heard heard → (h : Heard) × Passes c seen steps y (Some h)
+    at None p e = absurd cc
+    at (Some h) p e = (h, p)
+
+pub was-quiet : {c : Setting} {seen : Seen} {steps : List Step} {y : Copying} {finished : Bool} → finished ≡ false
+    → (heard : Option Heard) × Passes c seen steps y heard × (finished ≡ is_heard heard) → Passes c seen steps y None
+was-quiet {c} {seen} {steps} {y} is x = at x.0 x.1 (sym is ∙ x.2)
+  where
+    at : (heard : Option Heard) → Passes c seen steps y heard → false ≡ is_heard heard → Passes c seen steps y None
+    at None p e = p
+    at (Some h) p e = absurd cc
+
+-- frames were sent behind commands that were submitted
+abbrev pub sent-then : {c : Setting} {seen seen' : Seen} {steps : List Step} {x y : Copying} (w : Went c seen steps x) → Sent-so c seen' w.steps' y → Went c seen' steps y
+sent-then w so = record { steps' = so.0.steps'; on = go-on-then w.on so.0.on; stands = so.0.stands; keeps = so.0.keeps }

@@ -1,0 +1,6 @@
+mod CollectLemmas
+mod HearLemmas
+mod OutcomeLemmas
+mod StepLemmas
+mod TurnLemmas
+mod WindowLemmas

@@ -1,0 +1,44 @@
+use Rattle.std.proofs.Common.{refl, sym, ap, ◌∙◌, ◌≡◌, ◌∷◌, arith, List, length}
+use Rattle.aoe_initiator.specs.declared.outcome.Done.{Done}
+use Rattle.aoe_initiator.specs.Host.{Host}
+use Rattle.aoe_copy.proofs.OutcomeLemmas.{fails-next, next-there, order-next, order-over}
+use Rattle.aoe_copy.proofs.copying.Copying.take_all.Goals as goal
+
+pub outcomes-init : goal.outcomes-init
+outcomes-init c = record {
+  there = λ outs there order. there;
+  order = λ outs order. order;
+  host = refl;
+  plan = refl;
+  reached = refl;
+  window = record { given_is = refl; length_is = refl };
+  matches = λ log m. m;
+}
+
+pub returns-in-Err-clause-takes : goal.returns-in-Err-clause-takes
+returns-in-Err-clause-takes c = λ outs there order.
+    let i = c.outcomes.invariant in
+    let next = c.in-Some.ensures.first in (
+      rw c.settle.ensures.same.given_is (c.settle.ensures.there outs (next-there (i.order outs order) next) (i.there outs there order)),
+      fails-next (i.order outs order) next c.args.turns c.in-Err.refusal c.in-Err.ensures.err,
+    )
+
+pub outcomes-preserved : goal.outcomes-preserved
+outcomes-preserved c =
+    let i = c.outcomes.invariant in
+    let next = c.in-Some.ensures.first in
+    record {
+      there = λ outs there order.
+          rw c.settle.ensures.same.given_is (c.settle.ensures.there outs (next-there (i.order outs order) next) (i.there outs there order));
+      order = λ outs order. order-next (i.order outs order) next c.args.turns c.in-Ok.ensures.ok;
+      host = c.in-Some.ensures.same ∙ ap (λ (h : Host). record h { waiting = c.take_done.new.self.waiting }) i.host;
+      plan = i.plan;
+      reached = i.reached;
+      window = record { given_is = c.settle.ensures.same.given_is ∙ i.window.given_is; length_is = c.settle.ensures.same.length_is ∙ i.window.length_is };
+      matches = λ log m. c.take_done.ensures.matches log (i.matches log m);
+    }
+
+pub returns-clause-takes : goal.returns-clause-takes
+returns-clause-takes c = λ outs there order.
+    let i = c.outcomes.invariant in
+    (i.there outs there order, (sym c.in_default.ensures.first ∙ c.in_default.ensures.none, order-over (i.order outs order) c.in_default.ensures.none))

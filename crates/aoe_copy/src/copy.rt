@@ -1,0 +1,82 @@
+//! The copy of sectors out of a device.
+ghost use Rattle.std.specs.Prelude.{◌≡◌, ◌≢◌, ◌+◌, ◌<◌, ◌≤◌, ◌^◌, Err};
+ghost use Rattle.aoe_base.specs.Faults.{Blamed};
+ghost use Rattle.aoe_tools.specs.Runs.{told};
+ghost use Rattle.aoe_copy.specs.Runs.{Copies, MayRun};
+
+use crate::copying::Copying;
+use crate::plan::{Plan, plan_of};
+use aoe_base::{NoMemory, TargetId};
+use aoe_io::{Clock, Link, Sink};
+use aoe_tools::{Ask, CopyRefusal, Device, Refusal, ToolRefusal, look_up};
+use std::alloc::Global;
+
+/// Copies sectors of a device that was found.
+fn copy_out<L: Link, C: Clock, K: Sink>(
+    alloc: Global,
+    ask: &Ask,
+    id: TargetId,
+    device: &Device,
+    plan: Plan,
+    sink: &mut K,
+    link: &mut L,
+    clock: &mut C,
+) -> Result<(), CopyRefusal>
+    requires total { device.now.total < 2 ^ 48 }
+    requires some { 0 < device.now.max }
+    requires max { device.now.max ≤ 17 }
+    requires same { plan.max ≡ device.now.max }
+    requires within { plan.at + plan.count ≤ device.now.total }
+    ensures runs { MayRun result ask.now id device.now plan
+        (record { turns = L.turns link.old; given = L.given link.old; taken = L.taken link.old; answers = C.answers clock.old; held = K.held sink.old })
+        (record { turns = L.turns link.new; given = L.given link.new; taken = L.taken link.new; answers = C.answers clock.new; held = K.held sink.new }) }
+    ensures count { L.faults link.old ≤ L.faults link.new }
+    ensures link { Blamed (result ≡ Err (CopyRefusal.Tool ToolRefusal.LinkFault))
+        (L.faults link.old) (L.faults link.new) }
+    ensures sink_count { K.faults sink.old ≤ K.faults sink.new }
+    ensures sink { Blamed (result ≡ Err CopyRefusal.SinkFault) (K.faults sink.old)
+        (K.faults sink.new) }
+{
+    match Copying::new(alloc, ask.port, id, device, plan) {
+        Ok(mut copying) => copying.run(ask.turns, sink, link, clock),
+        Err(NoMemory) => Err(CopyRefusal::Tool(ToolRefusal::NoMemory)),
+    }
+}
+
+/// Reads the `count` sectors of a device from `at` on, or all that it has there, and writes them to
+/// the sink in their order, each as soon as all before it are there. A command asks for as many
+/// sectors as the device takes, but at most `most`.
+pub fn get<L: Link, C: Clock, K: Sink>(
+    alloc: Global,
+    ask: &Ask,
+    id: TargetId,
+    at: u64,
+    count: Option<u64>,
+    most: u32,
+    sink: &mut K,
+    link: &mut L,
+    clock: &mut C,
+) -> Result<(), CopyRefusal>
+    requires some { 0 < most }
+    requires few { most ≤ 17 }
+    ensures run { Copies result ask.now id at count most
+        (told C.least C.answers L.turns L.given L.taken clock.old clock.new link.old link.new)
+        (K.held sink.old) (K.held sink.new) }
+    ensures unread { result ≢ Err CopyRefusal.SourceFault }
+    ensures count { L.faults link.old ≤ L.faults link.new }
+    ensures link { Blamed (result ≡ Err (CopyRefusal.Tool ToolRefusal.LinkFault))
+        (L.faults link.old) (L.faults link.new) }
+    ensures sink_count { K.faults sink.old ≤ K.faults sink.new }
+    ensures sink { Blamed (result ≡ Err CopyRefusal.SinkFault) (K.faults sink.old)
+        (K.faults sink.new) }
+{
+    let first = clock.now();
+    let device = match look_up(ask, id, first, most, link) {
+        Ok(device) => device,
+        Err(refusal) => return Err(CopyRefusal::Tool(refusal)),
+    };
+    match plan_of(&device, at, count) {
+        Some(plan) => copy_out(alloc, ask, id, &device, plan, sink, link, clock),
+        None => Err(CopyRefusal::Tool(ToolRefusal::Refused(Refusal::Range))),
+    }
+}
