@@ -68,9 +68,9 @@ answer_end n c = grind (arith, nat_tests)
 
 marked_end : (n : ℕ) (read_only : Bool) (a : AtaAnswer) → InEnd n a → InEnd n (as_marked read_only a)
 marked_end n true (Put span) e = tt
-marked_end n true (Give span) e = e
-marked_end n false a e = e
-marked_end n true _ e = tt
+marked_end n false (Put span) e = e
+marked_end n read_only (Give span) e = e
+marked_end n read_only _ e = tt
 
 decided_if : (n : ℕ) (read_only b : Bool) (d : AtaDecision) → InEnd n d.answer → Ranged n (decided read_only (if b then Ok d else Err BadArgument))
 decided_if n read_only true d e = marked_end n read_only d.answer e

@@ -34,7 +34,7 @@ use Rattle.aoe_target.specs.Sectors.{Tells}
 use Rattle.aoe_target.specs.Verdict.{as_marked, verdict}
 use Rattle.aoe_history.specs.Conversation.{asked_for, CanReply, HasSectors, TellsTruly}
 use Rattle.aoe_history.proofs.replies.ReplyLemmas.{error-tells, failure-tells, flush-tells, reply-read, replying, says-ata, says-error, write-tells}
-use Rattle.aoe_history.proofs.replies.RequestLemmas.{fields-are, no-list-step, request-asks, request-head}
+use Rattle.aoe_history.proofs.replies.RequestLemmas.{fields-are, no-list-step, request-asks, request-head, unmarked}
 
 same-reply : (e e2 : Effect) (r r2 : List ℕ) → replied e r ≡ replied e2 r2 → r ≡ r2
 same-reply e e2 r r2 p = cc
@@ -100,10 +100,10 @@ flush-by {reply = reply} x k effect.Synced args y = flush-tells k effect.Synced 
 flush-by x k effect.SyncFault args y = failed x k effect.SyncFault args outcome.Aborted refl refl y
 flush-by x k _ args y = absurd y
 
--- what a read-only device answers to a read, and to a write
-unmarked : (b : Bool) (span : Span) → as_marked true (if b then Give span else NotFound) ≡ (if b then Give span else NotFound)
-unmarked true span = refl
-unmarked false span = refl
+-- what a device that may be read-only answers to a read, and a read-only one to a write
+read-unmarked : (read_only b : Bool) (span : Span) → as_marked read_only (if b then Give span else NotFound) ≡ (if b then Give span else NotFound)
+read-unmarked read_only true span = refl
+read-unmarked read_only false span = refl
 
 aborted-by : (b : Bool) {station : Station} {h : Header} {reply : List ℕ} {a : Answer} {at : ℕ} {bytes : List ℕ} → IsHeard (Write at bytes) station h reply a
     → (k : State) (e : Effect) (args : AtaArgs)
@@ -115,11 +115,10 @@ aborted-by false x k e args y = failed x k e args outcome.NotFound refl refl (sa
 ata-by : (read_only : Bool) (op : Op) {station : Station} {h : Header} {reply : List ℕ} {a : Answer} → IsHeard op station h reply a → (k : State) (e : Effect)
     (args : AtaArgs) → AllowsAta station k.sectors h args (as_marked read_only (asked_for station.sectors op)) (replied e reply) → TellsTruly op k e reply a
 ata-by true (Write at bytes) x k e args y = aborted-by _ x k e args y
-ata-by false (Write at bytes) x k e args y = write-by _ x k e args y
-ata-by true (Read span) {station} x k e args y = read-by _ x k e args (rw (unmarked (nat_le (span.at + span.count) station.sectors) span) at y)
-ata-by false (Read span) x k e args y = read-by _ x k e args y
-ata-by true Flush x k e args y = flush-by x k e args y
-ata-by false Flush x k e args y = flush-by x k e args y
+ata-by false (Write at bytes) {station} x k e args y = write-by _ x k e args (rw (unmarked (asked_for station.sectors (Write at bytes))) at y)
+ata-by read_only (Read span) {station} x k e args y =
+    read-by _ x k e args (rw (read-unmarked read_only (nat_le (span.at + span.count) station.sectors) span) at y)
+ata-by read_only Flush x k e args y = flush-by x k e args y
 ata-by _ _ x k e args y = tt
 
 pub response-tells : (op : Op) (id : TargetId) (remote local : Mac) (tag : ℕ) (station : Station) (k : State) (e : Effect) (reply : List ℕ) (a : Answer)

@@ -9,7 +9,7 @@ use Rattle.aoe_ata.specs.Args.{args_bytes, registers}
 use Rattle.aoe_ata.specs.Command.{command_of}
 use Rattle.aoe_ata.specs.Decision.{answer_of, decision, written}
 use Rattle.aoe_ata.specs.declared.decision.AtaAnswer.{AtaAnswer}
-use Rattle.aoe_ata.specs.declared.decision.AtaAnswer.TheVariants.{Page, Sync}
+use Rattle.aoe_ata.specs.declared.decision.AtaAnswer.TheVariants.{Page, Put, Sync}
 use Rattle.aoe_ata.specs.declared.decision.AtaDecision.{AtaDecision}
 use Rattle.aoe_base.specs.declared.refusal.AoeError.{AoeError}
 use Rattle.aoe_base.specs.declared.refusal.AoeError.TheVariants.{BadArgument, TargetIsReserved, UnrecognizedCommand, UnsupportedVersion}
@@ -77,6 +77,11 @@ no-step heard admitted version free mark (Err error) c e = grind arith
 ok-if : (mark b : Bool) (x d : AtaDecision) → decided mark (if b then Ok x else Err BadArgument) ≡ Ata d → d ≡ record x { answer = as_marked mark x.answer }
 ok-if mark true x d e = cc
 ok-if mark false x d e = absurd cc
+
+-- what a device that isn't read-only answers
+pub unmarked : (answer : AtaAnswer) → as_marked false answer ≡ answer
+unmarked (Put span) = refl
+unmarked _ = refl
 
 -- what a verdict on an ATA command comes of
 pub record ComesOf (station : Station) (read_only : Bool) (h : Header) (args : List ℕ) (d : AtaDecision) : Type 0 where

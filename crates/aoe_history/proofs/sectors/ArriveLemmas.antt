@@ -27,6 +27,7 @@ use Rattle.aoe_history.specs.Lawful.{HasHost, IsArrival}
 use Rattle.aoe_history.specs.Reading.{is_from}
 use Rattle.aoe_history.specs.Setup.{is_slot, slot_of, HostSetup, IsSetup, Setup, SlotSetup}
 use Rattle.aoe_history.specs.Slots.{after_frame, fate_at, known_after, left_sectors, marked_after, marked_in, slot_after, state_after, verdict_after, Slot}
+use Rattle.aoe_history.proofs.replies.RequestLemmas.{unmarked}
 use Rattle.aoe_history.proofs.FrameLemmas.{arrives, bytes-arriving}
 use Rattle.aoe_history.proofs.LogicLemmas.{if-true, some-and}
 use Rattle.aoe_history.proofs.hosts.ApartLemmas.{arriving-active, one-write}
@@ -46,7 +47,7 @@ named-slot s slot dev ok there is = subst (λ (z : TargetId). slot_of s z ≡ So
 -- what a slot stores it was asked to store, whether or not it is read-only
 stored : (read_only : Bool) (answer : AtaAnswer) (z : Span) → as_marked read_only answer ≡ ata.Put z → answer ≡ ata.Put z
 stored true answer z e = grind arith
-stored false answer z e = e
+stored false answer z e = sym (unmarked answer) ∙ e
 
 put-op : (total : ℕ) (op : Op) (z : Span) → asked_for total op ≡ ata.Put z
     → (at : ℕ) × (bytes : List ℕ) × (op ≡ Write at bytes) × (span_of (Write at bytes) ≡ z)
