@@ -1,6 +1,6 @@
 -- The first part of a turn: the clock answers, outcomes are taken, and sectors are given to the sink.
-use Rattle.std.proofs.Common.{ℕ, suc, ◌≡◌, ◌+◌, ◌-◌, ◌≤◌, max, Bool, true, false, List, [], ◌∷◌, ◌++◌, length, reverse, Option, Some, None, refl, sym, ap, ◌∙◌, arith, append_assoc, append-nil, inl, inr}
-use Rattle.std.specs.Prelude.{◌⊎◌, Result, Ok, Err, All, Contains, IfSome}
+use Rattle.std.proofs.Common.{ℕ, suc, ◌≡◌, ◌+◌, ◌≤◌, max, false, List, [], ◌∷◌, ◌++◌, length, reverse, Option, Some, refl, sym, ap, ◌∙◌, arith, append_assoc, append-nil, inr}
+use Rattle.std.specs.Prelude.{Err, All, IfSome}
 use Rattle.std.proofs.lemmas.List.{reverse-append, reverse-reverse}
 use Rattle.std.proofs.lemmas.List.Elements.{Contains-append_right}
 use Rattle.aoe_flight.specs.Outstanding.{is_expired}
@@ -9,7 +9,7 @@ use Rattle.aoe_initiator.specs.declared.outcome.Done.{Done}
 use Rattle.aoe_initiator.specs.declared.outcome.Outcome.{Outcome}
 use Rattle.aoe_initiator.specs.declared.outcome.Outcome.TheVariants as outcome
 use Rattle.aoe_initiator.specs.Host.{Host, IsSame, Matches}
-use Rattle.aoe_initiator.specs.HostLaw.{ended, GaveUpInTurn}
+use Rattle.aoe_initiator.specs.HostLaw.{GaveUpInTurn}
 use Rattle.aoe_initiator.specs.HostLog.{clock, commands, sent_of, Event}
 use Rattle.aoe_initiator.specs.HostLog.Event.{Advances}
 use Rattle.aoe_io.proofs.BytesLemmas.{Took-then}
@@ -24,9 +24,8 @@ use Rattle.aoe_tools.specs.declared.end.ToolRefusal.TheVariants as tool
 use Rattle.aoe_copy.specs.declared.copying.Copying.{Copying}
 use Rattle.aoe_copy.specs.declared.plan.Plan.{Plan}
 use Rattle.aoe_copy.specs.declared.window.Window.{Window}
-use Rattle.aoe_copy.specs.Copying.{is_over, left_of, Collected, Ended, InOrder, IsFit, Keeps, Setting, Stands}
-use Rattle.aoe_copy.specs.Plan.{reach}
-use Rattle.aoe_copy.specs.Runs.{Breaks, HasSeen, Runs, Seen}
+use Rattle.aoe_copy.specs.Copying.{left_of, Collected, Ended, InOrder, Keeps, Setting, Stands}
+use Rattle.aoe_copy.specs.Runs.{Breaks, Seen}
 use Rattle.aoe_copy.specs.Steps.{answers_of, asked, frames_of, given, log_of, outcomes, quiet_turns, turns_of, written, AreSteps, Fails, GoesOn, Step}
 use Rattle.aoe_copy.specs.Steps.Step.{gives, ticks}
 use Rattle.aoe_copy.specs.Window.{in_order, AreRead, AreThere, Given, GivenPart, IsAsLong}

@@ -1,19 +1,16 @@
 -- A turn of the link, and what it ends.
-use Rattle.std.proofs.Common.{ℕ, ◌≡◌, ◌+◌, ◌≤◌, Bool, true, false, List, [], ◌∷◌, ◌++◌, reverse, Option, Some, None, refl, sym, ap, ◌∙◌, arith, inl, inr}
-use Rattle.std.specs.Prelude.{◌⊎◌}
+use Rattle.std.proofs.Common.{ℕ, ◌≡◌, Bool, true, false, List, [], ◌∷◌, ◌++◌, reverse, Option, Some, None, refl, sym, ap, ◌∙◌, arith}
 use Rattle.std.proofs.lemmas.List.Elements.{Contains-append_right}
 use Rattle.aoe_initiator.proofs.MatchLemmas.{same-then}
 use Rattle.aoe_initiator.specs.declared.outcome.Done.{Done}
-use Rattle.aoe_initiator.specs.Host.{Matches}
 use Rattle.aoe_io.proofs.LinkLemmas.{turned-then}
-use Rattle.aoe_io.specs.Link.{Turn, Turned}
+use Rattle.aoe_io.specs.Link.{Turn}
 use Rattle.aoe_tools.proofs.RunLemmas.{open-heard, count_heard as count_of}
-use Rattle.aoe_tools.specs.TransferRun.{after_heard, quiet_by, told_by, Heard, Hears}
+use Rattle.aoe_tools.specs.TransferRun.{quiet_by, told_by, Heard}
 use Rattle.aoe_tools.specs.TransferSteps.{is_heard, HearsOne}
 use Rattle.aoe_copy.specs.declared.copying.Copying.{Copying}
 use Rattle.aoe_copy.specs.declared.plan.Plan.{Plan}
-use Rattle.aoe_copy.specs.Copying.{count_heard, left_of, GoOn, InOrder, Keeps, Passes, Setting, Stands, Went}
-use Rattle.aoe_copy.specs.Plan.{reach}
+use Rattle.aoe_copy.specs.Copying.{count_heard, Passes, Setting, Went}
 use Rattle.aoe_copy.specs.Runs.{Seen}
 use Rattle.aoe_copy.specs.Steps.{asked, given, log_of, outcomes, turns_of, GoesOn, IsFilled, Step}
 use Rattle.aoe_copy.specs.Steps.Step.{hears}

@@ -1,5 +1,6 @@
 mod CollectLemmas
 mod HearLemmas
+mod LawLemmas
 mod OutcomeLemmas
 mod StepLemmas
 mod TurnLemmas

@@ -1,14 +1,13 @@
 -- What each step changes of what a copy keeps and is true of.
-use Rattle.std.proofs.Common.{ℕ, zero, suc, ◌≡◌, ◌+◌, ◌-◌, ◌*◌, ◌<◌, ◌≤◌, min, Bool, true, false, not, ◌&&◌, nat_eq, nat_lt, List, [], ◌∷◌, ◌++◌, length, map, Option, Some, None, refl, sym, ap, ◌∙◌, arith, inl, inr, length-append}
-use Rattle.std.specs.Prelude.{◌⊎◌, Result, Ok, Err, All, Contains, IfSome}
+use Rattle.std.proofs.Common.{ℕ, suc, ◌≡◌, ◌+◌, ◌<◌, ◌≤◌, true, false, nat_lt, List, [], ◌∷◌, length, Option, refl, sym, ap, ◌∙◌, arith, inl, inr}
+use Rattle.std.specs.Prelude.{Err}
 use Rattle.std.proofs.lemmas.List.{length-map}
-use Rattle.std.proofs.lemmas.Bool.{and_parts, cases_Bool, cases_lt, lt-ltb, ltb-true}
+use Rattle.std.proofs.lemmas.Bool.{and_parts, cases_lt, lt-ltb, ltb-true}
 use Rattle.aoe_initiator.proofs.MatchLemmas.{same-then}
 use Rattle.aoe_initiator.specs.declared.device.Attached.{Attached}
 use Rattle.aoe_initiator.specs.declared.device.Device.{Device}
 use Rattle.aoe_initiator.specs.Host.{Host, IsSame, Matches}
 use Rattle.aoe_initiator.specs.HostLog.{commands, submitted, Event}
-use Rattle.aoe_initiator.specs.HostLog.Event.{Submits}
 use Rattle.aoe_io.proofs.LinkLemmas.{Added-then}
 use Rattle.aoe_io.specs.Link.{Added}
 use Rattle.aoe_tools.proofs.RunLemmas.{open-frames}
@@ -20,11 +19,11 @@ use Rattle.aoe_tools.specs.declared.end.ToolRefusal.TheVariants as tool
 use Rattle.aoe_initiator.specs.declared.step.Sent.{Sent}
 use Rattle.aoe_copy.specs.declared.copying.Copying.{Copying}
 use Rattle.aoe_copy.specs.declared.plan.Plan.{Plan}
-use Rattle.aoe_copy.specs.Copying.{is_open, left_of, may_ask, open_in, AsksOne, Ended, GoOn, IsFit, Keeps, Setting, Stands, Went}
+use Rattle.aoe_copy.specs.Copying.{is_open, left_of, may_ask, AsksOne, Ended, GoOn, IsFit, Keeps, Setting, Stands, Went}
 use Rattle.aoe_copy.specs.Plan.{reach}
-use Rattle.aoe_copy.specs.Runs.{HasSeen, Runs, Seen}
-use Rattle.aoe_copy.specs.Steps.{asked, frames_of, given, log_of, outcomes, read_at, the_device, ticket_at, GoesOn, IsFilled, IsWell, MayAsk, MaySend, Step}
-use Rattle.aoe_copy.specs.Steps.Step.{asks, gives, hears, sends, ticks}
+use Rattle.aoe_copy.specs.Runs.{HasSeen, Seen}
+use Rattle.aoe_copy.specs.Steps.{asked, frames_of, given, log_of, read_at, the_device, ticket_at, GoesOn, IsFilled, MayAsk, MaySend, Step}
+use Rattle.aoe_copy.specs.Steps.Step.{asks, sends}
 use Rattle.aoe_copy.proofs.WindowLemmas.{there-open}
 
 pub go-on-self : (p : Plan) (steps : List Step) → GoOn p steps steps

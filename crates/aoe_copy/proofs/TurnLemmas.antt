@@ -1,8 +1,7 @@
 -- A turn of its two parts, and one turn after another.
-use Rattle.std.proofs.Common.{ℕ, suc, ◌≡◌, ◌+◌, ◌-◌, ◌*◌, ◌<◌, ◌≤◌, Bool, true, false, ◌&&◌, nat_eq, List, [], ◌∷◌, length, Option, Some, None, refl, sym, ap, ◌∙◌, arith, inl, inr}
-use Rattle.std.specs.Prelude.{Result, Ok, Err, IfSome}
+use Rattle.std.proofs.Common.{ℕ, ◌≡◌, ◌+◌, ◌-◌, ◌*◌, ◌<◌, true, nat_eq, List, [], length, Option, Some, None, refl, sym, ap, ◌∙◌, arith, inl}
+use Rattle.std.specs.Prelude.{Result, Ok, Err}
 use Rattle.std.proofs.lemmas.Bool.{and_parts, eqb-true}
-use Rattle.aoe_initiator.specs.Host.{Host, Matches}
 use Rattle.aoe_io.proofs.BytesLemmas.{Took-nothing}
 use Rattle.aoe_io.proofs.LinkLemmas.{turned-nothing}
 use Rattle.aoe_tools.proofs.ListenLemmas.{added-nothing}
@@ -18,8 +17,8 @@ use Rattle.aoe_copy.specs.declared.copying.Passed.TheVariants as passed
 use Rattle.aoe_copy.specs.declared.plan.Plan.{Plan}
 use Rattle.aoe_copy.specs.Copying.{is_over, left_now, left_of, Begins, Collected, Ended, InOrder, IsFit, Keeps, Passes, Setting, Stands, Turns}
 use Rattle.aoe_copy.specs.Plan.{reach}
-use Rattle.aoe_copy.specs.Runs.{HasSeen, Runs, Seen}
-use Rattle.aoe_copy.specs.Steps.{asked, given, log_of, outcomes, quiet_turns, GoesOn, Step}
+use Rattle.aoe_copy.specs.Runs.{Seen}
+use Rattle.aoe_copy.specs.Steps.{asked, given, outcomes, quiet_turns, Step}
 
 -- with an empty window all that was asked for was given, and where nothing is left to be asked for that is all
 pub over : {c : Setting} {seen : Seen} {steps : List Step} {x : Copying} (turns : ℕ) → Collected c seen steps x → IsFit x → true ≡ is_over x

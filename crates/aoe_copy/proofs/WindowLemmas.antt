@@ -1,11 +1,11 @@
 -- The window: what stands in its places, and what leaves it.
-use Rattle.std.proofs.Common.{ℕ, zero, suc, ◌≡◌, ◌+◌, ◌<◌, ◌≤◌, ◌^◌, List, [], ◌∷◌, ◌++◌, length, set, Option, Some, None, refl, sym, ap, ◌∙◌, arith, length-append}
-use Rattle.std.specs.Prelude.{Contains, IfSome, Result, Ok, Err}
+use Rattle.std.proofs.Common.{ℕ, zero, suc, ◌≡◌, ◌+◌, ◌<◌, ◌≤◌, List, [], ◌∷◌, ◌++◌, length, set, Option, Some, None, refl, ap, ◌∙◌, arith}
+use Rattle.std.specs.Prelude.{Contains}
 use Rattle.aoe_initiator.specs.declared.outcome.Done.{Done}
 use Rattle.aoe_io.proofs.BytesLemmas.{Took-nothing, Took-then}
 use Rattle.aoe_io.specs.Bytes.{Took, TookSome}
 use Rattle.aoe_copy.specs.declared.window.Window.{Window}
-use Rattle.aoe_copy.specs.Window.{in_order, read_done, AreRead, AreThere, Given, GivenPart, IsTaken}
+use Rattle.aoe_copy.specs.Window.{in_order, read_done, AreThere, Given, GivenPart, IsTaken}
 
 -- sectors come to a place
 pub put-there : (outs : List Done) (n k : ℕ) (bytes : List ℕ) (slots : List (Option (List ℕ))) → k < length slots → Contains outs (read_done (n + k) bytes)

@@ -1,4 +1,5 @@
 pub mod Copying
+pub mod Law
 pub mod Plan
 pub mod Runs
 pub mod Steps

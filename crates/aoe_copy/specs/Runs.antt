@@ -1,5 +1,5 @@
 -- A whole copy, over a link, a clock and a sink that tell what they gave and took.
-use Rattle.std.specs.Prelude.{ℕ, ◌≡◌, ◌+◌, ◌<◌, ◌≤◌, ◌⊎◌, List, [], ◌∷◌, Option, Some, Result, Ok, Err}
+use Rattle.std.specs.Prelude.{ℕ, ◌≡◌, ◌+◌, ◌<◌, ◌≤◌, ◌⊎◌, List, Option, Result, Ok, Err}
 use Rattle.aoe_base.specs.declared.address.TargetId.{TargetId}
 use Rattle.aoe_initiator.specs.Host.{Host}
 use Rattle.aoe_io.specs.Bytes.{Took, TookSome}
@@ -17,7 +17,7 @@ use Rattle.aoe_tools.specs.declared.lookup.Device.{Device}
 use Rattle.aoe_tools.specs.declared.question.Ask.{Ask}
 use Rattle.aoe_copy.specs.declared.plan.Plan.{Plan}
 use Rattle.aoe_copy.specs.Plan.{plan_of, reach, wanted}
-use Rattle.aoe_copy.specs.Steps.{Step, answers_of, asked, frames_of, given, outcomes, quiet_turns, turns_of, written, AreSteps, Fails, GoesOn, IsNextRead, MayAsk}
+use Rattle.aoe_copy.specs.Steps.{Step, answers_of, frames_of, given, outcomes, quiet_turns, turns_of, written, AreSteps, Fails, GoesOn, IsNextRead, MayAsk}
 
 -- what link, clock and sink tell: how many turns there were, what came in them, the frames that were taken; the answers; the bytes held
 pub record Seen : Type 0 where

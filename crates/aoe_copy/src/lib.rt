@@ -12,7 +12,9 @@
 
 mod copy;
 mod copying;
+mod law;
 mod plan;
 mod window;
 
 pub use copy::get;
+pub use law::copied_law;

@@ -3,6 +3,7 @@ ghost use Rattle.std.specs.Prelude.{◌<◌, ◌≤◌, All, IfOk, length};
 ghost use Rattle.aoe_io.specs.LinkMemory.{IsShort};
 
 use aoe_base::{Blob, Mac, NoMemory, TargetId};
+use aoe_copy::get as get_any;
 use aoe_frame::Frame;
 use aoe_io::{MemLink, MemSink, MemSource, SetClock};
 use aoe_tools::{Ask, CopyRefusal, Refusal, ToolRefusal, flush, get, put};
@@ -94,6 +95,73 @@ fn gets_sectors(rt: HostRuntime) -> Result<(), Fail> {
     assert!(rt; got == Ok(()) && link.count() == 4 && sink.bytes().len() == 1536);
     let edge = [0x5a, 0x5a, 0x33, 0x33];
     assert!(rt; sink.bytes().get(1022..1026) == Some(edge.as_slice()));
+    Ok(())
+}
+
+/// How a copy of any length ends.
+fn gets_any(
+    alloc: Global,
+    at: u64,
+    count: Option<u64>,
+    most: u32,
+    sink: &mut MemSink,
+    link: &mut MemLink,
+) -> Result<(), CopyRefusal>
+    requires some { 0 < most }
+    requires few { most ≤ 17 }
+{
+    let ask = Ask { port: A, turns: 50 };
+    let mut clock = SetClock::new(0, 10);
+    get_any(alloc, &ask, DEVICE, at, count, most, sink, link, &mut clock)
+}
+
+#[test]
+fn gets_sectors_in_order(rt: HostRuntime) -> Result<(), Fail> {
+    let (front, last) = ([0x5a; 1024], [0x33; 512]);
+    let turns: [Option<(u8, &[u8])>; 3] = [Some((2, &last)), None, Some((1, &front))];
+    let mut link = link_of(rt.alloc(), &turns)?;
+    let mut sink = MemSink::new(rt.alloc(), 2000)?;
+    let got = gets_any(rt.alloc(), 2, Some(3), 2, &mut sink, &mut link);
+    assert!(rt; got == Ok(()) && link.count() == 4 && sink.bytes().len() == 1536);
+    let edge = [0x5a, 0x5a, 0x33, 0x33];
+    assert!(rt; sink.bytes().get(1022..1026) == Some(edge.as_slice()));
+    Ok(())
+}
+
+#[test]
+fn gets_all_sectors_from_one_on(rt: HostRuntime) -> Result<(), Fail> {
+    let data = [0x77; 2048];
+    let turns: [Option<(u8, &[u8])>; 1] = [Some((1, &data))];
+    let mut link = link_of(rt.alloc(), &turns)?;
+    let mut sink = MemSink::new(rt.alloc(), 3000)?;
+    let got = gets_any(rt.alloc(), 12, None, 17, &mut sink, &mut link);
+    assert!(rt; got == Ok(()) && link.count() == 3 && sink.bytes() == data.as_slice());
+    let beyond = gets_any(
+        rt.alloc(),
+        12,
+        Some(5),
+        17,
+        &mut sink,
+        &mut link_of(rt.alloc(), &[])?,
+    );
+    let range = CopyRefusal::Tool(ToolRefusal::Refused(Refusal::Range));
+    assert!(rt; beyond == Err(range) && sink.bytes().len() == 2048);
+    Ok(())
+}
+
+#[test]
+fn gives_the_front_of_a_copy_that_breaks_off(rt: HostRuntime) -> Result<(), Fail> {
+    let (front, last) = ([0x5a; 1024], [0x33; 512]);
+    let turns: [Option<(u8, &[u8])>; 2] = [Some((1, &front)), Some((3, &last))];
+    let mut link = link_of(rt.alloc(), &turns)?;
+    let mut sink = MemSink::new(rt.alloc(), 3000)?;
+    let got = gets_any(rt.alloc(), 2, Some(5), 2, &mut sink, &mut link);
+    let unanswered = CopyRefusal::Tool(ToolRefusal::Unanswered { turns: 50 });
+    assert!(rt; got == Err(unanswered) && sink.bytes() == front.as_slice());
+    let mut short = MemSink::new(rt.alloc(), 1000)?;
+    let mut again = link_of(rt.alloc(), &turns)?;
+    let full = gets_any(rt.alloc(), 2, Some(5), 2, &mut short, &mut again);
+    assert!(rt; full == Err(CopyRefusal::SinkFault) && short.bytes().len() <= 1000);
     Ok(())
 }
 

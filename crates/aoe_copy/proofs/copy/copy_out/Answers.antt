@@ -1,4 +1,4 @@
-use Rattle.std.proofs.Common.{inl, inr, refl}
+use Rattle.std.proofs.Common.{inl, refl}
 use Rattle.aoe_copy.proofs.copy.copy_out.Goals as goal
 
 pub returns-in-Err-clause-runs : goal.returns-in-Err-clause-runs

@@ -1,5 +1,4 @@
 use Rattle.std.proofs.Common.{inl, inr, refl}
-use Rattle.aoe_tools.specs.Asking.{Answers}
 use Rattle.aoe_copy.proofs.copy.get.Goals as goal
 
 pub returns-in-Err-clause-run : goal.returns-in-Err-clause-run

@@ -1,4 +1,3 @@
-use Rattle.std.proofs.Common.{refl, sym, ◌∙◌}
 use Rattle.aoe_copy.specs.Steps.{outcomes}
 use Rattle.aoe_copy.proofs.CollectLemmas.{collected, ends-by, ends-part, keeps-taken, ticked, Advanced}
 use Rattle.aoe_copy.proofs.copying.Copying.collect.Goals as goal

@@ -1,4 +1,4 @@
-use Rattle.std.proofs.Common.{sym, ◌∙◌}
+use Rattle.std.proofs.Common.{◌∙◌}
 use Rattle.aoe_copy.proofs.HearLemmas.{heard-one, sent-then, still-filled, was-answered, was-quiet}
 use Rattle.aoe_copy.proofs.StepLemmas.{goes-on, link-failed}
 use Rattle.aoe_copy.proofs.copying.Copying.exchange.Goals as goal

@@ -1,6 +1,6 @@
-use Rattle.std.proofs.Common.{refl, sym, ◌∙◌, ◌≡◌, arith}
+use Rattle.std.proofs.Common.{refl, ◌∙◌, arith}
 use Rattle.aoe_copy.specs.Runs.{Seen}
-use Rattle.aoe_copy.proofs.TurnLemmas.{begun, goes-on, goes-on-answered, unanswered}
+use Rattle.aoe_copy.proofs.TurnLemmas.{begun, goes-on, goes-on-answered}
 use Rattle.aoe_copy.proofs.copying.Copying.run.Goals as goal
 
 pub turns-init : goal.turns-init

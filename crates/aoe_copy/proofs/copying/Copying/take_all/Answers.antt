@@ -1,5 +1,4 @@
-use Rattle.std.proofs.Common.{refl, sym, ap, ◌∙◌, ◌≡◌, ◌∷◌, arith, List, length}
-use Rattle.aoe_initiator.specs.declared.outcome.Done.{Done}
+use Rattle.std.proofs.Common.{refl, sym, ap, ◌∙◌}
 use Rattle.aoe_initiator.specs.Host.{Host}
 use Rattle.aoe_copy.proofs.OutcomeLemmas.{fails-next, next-there, order-next, order-over}
 use Rattle.aoe_copy.proofs.copying.Copying.take_all.Goals as goal

@@ -1,4 +1,4 @@
-use Rattle.std.proofs.Common.{refl, sym, ◌∙◌}
+use Rattle.std.proofs.Common.{sym, ◌∙◌}
 use Rattle.aoe_copy.proofs.TurnLemmas.{over, turns-behind}
 use Rattle.aoe_copy.proofs.copying.Copying.turn.Goals as goal
 

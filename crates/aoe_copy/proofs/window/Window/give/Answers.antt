@@ -1,4 +1,4 @@
-use Rattle.std.proofs.Common.{refl, sym, ap, ◌∙◌, ◌+◌, arith, length, List, Option}
+use Rattle.std.proofs.Common.{refl, ◌∙◌, arith}
 use Rattle.aoe_copy.proofs.WindowLemmas.{given-none, gives-more, gives-part, taken-fewer, taken-sum}
 use Rattle.aoe_copy.proofs.window.Window.give.Goals as goal
 

@@ -1,5 +1,4 @@
-use Rattle.std.proofs.Common.{◌≡◌, ◌+◌, suc}
-use Rattle.aoe_copy.specs.Window.{read_done}
+use Rattle.std.proofs.Common.{suc}
 use Rattle.aoe_copy.proofs.WindowLemmas.{put-there}
 use Rattle.aoe_copy.proofs.window.Window.put.Goals as goal
 
