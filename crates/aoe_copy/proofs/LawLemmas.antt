@@ -26,6 +26,7 @@ use Rattle.aoe_io.specs.Link.{came, quiet, ended as over}
 use Rattle.aoe_paths.specs.PathLog.{timeout_on}
 use Rattle.aoe_tools.specs.TransferCourse.{Submission}
 use Rattle.aoe_tools.specs.TransferRun.{after_heard, Heard, IsAnswer}
+use Rattle.aoe_copy.specs.Window.{most_open}
 use Rattle.aoe_copy.specs.declared.plan.Plan.{Plan}
 use Rattle.aoe_copy.specs.Law.{as_asked, reads, AreResponses, IsFront, IsResponse}
 use Rattle.aoe_copy.specs.Plan.{span_at}
@@ -85,7 +86,7 @@ op-of p steps c k there is =
     rw (← place) (ap (λ (s : Submission). s.op) found.1)
 
 -- no more than a window is open
-pub window-law : (base : Host) (p : Plan) (steps : List Step) → AreSteps base p steps → asked steps ≤ given steps + 64
+pub window-law : (base : Host) (p : Plan) (steps : List Step) → AreSteps base p steps → asked steps ≤ given steps + most_open
 window-law base p [] are = omega arith
 window-law base p (ticks answer gave_up ∷ steps) are = window-law base p steps are.0
 window-law base p (asks ∷ steps) are = omega (arith, are.1.1.few)

@@ -17,6 +17,7 @@ use Rattle.aoe_tools.specs.TransferRun.{Outgoing}
 use Rattle.aoe_tools.specs.declared.end.CopyRefusal.TheVariants as copy
 use Rattle.aoe_tools.specs.declared.end.ToolRefusal.TheVariants as tool
 use Rattle.aoe_initiator.specs.declared.step.Sent.{Sent}
+use Rattle.aoe_copy.specs.Window.{most_open}
 use Rattle.aoe_copy.specs.declared.copying.Copying.{Copying}
 use Rattle.aoe_copy.specs.declared.plan.Plan.{Plan}
 use Rattle.aoe_copy.specs.Copying.{is_open, left_of, may_ask, AsksOne, Ended, GoOn, IsFit, Keeps, Setting, Stands, Went}
@@ -49,7 +50,7 @@ seen-asks s = record { turned = s.turned; took = s.took; told = s.told; wrote = 
 
 module _ {c : Setting} {steps : List Step} {x : Copying} (k : Keeps c steps x) (fit : IsFit x) where
   -- as many commands are under way as stand in the window
-  pub few-asked : length x.window.slots.items < 64 → asked steps < given steps + 64
+  pub few-asked : length x.window.slots.items < most_open → asked steps < given steps + most_open
   few-asked few = omega (arith, k.asked_is, k.given_is, fit.tickets, few)
 
   pub sectors-left : x.reached < x.plan.count → reach c.plan (asked steps) < c.plan.count
@@ -57,12 +58,12 @@ module _ {c : Setting} {steps : List Step} {x : Copying} (k : Keeps c steps x) (
 
   pub asks-may : may_ask x ≡ true → MayAsk c.plan steps
   asks-may may =
-      let both = and_parts (nat_lt (length x.window.slots.items) 64) (nat_lt x.reached x.plan.count) may in
+      let both = and_parts (nat_lt (length x.window.slots.items) most_open) (nat_lt x.reached x.plan.count) may in
       record { left = sectors-left (ltb-true _ _ both.1); few = few-asked (ltb-true _ _ both.0) }
 
   -- none may be submitted, so the window is filled
   pub filled : may_ask x ≡ false → IsFilled c.plan steps
-  filled no_more = elim (cases_lt (length x.window.slots.items) 64) [
+  filled no_more = elim (cases_lt (length x.window.slots.items) most_open) [
     | inl few ↦ elim (cases_lt x.reached x.plan.count) [
       | inl left ↦ absurd (let few_b = lt-ltb _ _ few in let left_b = lt-ltb _ _ left in let no = rw (few_b, left_b) at no_more in cc)
       | inr over ↦ inl (omega (arith, over, fit.within, k.reached_is, ap (λ (p : Plan). p.count) k.plan_is))

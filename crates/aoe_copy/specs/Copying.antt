@@ -20,7 +20,7 @@ use Rattle.aoe_copy.specs.declared.plan.Plan.{Plan}
 use Rattle.aoe_copy.specs.Plan.{reach}
 use Rattle.aoe_copy.specs.Runs.{HasSeen, Runs, Seen}
 use Rattle.aoe_copy.specs.Steps.{Step, asked, given, log_of, outcomes, quiet_turns, the_device, ticket_at, AreSteps, Fails, GoesOn, IsFilled, IsWell}
-use Rattle.aoe_copy.specs.Window.{AreThere}
+use Rattle.aoe_copy.specs.Window.{most_open, AreThere}
 
 -- its numbers fit one another: there is one device, each command submitted stands in the window or was given, no command asks for no
 -- sector, and no number is near the end of its type
@@ -32,7 +32,7 @@ pub record IsFit (x : Copying) : Type 0 where
   pub small : x.plan.at + x.plan.count ≤ 2 ^ 48
   pub some : 0 < x.plan.max
   pub most : x.plan.max ≤ 17
-  pub few_slots : length x.window.slots.items ≤ 64
+  pub few_slots : length x.window.slots.items ≤ most_open
 
 -- what never changes: the host before the first step, what is copied, and what link, clock and sink told before
 pub record Setting : Type 0 where
@@ -84,7 +84,7 @@ is_over x = nat_eq (length x.window.slots.items) 0 && nat_eq x.reached x.plan.co
 
 -- sectors are left that may be asked for
 abbrev pub may_ask : Copying → Bool
-may_ask x = nat_lt (length x.window.slots.items) 64 && nat_lt x.reached x.plan.count
+may_ask x = nat_lt (length x.window.slots.items) most_open && nat_lt x.reached x.plan.count
 
 -- the sectors that the next command asks for
 abbrev pub next_count : Copying → ℕ

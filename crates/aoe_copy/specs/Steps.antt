@@ -15,7 +15,7 @@ use Rattle.aoe_tools.specs.TransferRun.{after_heard, after_tick, quiet_by, told_
 use Rattle.aoe_tools.specs.declared.end.ToolRefusal.{ToolRefusal}
 use Rattle.aoe_copy.specs.declared.plan.Plan.{Plan}
 use Rattle.aoe_copy.specs.Plan.{reach, span_at}
-use Rattle.aoe_copy.specs.Window.{read_done}
+use Rattle.aoe_copy.specs.Window.{most_open, read_done}
 
 -- A step: the clock answers, and commands that nobody answered for too long are given up, the latest first; the next command is
 -- submitted; a frame is sent; a turn of the link brings a frame or nothing, and may end a command; the sink takes the sectors of the next
@@ -132,14 +132,14 @@ IsWell d = failure 0 d.outcome ≡ None
 abbrev pub GoesOn : List Step → Type 0
 GoesOn steps = All IsWell (outcomes steps)
 
--- one more command may be submitted: sectors are left, and fewer than 64 of those before it are under way or wait for the sink
+-- one more command may be submitted: sectors are left, and fewer than a window of those before it are under way or wait for the sink
 pub record MayAsk (p : Plan) (steps : List Step) : Type 0 where
   pub left : reach p (asked steps) < p.count
-  pub few : asked steps < given steps + 64
+  pub few : asked steps < given steps + most_open
 
 -- as many as may be were submitted
 abbrev pub IsFilled : Plan → List Step → Type 0
-IsFilled p steps = (reach p (asked steps) ≡ p.count) ⊎ (given steps + 64 ≤ asked steps)
+IsFilled p steps = (reach p (asked steps) ≡ p.count) ⊎ (given steps + most_open ≤ asked steps)
 
 -- the next command for the sink was answered with these sectors
 abbrev pub IsNextRead : List Step → List ℕ → Type 0

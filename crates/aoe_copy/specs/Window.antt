@@ -6,6 +6,11 @@ use Rattle.aoe_initiator.specs.declared.outcome.Outcome.TheVariants as outcome
 use Rattle.aoe_io.specs.Bytes.{Took, TookSome}
 use Rattle.aoe_copy.specs.declared.window.Window.{Window}
 
+-- the most commands that are under way or wait for the sink: as many as shelves announce that they queue (AoEr11, "Query Config
+-- Information", Buffer Count)
+abbrev pub most_open : ℕ
+most_open = 16
+
 -- the command with a ticket was answered with these sectors
 abbrev pub read_done : ℕ → List ℕ → Done
 read_done n bytes = record { ticket = record { 0 = n }; outcome = outcome.Read bytes }

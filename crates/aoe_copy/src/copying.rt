@@ -10,7 +10,7 @@ ghost use Rattle.aoe_tools.specs.TransferSteps.{HearsOne, IsUnused};
 ghost use Rattle.aoe_copy.specs.Copying.{is_over, may_ask, Asks, AsksOne, Begins, Collects, InOrder, IsFit, Keeps, Sends, Setting, Stands, TakesAll, Turns};
 ghost use Rattle.aoe_copy.specs.Runs.{Runs, Seen};
 ghost use Rattle.aoe_copy.specs.Steps.{outcomes, GoesOn, Step};
-ghost use Rattle.aoe_copy.specs.Window.{AreThere, IsAsLong};
+ghost use Rattle.aoe_copy.specs.Window.{most_open, AreThere, IsAsLong};
 
 use crate::plan::Plan;
 use crate::window::{MAX_OPEN, Window};
@@ -130,7 +130,7 @@ impl Copying {
     fn ask_next(&mut self) -> Result<(), NoMemory>
         requires fit { IsFit self.old }
         requires left { self.old.reached < self.old.plan.count }
-        requires few { length self.old.window.slots.items < 64 }
+        requires few { length self.old.window.slots.items < most_open }
         ensures fit { OnOk result (IsFit self.new) }
         ensures asks { OnOk result (AsksOne self.old self.new) }
     {

@@ -11,8 +11,9 @@ use aoe_io::{Sink, give_all};
 use aoe_tools::{Refusal, ToolRefusal};
 use std::alloc::Global;
 
-/// The most commands of a window.
-pub(crate) const MAX_OPEN: u64 = 64;
+/// The most commands of a window: as many as shelves announce that they queue (AoEr11, "Query Config
+/// Information", Buffer Count). More of them at once would overrun what a socket holds.
+pub(crate) const MAX_OPEN: u64 = 16;
 
 /// The commands behind those whose sectors were given to the sink, in the order of their tickets.
 #[derive(Drop)]

@@ -1,4 +1,5 @@
 use Rattle.std.proofs.Common.{◌≡◌, ◌-◌, List, length}
+use Rattle.aoe_copy.specs.Window.{most_open}
 use Rattle.aoe_copy.specs.Copying.{IsFit, Keeps, Setting, Stands, Went}
 use Rattle.aoe_copy.specs.Runs.{Seen}
 use Rattle.aoe_copy.specs.Steps.{GoesOn, Step}
@@ -12,4 +13,4 @@ invariant-commands l = record {
 }
 
 abbrev pub decreases-commands : goal.decreases-commands
-decreases-commands l = 64 - length l.self.window.slots.items
+decreases-commands l = most_open - length l.self.window.slots.items
