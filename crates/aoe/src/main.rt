@@ -18,6 +18,7 @@ mod arguments;
 mod audit;
 mod clock;
 mod files;
+mod flow;
 mod live;
 mod log;
 mod mirror;
@@ -40,6 +41,7 @@ use aoe_words::{Command, PortWords, Wrong, files_of, ports_of, read_words, slip_
 use arguments::words;
 use clock::SystemClock;
 use files::{FileDisk, FileRefusal, KeepDoubt};
+use flow::Flow;
 use log::{Log, say};
 use status::Status;
 use std::fs::File;
@@ -324,6 +326,7 @@ fn say_slip(rt: &HostRuntime, words: &[String]) {
 fn run_over(
     rt: &HostRuntime,
     words: &[String],
+    command: Option<&Command>,
     disks: &mut [Option<FileDisk>],
     links: &mut [Until<WireLink<Wire>>],
 ) -> (Status, u64)
@@ -336,6 +339,9 @@ fn run_over(
     };
     let mut source = Input::new(reader);
     let mut sink = Output::new(rt.stdout());
+    if let Some(Command::LongGet(asked)) = command {
+        sink.show(Flow::on_terminal(rt, asked.count));
+    }
     let mut clock = SystemClock::new(rt);
     let status = aoe(
         rt.alloc(),
@@ -346,6 +352,7 @@ fn run_over(
         links,
         &mut clock,
     );
+    sink.end_show();
     (status, sink.taken())
 }
 
@@ -393,7 +400,13 @@ fn run_named(
     if let (Some(log), Some(Command::Serve(serve))) = (&mut log, &command) {
         log.start(serve, ends);
     }
-    let (status, written) = run_over(rt, words, disks.as_mut_slice(), links.as_mut_slice());
+    let (status, written) = run_over(
+        rt,
+        words,
+        command.as_ref(),
+        disks.as_mut_slice(),
+        links.as_mut_slice(),
+    );
     tell_offloaded(rt, links.as_slice());
     if let (Some(log), [link]) = (&log, links.as_slice())
         && matches!(command, Some(Command::Serve(_)))

@@ -5,6 +5,7 @@ ghost use Rattle.std.specs.Io.KnownBytes.{WriteAppends};
 ghost use Rattle.std.specs.IoError.{error_kind};
 ghost use Rattle.aoe_base.specs.Faults.{Rose};
 
+use crate::flow::Flow;
 use aoe_base::Failed;
 use aoe_io::{Sink, Source};
 use std::io;
@@ -108,6 +109,9 @@ pub struct Output<W> {
     writer: W,
     faults: u64,
     taken: u64,
+
+    /// Where a terminal is told how much that is.
+    flow: Option<Flow>,
 }
 
 impl<W: Write> Output<W> {
@@ -119,6 +123,35 @@ impl<W: Write> Output<W> {
             writer,
             faults: 0,
             taken: 0,
+            flow: None,
+        }
+    }
+
+    /// Tells a terminal from now on how much the writer took.
+    pub fn show(&mut self, flow: Option<Flow>)
+        ensures { self.new ≡ record self.old { flow = flow } }
+    {
+        self.flow = flow;
+    }
+
+    /// Ends what a terminal is told.
+    pub fn end_show(&mut self) {
+        if let Some(flow) = self.flow.take() {
+            flow.close(self.taken);
+        }
+    }
+
+    /// Counts bytes that the writer took, and tells the terminal, where it is told.
+    #[inline(always)]
+    fn count(&mut self, bytes: usize)
+        ensures taken { self.old.taken + bytes < 2 ^ 64
+            → self.new.taken ≡ self.old.taken + bytes }
+        ensures writer { self.new.writer ≡ self.old.writer }
+        ensures faults { self.new.faults ≡ self.old.faults }
+    {
+        self.taken = self.taken.wrapping_add(bytes as u64);
+        if let Some(flow) = &mut self.flow {
+            flow.say_in_time(self.taken);
         }
     }
 
@@ -150,7 +183,7 @@ impl<W: Write> Output<W> {
             && let Ok(n) = write_through(&mut self.writer, piece)
             && n > 0
         {
-            self.taken = self.taken.wrapping_add(n as u64);
+            self.count(n);
             return Ok(n);
         }
         self.faults = self.faults.saturating_add(1);
@@ -180,7 +213,7 @@ impl<W: Write> Sink for Output<W> {
     {
         let is_interrupted = match self.writer.write(piece) {
             Ok(n) if n > 0 => {
-                self.taken = self.taken.wrapping_add(n as u64);
+                self.count(n);
                 return Ok(n);
             }
             Ok(_) => false,
