@@ -1,8 +1,8 @@
 -- The first part of a turn: the clock answers, outcomes are taken, and sectors are given to the sink.
-use Rattle.std.proofs.Common.{ℕ, suc, ◌≡◌, ◌+◌, ◌≤◌, max, false, List, [], ◌∷◌, ◌++◌, length, reverse, Option, Some, refl, sym, ap, ◌∙◌, arith, append_assoc, append-nil, inr}
+use Rattle.std.proofs.Common.{ℕ, suc, ◌≡◌, ◌+◌, ◌≤◌, max, false, List, [], ◌∷◌, ◌++◌, length, reverse, Option, Some, refl, sym, ap, ◌∙◌, arith, append_assoc, append-nil, inr, inl}
 use Rattle.std.specs.Prelude.{Err, All, IfSome}
 use Rattle.std.proofs.lemmas.List.{reverse-append, reverse-reverse}
-use Rattle.std.proofs.lemmas.List.Elements.{Contains-append_right}
+use Rattle.std.proofs.lemmas.List.Elements.{Contains-append_cases, Contains-append_left, Contains-append_right}
 use Rattle.aoe_flight.specs.Outstanding.{is_expired}
 use Rattle.aoe_initiator.proofs.MatchLemmas.{same-then}
 use Rattle.aoe_initiator.specs.declared.outcome.Done.{Done}
@@ -24,12 +24,13 @@ use Rattle.aoe_tools.specs.declared.end.ToolRefusal.TheVariants as tool
 use Rattle.aoe_copy.specs.declared.copying.Copying.{Copying}
 use Rattle.aoe_copy.specs.declared.plan.Plan.{Plan}
 use Rattle.aoe_copy.specs.declared.window.Window.{Window}
-use Rattle.aoe_copy.specs.Copying.{left_of, Collected, Ended, InOrder, Keeps, Setting, Stands}
+use Rattle.aoe_copy.specs.Copying.{left_of, AreUpTo, Collected, Ended, InOrder, Keeps, Setting, Stands}
 use Rattle.aoe_copy.specs.Runs.{Breaks, Seen}
 use Rattle.aoe_copy.specs.Steps.{answers_of, asked, frames_of, given, log_of, outcomes, quiet_turns, turns_of, written, AreSteps, Fails, GoesOn, Step}
 use Rattle.aoe_copy.specs.Steps.Step.{gives, ticks}
-use Rattle.aoe_copy.specs.Window.{in_order, AreRead, AreThere, Given, GivenPart, IsAsLong}
-use Rattle.aoe_copy.proofs.WindowLemmas.{there-more}
+use Rattle.aoe_copy.specs.Window.{in_order, is_ready, read_done, HasAll, AreRead, AreThere, Given, GivenPart, IsAsLong}
+use Rattle.aoe_copy.proofs.WindowLemmas.{change-all, none-ready, there-more}
+use Rattle.aoe_copy.proofs.LawLemmas.{gave-up-none, ticket-law}
 
 -- what an advance of the host does
 pub record Advanced (host advanced : Host) (now : ℕ) : Type 0 where
@@ -96,6 +97,13 @@ module _ {c : Setting} (seen : Seen) {later : Option (List ℕ)} {steps : List S
           asked_is = a.last ∙ k.asked_is;
           given_is = k.given_is;
           reached_is = k.reached_is;
+          all =
+              rw a.gives_up.1 (change-all (outcomes steps) (up ++ outcomes steps) x.host.waiting (x.host.waiting ++ reverse up)
+              (λ m bytes was there.
+              elim (Contains-append_cases up (outcomes steps) (read_done m bytes) there) [
+                | inl new ↦ absurd (gave-up-none _ _ _ up m bytes (gives-up a k).in_turn new)
+                | inr before ↦ Contains-append_left x.host.waiting (reverse up) (read_done m bytes) (was before)
+              ]) _ _ k.all);
           there = there-more _ _ (λ (d : Done) there. Contains-append_right up (outcomes steps) d there) _ _ k.there;
         };
         order = still-in-order a o;
@@ -103,11 +111,16 @@ module _ {c : Setting} (seen : Seen) {later : Option (List ℕ)} {steps : List S
         left_is = omega (arith, open-ended up (Advances (record { 0 = now }) ∷ log));
       }
 
+-- sectors came only of commands that were submitted
+pub up-to : {c : Setting} {seen : Seen} {steps : List Step} {x : Copying} → Stands c seen steps → Keeps c steps x → AreUpTo x.host.last_ticket (outcomes steps)
+up-to {c} {steps = steps} stands k = λ n bytes there. omega (arith, k.asked_is, ticket-law c.base c.plan steps n bytes stands.are there)
+
 -- outcomes were taken
 pub keeps-taken : {c : Setting} {steps : List Step} {x y : Copying} → Keeps c steps x → y.host ≡ record x.host { waiting = y.host.waiting } → y.plan ≡ x.plan
     → y.reached ≡ x.reached → IsAsLong x.window y.window → ((log : List Event) → Matches log x.host → Matches log y.host)
-    → AreThere (outcomes steps) (suc y.window.given) y.window.slots.items → Keeps c steps y
-keeps-taken {c} {steps} {x} {y} k is plan reached window matches there = record {
+    → AreThere (outcomes steps) (suc y.window.given) y.window.slots.items
+    → HasAll (outcomes steps) y.host.waiting (suc y.window.given) y.window.slots.items → Keeps c steps y
+keeps-taken {c} {steps} {x} {y} k is plan reached window matches there all = record {
   plan_is = plan ∙ k.plan_is;
   same = rw is (record { ports = k.same.ports; life = k.same.life; room = k.same.room; dead = k.same.dead; devices = k.same.devices });
   matches = matches (log_of c.plan steps) k.matches;
@@ -115,6 +128,7 @@ keeps-taken {c} {steps} {x} {y} k is plan reached window matches there = record 
   given_is = window.given_is ∙ k.given_is;
   reached_is = reached ∙ k.reached_is;
   there = there;
+  all = all;
 }
 
 -- the steps in which the sink takes the sectors of commands, the latest first
@@ -188,8 +202,8 @@ stands-after {c} seen {mid} {after} parts steps stands read took =
 
 pub keeps-after : {c : Setting} {steps : List Step} {x : Copying} (w : Window) (parts : List (List ℕ)) → Keeps c steps x
     → w.given ≡ length parts + x.window.given → AreThere (outcomes steps) (suc w.given) w.slots.items
-    → Keeps c (after_gives parts steps) (record x { window = w })
-keeps-after {c} {steps} {x} w parts k given_is there =
+    → HasAll (outcomes steps) x.host.waiting (suc w.given) w.slots.items → Keeps c (after_gives parts steps) (record x { window = w })
+keeps-after {c} {steps} {x} w parts k given_is there all =
     let a = alike c.plan parts steps in
     record {
       plan_is = k.plan_is;
@@ -199,6 +213,7 @@ keeps-after {c} {steps} {x} w parts k given_is there =
       given_is = omega (arith, given_is, k.given_is, given-after parts steps);
       reached_is = rw a.asked_is k.reached_is;
       there = rw a.outcomes_are there;
+      all = rw a.outcomes_are all;
     }
 
 left-after : (p : Plan) (parts : List (List ℕ)) (steps : List Step) → left_of p (after_gives parts steps) ≤ left_of p steps
@@ -235,14 +250,17 @@ module _ {c : Setting} (seen : Seen) {mid after : Option (List ℕ)} {steps : Li
   read-so g is = rw (← k.given_is, ← is) g.are
 
   -- all outcomes were taken
-  pub collected : Given (outcomes t.steps') y.window w mid after → y.host.waiting ≡ [] → GoesOn t.steps'
+  pub collected : Given (outcomes t.steps') y.window w mid after → is_ready w.slots.items ≡ false → y.host.waiting ≡ [] → GoesOn t.steps'
       → Collected c (record seen { held = after }) steps (record y { window = w })
-  collected g none well =
+  collected g unready none well =
       let a = alike c.plan g.parts t.steps' in
+      let all = g.all y.host.waiting k.all in
+      let keeps = keeps-after w g.parts k g.given_is g.there all in
       record {
         steps' = after_gives g.parts t.steps';
         stands = stands-after seen g.parts t.steps' t.stands (read-so g refl) g.took;
-        keeps = keeps-after w g.parts k g.given_is g.there;
+        keeps = keeps;
+        given_out = λ bytes there. none-ready (outcomes t.steps') (suc w.given) w.slots.items unready (rw none at all) bytes (rw (a.outcomes_are, ← keeps.given_is) at there);
         waiting = none;
         goes_on = rw a.outcomes_are well;
         quiet_is = a.quiet_is ∙ t.quiet_is;

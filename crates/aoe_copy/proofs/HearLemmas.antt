@@ -1,6 +1,6 @@
 -- A turn of the link, and what it ends.
-use Rattle.std.proofs.Common.{ℕ, ◌≡◌, Bool, true, false, List, [], ◌∷◌, ◌++◌, reverse, Option, Some, None, refl, sym, ap, ◌∙◌, arith}
-use Rattle.std.proofs.lemmas.List.Elements.{Contains-append_right}
+use Rattle.std.proofs.Common.{ℕ, ◌≡◌, Bool, true, false, List, [], ◌∷◌, ◌++◌, reverse, Option, Some, None, refl, sym, ap, ◌∙◌, arith, inl, inr}
+use Rattle.std.proofs.lemmas.List.Elements.{Contains-append_cases, Contains-append_right}
 use Rattle.aoe_initiator.proofs.MatchLemmas.{same-then}
 use Rattle.aoe_initiator.specs.declared.outcome.Done.{Done}
 use Rattle.aoe_io.proofs.LinkLemmas.{turned-then}
@@ -12,10 +12,11 @@ use Rattle.aoe_copy.specs.declared.copying.Copying.{Copying}
 use Rattle.aoe_copy.specs.declared.plan.Plan.{Plan}
 use Rattle.aoe_copy.specs.Copying.{count_heard, Passes, Setting, Went}
 use Rattle.aoe_copy.specs.Runs.{Seen}
-use Rattle.aoe_copy.specs.Steps.{asked, given, log_of, outcomes, turns_of, GoesOn, IsFilled, Step}
+use Rattle.aoe_copy.specs.Steps.{asked, given, log_of, outcomes, turns_of, GoesOn, IsFilled, IsGivenOut, Step}
+use Rattle.aoe_copy.specs.Window.{read_done}
 use Rattle.aoe_copy.specs.Steps.Step.{hears}
 use Rattle.aoe_copy.proofs.StepLemmas.{go-on-then, goes-on, Sent-so}
-use Rattle.aoe_copy.proofs.WindowLemmas.{there-more}
+use Rattle.aoe_copy.proofs.WindowLemmas.{change-all, there-more}
 
 told-back : (heard : Option Heard) → reverse (told_by heard) ≡ told_by heard
 told-back None = refl
@@ -31,10 +32,10 @@ still-filled p steps steps' filled asked_is given_is = rw (asked_is, given_is) f
 
 -- what one turn brought, of a host that goes on
 pub heard-one : {c : Setting} (seen : Seen) {turns turns' : ℕ} {given_by given_by' : Option (List Turn)} {steps : List Step} {x y : Copying} {finished : Bool}
-    (w : Went c (record seen { turns = turns; given = given_by }) steps x) → GoesOn steps → IsFilled c.plan w.steps' → x.host.waiting ≡ []
+    (w : Went c (record seen { turns = turns; given = given_by }) steps x) → GoesOn steps → IsFilled c.plan w.steps' → IsGivenOut steps → x.host.waiting ≡ []
     → HearsOne finished x.host y.host turns turns' given_by given_by' → y ≡ record x { host = y.host }
     → (heard : Option Heard) × Passes c (record seen { turns = turns'; given = given_by' }) steps y heard × (finished ≡ is_heard heard)
-heard-one {c} seen {turns} {turns'} {given_by} {given_by'} {steps} {x} {y} w well filled none one is =
+heard-one {c} seen {turns} {turns'} {given_by} {given_by'} {steps} {x} {y} w well filled out none one is =
     let k = w.keeps in
     let s = w.stands.seen_is in
     let log = log_of c.plan w.steps' in
@@ -46,7 +47,7 @@ heard-one {c} seen {turns} {turns'} {given_by} {given_by'} {steps} {x} {y} w wel
       record {
         steps' = hears one.brought heard ∷ w.steps';
         stands = record {
-          are = (w.stands.are, (still, filled, h.1));
+          are = (w.stands.are, (still, filled, rw (w.on.outcomes_are, w.on.given_is) out, h.1));
           seen_is = record {
             turned = turned-then c.before.turns turns turns' c.before.given given_by given_by' (turns_of w.steps') (one.brought ∷ []) s.turned one.turned;
             took = s.took;
@@ -61,6 +62,13 @@ heard-one {c} seen {turns} {turns'} {given_by} {given_by'} {steps} {x} {y} w wel
           asked_is = one.held.last ∙ k.asked_is;
           given_is = ap (λ (z : Copying). z.window.given) is ∙ k.given_is;
           reached_is = ap (λ (z : Copying). z.reached) is ∙ k.reached_is;
+          all =
+              rw (waiting, ap (λ (z : Copying). z.window) is) (change-all (outcomes w.steps') (told_by heard ++ outcomes w.steps') x.host.waiting (told_by heard)
+              (λ m bytes was there.
+              elim (Contains-append_cases (told_by heard) (outcomes w.steps') (read_done m bytes) there) [
+                | inl new ↦ new
+                | inr before ↦ absurd (let never = rw none at (was before) in omega (arith, never.1))
+              ]) _ _ k.all);
           there = rw is (there-more _ _ (λ (d : Done) there. Contains-append_right (told_by heard) (outcomes w.steps') d there) _ _ k.there);
         };
         order = record {

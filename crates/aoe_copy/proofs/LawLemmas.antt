@@ -1,5 +1,5 @@
 -- What follows from the steps of a copy.
-use Rattle.std.proofs.Common.{ℕ, zero, suc, ◌≡◌, ◌+◌, ◌-◌, ◌*◌, ◌≤◌, cond, Bool, true, false, nat_eq, nat_le, List, [], ◌∷◌, ◌++◌, length, map, drop, Option, Some, None, refl, sym, ap, ◌∙◌, arith, inl, inr, length-append}
+use Rattle.std.proofs.Common.{ℕ, zero, suc, ◌≡◌, ◌+◌, ◌-◌, ◌*◌, ◌≤◌, cond, Bool, true, false, nat_eq, nat_le, List, [], ◌∷◌, ◌++◌, length, map, drop, Option, Some, None, refl, sym, ap, ◌∙◌, arith, inl, inr, length-append, ◌<◌}
 use Rattle.std.specs.Prelude.{Contains, if◌then◌else◌, slice_index, slice_range}
 use Rattle.std.proofs.lemmas.Bool.{cases_Bool, leb-true}
 use Rattle.std.proofs.lemmas.List.{length-drop, length-take, map-append}
@@ -70,11 +70,11 @@ asked-law p (hears turn heard ∷ steps) = heard-asks heard (log_of p steps) ∙
 asked-law p (gives bytes ∷ steps) = asked-law p steps
 
 -- a read of the copy has its ticket by its place
-read-at : (p : Plan) (n : ℕ) (s : Submission) → Contains (reads p n) s → (k : ℕ) × (s ≡ record { ticket = ticket_at k; op = read_at p k })
+read-at : (p : Plan) (n : ℕ) (s : Submission) → Contains (reads p n) s → (k : ℕ) × (k < n) × (s ≡ record { ticket = ticket_at k; op = read_at p k })
 read-at p zero s there = absurd (omega (arith, there.1))
 read-at p (suc n) s there = elim (Contains-append_cases (reads p n) (record { ticket = ticket_at n; op = read_at p n } ∷ []) s there) [
-  | inl before ↦ read-at p n s before
-  | inr last ↦ elim (Contains-cons_cases _ s [] last) [ inl same ↦ (n, sym same) | inr none ↦ absurd (omega (arith, none.1)) ]
+  | inl before ↦ let found = read-at p n s before in (found.0, omega (arith, found.1), found.2)
+  | inr last ↦ elim (Contains-cons_cases _ s [] last) [ inl same ↦ (n, omega arith, sym same) | inr none ↦ absurd (omega (arith, none.1)) ]
 ]
 
 -- so the command with a ticket reads its sectors
@@ -82,8 +82,8 @@ pub op-of : (p : Plan) (steps : List Step) (c : HostCommand) (k : ℕ) → Conta
 op-of p steps c k there is =
     let inside : Contains (reads p (asked steps)) (as_asked c) = rw (asked-law p steps) at (Contains-map as_asked (commands (log_of p steps)) c there) in
     let found = read-at p (asked steps) (as_asked c) inside in
-    let place : found.0 ≡ k = omega (arith, ap (λ (s : Submission). s.ticket.0) found.1, ap (λ (t : Ticket). t.0) is) in
-    rw (← place) (ap (λ (s : Submission). s.op) found.1)
+    let place : found.0 ≡ k = omega (arith, ap (λ (s : Submission). s.ticket.0) found.2, ap (λ (t : Ticket). t.0) is) in
+    rw (← place) (ap (λ (s : Submission). s.op) found.2)
 
 -- no more than a window is open
 pub window-law : (base : Host) (p : Plan) (steps : List Step) → AreSteps base p steps → asked steps ≤ given steps + most_open
@@ -95,7 +95,7 @@ window-law base p (hears turn heard ∷ steps) are = window-law base p steps are
 window-law base p (gives bytes ∷ steps) are = omega (arith, window-law base p steps are.0)
 
 -- what a command that is given up leaves is no data
-gave-up-none : (dead now : ℕ) (log : List Event) (dones : List Done) (n : ℕ) (bytes : List ℕ) → GaveUpInTurn dead now log dones
+pub gave-up-none : (dead now : ℕ) (log : List Event) (dones : List Done) (n : ℕ) (bytes : List ℕ) → GaveUpInTurn dead now log dones
     → Contains dones (read_done n bytes) → ⊥
 gave-up-none dead now log [] n bytes gave there = absurd (omega (arith, there.1))
 gave-up-none dead now log (d ∷ dones) n bytes gave there = elim (Contains-cons_cases d (read_done n bytes) dones there) [
@@ -144,15 +144,42 @@ heard-at base p (hears (came frame) (Some h) ∷ steps) n bytes are there =
         heard = h;
         earlier = steps;
         order = refl;
-        answers = are.1.2;
+        answers = are.1.3;
         ticket = ap (λ (x : Done). x.ticket) same;
         says = ap (λ (x : Done). x.outcome) same;
       }
       | inr before ↦ heard-later (hears (came frame) (Some h)) (heard-at base p steps n bytes are.0 before)
     ]
-heard-at base p (hears quiet (Some h) ∷ steps) n bytes are there = absurd are.1.2
-heard-at base p (hears over (Some h) ∷ steps) n bytes are there = absurd are.1.2
+heard-at base p (hears quiet (Some h) ∷ steps) n bytes are there = absurd are.1.3
+heard-at base p (hears over (Some h) ∷ steps) n bytes are there = absurd are.1.3
 heard-at base p (gives bytes' ∷ steps) n bytes are there = heard-later (gives bytes') (heard-at base p steps n bytes are.0 there)
+
+-- as many were submitted before
+asked-later : (later earlier : List Step) → asked earlier ≤ asked (later ++ earlier)
+asked-later [] earlier = omega arith
+asked-later (ticks answer gave_up ∷ later) earlier = asked-later later earlier
+asked-later (asks ∷ later) earlier = omega (arith, asked-later later earlier)
+asked-later (sends o ∷ later) earlier = asked-later later earlier
+asked-later (hears turn heard ∷ later) earlier = asked-later later earlier
+asked-later (gives bytes ∷ later) earlier = asked-later later earlier
+
+-- sectors came only of commands that were submitted
+pub ticket-law : (base : Host) (p : Plan) (steps : List Step) (n : ℕ) (bytes : List ℕ) → AreSteps base p steps → Contains (outcomes steps) (read_done n bytes)
+    → n ≤ asked steps
+ticket-law base p steps n bytes are there =
+    let h = heard-at base p steps n bytes are there in
+    let c = h.answers.command in
+    let inside : Contains (reads p (asked h.earlier)) (as_asked c) =
+    rw (asked-law p h.earlier) at (Contains-map as_asked (commands (log_of p h.earlier)) c h.answers.there) in
+    let found = read-at p (asked h.earlier) (as_asked c) inside in
+    omega (
+      arith,
+      found.1,
+      ap (λ (s : Submission). s.ticket.0) found.2,
+      ap (λ (t : Ticket). t.0) (h.answers.ticket ∙ h.ticket),
+      asked-later h.later (hears (came h.frame) (Some h.heard) ∷ h.earlier),
+      ap (λ (l : List Step). asked l) h.order,
+    )
 
 -- the bytes behind the registers
 long-range : (args : List ℕ) (n : ℕ) → 12 + n ≤ length args → length (slice_range args 12 (12 + n)) ≡ n

@@ -1,5 +1,5 @@
 -- Outcomes are taken in the order in which they came, up to the first that ends the copy.
-use Rattle.std.proofs.Common.{ℕ, ◌≡◌, List, [], ◌∷◌, ◌++◌, reverse, Some, None, refl, ap, ◌∙◌, arith, append_assoc}
+use Rattle.std.proofs.Common.{ℕ, ◌≡◌, List, [], ◌∷◌, ◌++◌, reverse, Some, None, refl, ap, ◌∙◌, arith, append_assoc, subst, ◌≤◌}
 use Rattle.std.specs.Prelude.{All, Contains}
 use Rattle.std.proofs.lemmas.List.{reverse-append}
 use Rattle.std.proofs.lemmas.List.Elements.{All-cons, Contains-append_right}
@@ -8,8 +8,9 @@ use Rattle.aoe_initiator.specs.declared.outcome.Outcome.{Outcome}
 use Rattle.aoe_initiator.specs.declared.outcome.Outcome.TheVariants as outcome
 use Rattle.aoe_tools.specs.TransferCourse.{failure}
 use Rattle.aoe_tools.specs.declared.end.ToolRefusal.{ToolRefusal}
-use Rattle.aoe_copy.specs.Copying.{InOrder}
+use Rattle.aoe_copy.specs.Copying.{AreUpTo, InOrder}
 use Rattle.aoe_copy.specs.Steps.{Fails, IsWell}
+use Rattle.aoe_copy.specs.Window.{read_done}
 
 -- whether an outcome ends a copy doesn't go by how long it waits
 pub is-well : (turns : ℕ) (o : Outcome) → failure turns o ≡ None → failure 0 o ≡ None
@@ -30,6 +31,10 @@ module _ {waiting rest outs : List Done} {d : Done} (o : InOrder waiting outs) (
   -- the next outcome is one of them
   pub next-there : Contains outs d
   next-there = rw laid (Contains-append_right (reverse rest) (d ∷ o.taken) d (0, omega arith, refl))
+
+  -- sectors came only of commands with a ticket up to one
+  pub most-of : (last : ℕ) → AreUpTo last outs → (bytes : List ℕ) → d ≡ read_done d.ticket.0 bytes → d.ticket.0 ≤ last
+  most-of last most bytes is = most d.ticket.0 bytes (subst (λ (e : Done). Contains outs e) is next-there)
 
   -- it doesn't end the copy
   pub order-next : (turns : ℕ) → failure turns d.outcome ≡ None → InOrder rest outs

@@ -25,14 +25,15 @@ use Rattle.aoe_copy.specs.Plan.{reach}
 use Rattle.aoe_copy.specs.Runs.{HasSeen, Seen}
 use Rattle.aoe_copy.specs.Steps.{asked, frames_of, given, log_of, read_at, the_device, ticket_at, GoesOn, IsFilled, MayAsk, MaySend, Step}
 use Rattle.aoe_copy.specs.Steps.Step.{asks, sends}
-use Rattle.aoe_copy.proofs.WindowLemmas.{there-open}
+use Rattle.aoe_copy.proofs.WindowLemmas.{open-all, there-open}
 
 pub go-on-self : (p : Plan) (steps : List Step) → GoOn p steps steps
-go-on-self p steps = record { outcomes_are = refl; quiet_is = refl; left_is = omega arith }
+go-on-self p steps = record { outcomes_are = refl; given_is = refl; quiet_is = refl; left_is = omega arith }
 
 pub go-on-then : {p : Plan} {a b d : List Step} → GoOn p a b → GoOn p b d → GoOn p a d
 go-on-then one two = record {
   outcomes_are = two.outcomes_are ∙ one.outcomes_are;
+  given_is = two.given_is ∙ one.given_is;
   quiet_is = two.quiet_is ∙ one.quiet_is;
   left_is = omega (arith, one.left_is, two.left_is);
 }
@@ -87,7 +88,7 @@ module _ {c : Setting} {seen : Seen} {steps : List Step} {x : Copying} (w : Went
       let sent = one.submits log k.matches in
       record {
         steps' = asks ∷ w.steps';
-        on = go-on-then w.on (record { outcomes_are = refl; quiet_is = refl; left_is = asks-left c.plan w.steps' some may_is.left });
+        on = go-on-then w.on (record { outcomes_are = refl; given_is = refl; quiet_is = refl; left_is = asks-left c.plan w.steps' some may_is.left });
         stands = record { are = (w.stands.are, (goes-on w well, may_is)); seen_is = seen-asks w.stands.seen_is };
         keeps = record {
           plan_is = one.plan_is ∙ plan;
@@ -97,6 +98,7 @@ module _ {c : Setting} {seen : Seen} {steps : List Step} {x : Copying} (w : Went
           given_is = one.given_is ∙ k.given_is;
           reached_is = rw (k.reached_is, plan) at one.reached_is;
           there = rw (one.given_is, one.slots_are) (there-open _ _ _ k.there);
+          all = rw (one.given_is, one.slots_are, one.waiting) (open-all _ _ _ _ k.all);
         };
       }
 
@@ -125,6 +127,7 @@ sends-keeps {c} {steps} {x} {y} k p is = record {
   given_is = ap (λ (z : Copying). z.window.given) is ∙ k.given_is;
   reached_is = ap (λ (z : Copying). z.reached) is ∙ k.reached_is;
   there = rw is k.there;
+  all = rw (p.waiting, ap (λ (z : Copying). z.window) is) k.all;
 }
 
 sends-may : {c : Setting} {steps : List Step} {x : Copying} (host' : Host) {sent : Sent} {frame : List ℕ} → Keeps c steps x → Pulls x.host host' sent frame
@@ -155,7 +158,7 @@ sends-more {c} seen {mid} {after} {y = y} {sent} {frame} so well p is took =
     let s = w.stands.seen_is in (
       record {
         steps' = sends (out_of sent frame) ∷ w.steps';
-        on = go-on-then w.on (record { outcomes_are = refl; quiet_is = refl; left_is = sends-left c.plan w.steps' (out_of sent frame) });
+        on = go-on-then w.on (record { outcomes_are = refl; given_is = refl; quiet_is = refl; left_is = sends-left c.plan w.steps' (out_of sent frame) });
         stands = record {
           are = (w.stands.are, (goes-on w well, sends-may y.host w.keeps p));
           seen_is = record { turned = s.turned; took = Added-then c.before.taken mid after (frames_of w.steps') (frame ∷ []) s.took took; told = s.told; wrote = s.wrote };
@@ -169,8 +172,8 @@ sends-more {c} seen {mid} {after} {y = y} {sent} {frame} so well p is took =
 -- no frame is left, and the host keeps what it did
 pub sends-over : {c : Setting} {seen : Seen} {steps : List Step} {x y : Copying} → Sent-so c seen steps x
     → ((log : List Event) → Matches log x.host → Matches log y.host) → IsSame x.host y.host → y.host.last_ticket ≡ x.host.last_ticket
-    → y ≡ record x { host = y.host } → Sent-so c seen steps y
-sends-over {c} {x = x} {y} so stays same last is =
+    → y.host.waiting ≡ x.host.waiting → y ≡ record x { host = y.host } → Sent-so c seen steps y
+sends-over {c} {x = x} {y} so stays same last waits is =
     let w = so.0 in
     let k = w.keeps in (
       record {
@@ -185,6 +188,7 @@ sends-over {c} {x = x} {y} so stays same last is =
           given_is = ap (λ (z : Copying). z.window.given) is ∙ k.given_is;
           reached_is = ap (λ (z : Copying). z.reached) is ∙ k.reached_is;
           there = rw is k.there;
+          all = rw (waits, ap (λ (z : Copying). z.window) is) k.all;
         };
       },
       so.1,

@@ -83,6 +83,7 @@ begun {seen} {x} b none new = record {
     given_is = b.given_is;
     reached_is = b.reached_is;
     there = rw b.slots_are tt;
+    all = rw b.slots_are (λ m bytes later there. absurd (omega (arith, there.1)));
   };
   order = record { taken = []; order = rw none refl; well = λ i d below. absurd (omega (arith, below)) };
   quiet_is = refl;

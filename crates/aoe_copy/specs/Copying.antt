@@ -1,5 +1,5 @@
 -- What a copy keeps while it runs, and what it is true of: the steps so far, and what link, clock and sink tell of them.
-use Rattle.std.specs.Prelude.{ℕ, suc, ◌≡◌, ◌+◌, ◌-◌, ◌^◌, ◌<◌, ◌≤◌, min, nat_eq, nat_lt, Bool, not, ◌&&◌, List, [], ◌∷◌, ◌++◌, length, reverse, Option, Some, None, Result, Ok, Err, All}
+use Rattle.std.specs.Prelude.{ℕ, suc, ◌≡◌, ◌+◌, ◌-◌, ◌^◌, ◌<◌, ◌≤◌, min, nat_eq, nat_lt, Bool, not, ◌&&◌, List, [], ◌∷◌, ◌++◌, length, reverse, Option, Some, None, Result, Ok, Err, All, Contains}
 use Rattle.std.specs.List.{count_by}
 use Rattle.aoe_base.specs.declared.failure.Failed.{Failed}
 use Rattle.aoe_base.specs.declared.failure.NoMemory.{NoMemory}
@@ -19,8 +19,8 @@ use Rattle.aoe_copy.specs.declared.copying.Passed.TheVariants as passed
 use Rattle.aoe_copy.specs.declared.plan.Plan.{Plan}
 use Rattle.aoe_copy.specs.Plan.{reach}
 use Rattle.aoe_copy.specs.Runs.{HasSeen, Runs, Seen}
-use Rattle.aoe_copy.specs.Steps.{Step, asked, given, log_of, outcomes, quiet_turns, the_device, ticket_at, AreSteps, Fails, GoesOn, IsFilled, IsWell}
-use Rattle.aoe_copy.specs.Window.{most_open, AreThere}
+use Rattle.aoe_copy.specs.Steps.{Step, asked, given, log_of, outcomes, quiet_turns, the_device, ticket_at, AreSteps, Fails, GoesOn, IsFilled, IsGivenOut, IsWell}
+use Rattle.aoe_copy.specs.Window.{most_open, read_done, AreThere, HasAll}
 
 -- its numbers fit one another: there is one device, each command submitted stands in the window or was given, no command asks for no
 -- sector, and no number is near the end of its type
@@ -54,6 +54,7 @@ pub record Keeps (c : Setting) (steps : List Step) (x : Copying) : Type 0 where
   pub given_is : x.window.given ≡ given steps
   pub reached_is : x.reached ≡ reach c.plan (asked steps)
   pub there : AreThere (outcomes steps) (suc x.window.given) x.window.slots.items
+  pub all : HasAll (outcomes steps) x.host.waiting (suc x.window.given) x.window.slots.items
 
 -- a copy that did nothing yet
 pub record Begins (base : Host) (p : Plan) (x : Copying) : Type 0 where
@@ -70,13 +71,19 @@ pub record InOrder (waiting : List Done) (outs : List Done) : Type 0 where
   pub order : outs ≡ reverse waiting ++ taken
   pub well : All IsWell taken
 
+-- sectors came only of commands with a ticket up to this one
+abbrev pub AreUpTo : ℕ → List Done → Type 0
+AreUpTo last outs = (n : ℕ) (bytes : List ℕ) → Contains outs (read_done n bytes) → n ≤ last
+
 -- outcomes were taken: all, or up to the first that ends the copy
 abbrev pub Takes : Result Unit ToolRefusal → ℕ → List Done → List Done → Type 0
 Takes (Ok done) turns outs waiting = (waiting ≡ []) × All IsWell outs
 Takes (Err refusal) turns outs waiting = Fails turns outs refusal
 
 abbrev pub TakesAll : Result Unit ToolRefusal → ℕ → List Done → Copying → Type 0
-TakesAll result turns outs x = AreThere outs (suc x.window.given) x.window.slots.items × Takes result turns outs x.host.waiting
+TakesAll result turns outs x =
+    AreThere outs (suc x.window.given) x.window.slots.items × HasAll outs x.host.waiting (suc x.window.given) x.window.slots.items
+    × Takes result turns outs x.host.waiting
 
 -- all sectors were given to the sink
 abbrev pub is_over : Copying → Bool
@@ -115,6 +122,7 @@ left_of p steps = open_in (log_of p steps) + (p.count - reach p (asked steps))
 -- these steps go on from those, with no outcome, no turn, and no more left to do
 pub record GoOn (p : Plan) (steps steps' : List Step) : Type 0 where
   pub outcomes_are : outcomes steps' ≡ outcomes steps
+  pub given_is : given steps' ≡ given steps
   pub quiet_is : quiet_turns steps' ≡ quiet_turns steps
   pub left_is : left_of p steps' ≤ left_of p steps
 
@@ -166,6 +174,7 @@ pub record Collected (c : Setting) (seen : Seen) (steps : List Step) (x : Copyin
   pub keeps : Keeps c steps' x
   pub waiting : x.host.waiting ≡ []
   pub goes_on : GoesOn steps'
+  pub given_out : IsGivenOut steps'
   pub quiet_is : quiet_turns steps' ≡ quiet_turns steps
   pub left_is : left_of c.plan steps' ≤ left_of c.plan steps
 

@@ -145,12 +145,16 @@ IsFilled p steps = (reach p (asked steps) ≡ p.count) ⊎ (given steps + most_o
 abbrev pub IsNextRead : List Step → List ℕ → Type 0
 IsNextRead steps bytes = Contains (outcomes steps) (read_done (suc (given steps)) bytes)
 
+-- the sink has the sectors of each command that was answered, and all before it
+abbrev pub IsGivenOut : List Step → Type 0
+IsGivenOut steps = (bytes : List ℕ) → IsNextRead steps bytes → ⊥
+
 -- a step may come behind others
 abbrev pub MayCome : Host → Plan → List Step → Step → Type 0
 MayCome base p steps (ticks answer gave_up) = GivesUp base (log_of p steps) answer gave_up
 MayCome base p steps asks = GoesOn steps × MayAsk p steps
 MayCome base p steps (sends o) = GoesOn steps × MaySend base (log_of p steps) o
-MayCome base p steps (hears turn heard) = GoesOn steps × IsFilled p steps × Hears base (log_of p steps) turn heard
+MayCome base p steps (hears turn heard) = GoesOn steps × IsFilled p steps × IsGivenOut steps × Hears base (log_of p steps) turn heard
 MayCome base p steps (gives bytes) = IsNextRead steps bytes
 
 -- steps of a copy, each of which might come

@@ -1,5 +1,5 @@
 -- The commands that are under way, or whose sectors wait for those before them.
-use Rattle.std.specs.Prelude.{ℕ, suc, ◌≡◌, ◌+◌, Bool, true, false, List, [], ◌∷◌, ◌++◌, length, Option, Some, None, Result, Ok, Err, Contains, IfSome}
+use Rattle.std.specs.Prelude.{ℕ, suc, ◌≡◌, ◌+◌, Bool, true, false, List, [], ◌∷◌, ◌++◌, length, Option, Some, None, Result, Ok, Err, Contains, IfSome, ◌≤◌, IfNone}
 use Rattle.aoe_base.specs.declared.failure.Failed.{Failed}
 use Rattle.aoe_initiator.specs.declared.outcome.Done.{Done}
 use Rattle.aoe_initiator.specs.declared.outcome.Outcome.TheVariants as outcome
@@ -19,6 +19,12 @@ read_done n bytes = record { ticket = record { 0 = n }; outcome = outcome.Read b
 abbrev pub AreThere : List Done → ℕ → List (Option (List ℕ)) → Type 0
 AreThere outs n [] = Unit {0}
 AreThere outs n (slot ∷ slots) = IfSome slot (λ bytes. Contains outs (read_done n bytes)) × AreThere outs (suc n) slots
+
+-- of the commands from ticket n on, each whose sectors an outcome has stands in its place with them, or its outcome waits
+abbrev pub HasAll : List Done → List Done → ℕ → List (Option (List ℕ)) → Type 0
+HasAll outs waiting n [] = (m : ℕ) (bytes : List ℕ) → n ≤ m → Contains outs (read_done m bytes) → Contains waiting (read_done m bytes)
+HasAll outs waiting n (slot ∷ slots) =
+    IfNone slot ((bytes : List ℕ) → Contains outs (read_done n bytes) → Contains waiting (read_done n bytes)) × HasAll outs waiting (suc n) slots
 
 -- the same commands
 pub record IsAsLong (old new : Window) : Type 0 where
@@ -52,6 +58,7 @@ pub record Given (outs : List Done) (old new : Window) (held held' : Option (Lis
   pub are : AreRead outs old.given parts
   pub given_is : new.given ≡ length parts + old.given
   pub there : AreThere outs (suc new.given) new.slots.items
+  pub all : (waiting : List Done) → HasAll outs waiting (suc old.given) old.slots.items → HasAll outs waiting (suc new.given) new.slots.items
   pub sum : new.given + length new.slots.items ≡ old.given + length old.slots.items
   pub took : Took held held' (in_order parts)
 

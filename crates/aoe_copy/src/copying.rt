@@ -7,10 +7,10 @@ ghost use Rattle.aoe_initiator.specs.HostLog.{Event};
 ghost use Rattle.aoe_io.specs.Link.{Added};
 ghost use Rattle.aoe_tools.specs.TransferRun.{host_of};
 ghost use Rattle.aoe_tools.specs.TransferSteps.{HearsOne, IsUnused};
-ghost use Rattle.aoe_copy.specs.Copying.{is_over, may_ask, Asks, AsksOne, Begins, Collects, InOrder, IsFit, Keeps, Sends, Setting, Stands, TakesAll, Turns};
+ghost use Rattle.aoe_copy.specs.Copying.{is_over, may_ask, AreUpTo, Asks, AsksOne, Begins, Collects, InOrder, IsFit, Keeps, Sends, Setting, Stands, TakesAll, Turns};
 ghost use Rattle.aoe_copy.specs.Runs.{Runs, Seen};
-ghost use Rattle.aoe_copy.specs.Steps.{outcomes, GoesOn, Step};
-ghost use Rattle.aoe_copy.specs.Window.{most_open, AreThere, IsAsLong};
+ghost use Rattle.aoe_copy.specs.Steps.{outcomes, GoesOn, IsGivenOut, Step};
+ghost use Rattle.aoe_copy.specs.Window.{most_open, AreThere, HasAll, IsAsLong};
 
 use crate::plan::Plan;
 use crate::window::{MAX_OPEN, Window};
@@ -92,7 +92,9 @@ impl Copying {
         requires { IsFit self.old }
         ensures takes { (outs : List Done)
             → AreThere outs (suc self.old.window.given) self.old.window.slots.items
-            → InOrder self.old.host.waiting outs
+            → HasAll outs self.old.host.waiting (suc self.old.window.given)
+            self.old.window.slots.items
+            → AreUpTo self.old.host.last_ticket outs → InOrder self.old.host.waiting outs
             → TakesAll result turns outs self.new }
         ensures none { OnOk result (self.new.host.waiting ≡ []) }
         ensures link { result ≢ Err ToolRefusal.LinkFault }
@@ -224,7 +226,7 @@ impl Copying {
         ensures sink { result ≢ Err CopyRefusal.SinkFault }
         ensures exchanges { (c : Setting) (turns : ℕ) (seen : Seen) (steps : List Step)
             → Stands c (record seen { turns = L.turns link.old; given = L.given link.old; taken = L.taken link.old }) steps
-            → Keeps c steps self.old → GoesOn steps
+            → Keeps c steps self.old → GoesOn steps → IsGivenOut steps
             → Turns result c turns (record seen { turns = L.turns link.new; given = L.given link.new; taken = L.taken link.new }) steps self.new }
         ensures count { L.faults link.old ≤ L.faults link.new }
         ensures link { Blamed (result ≡ Err (CopyRefusal.Tool ToolRefusal.LinkFault))

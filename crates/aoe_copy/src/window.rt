@@ -1,9 +1,9 @@
 //! The commands that are under way, or whose sectors wait for those before them.
-ghost use Rattle.std.specs.Prelude.{◌≡◌, ◌≢◌, ◌+◌, ◌^◌, ◌<◌, ◌≤◌, ◌∷◌, ◌++◌, ℕ, suc, List, [], None, length, Contains, Err, IfErr, IfNone, IfSome, OnOk, Some, false, is_err, true};
+ghost use Rattle.std.specs.Prelude.{◌≡◌, ◌≢◌, ◌+◌, ◌^◌, ◌<◌, ◌≤◌, ◌⊎◌, ◌∷◌, ◌++◌, ℕ, suc, List, [], None, length, Contains, Err, IfErr, IfNone, IfSome, OnOk, Some, false, is_err, true};
 ghost use Rattle.aoe_base.specs.Faults.{Blamed};
 ghost use Rattle.aoe_initiator.specs.declared.outcome.Done.{Done as Ended};
 ghost use Rattle.aoe_tools.specs.TransferCourse.{failure};
-ghost use Rattle.aoe_copy.specs.Window.{is_ready, read_done, AreThere, GivesSome, IsAsLong, IsTaken};
+ghost use Rattle.aoe_copy.specs.Window.{is_ready, read_done, AreThere, GivesSome, HasAll, IsAsLong, IsTaken};
 
 use aoe_base::{Blob, Failed, NoMemory, Ticket};
 use aoe_initiator::{Done, Outcome};
@@ -57,8 +57,10 @@ impl Window {
 
     /// The place of the command with a ticket.
     fn place_of(&self, ticket: Ticket) -> Option<usize>
-        ensures { IfSome result (λ k. (k < length self.now.slots.items)
+        ensures some { IfSome result (λ k. (k < length self.now.slots.items)
             × (ticket.0 ≡ suc self.now.given + k)) }
+        ensures none { IfNone result ((ticket.0 ≤ self.now.given)
+            ⊎ (self.now.given + length self.now.slots.items < ticket.0)) }
     {
         if ticket.0 <= self.given {
             return None;
@@ -76,6 +78,11 @@ impl Window {
         ensures there { (outs : List Ended) → Contains outs (read_done ticket.0 bytes)
             → AreThere outs (suc self.old.given) self.old.slots.items
             → AreThere outs (suc self.old.given) self.new.slots.items }
+        ensures all { (outs waiting : List Ended)
+            → ticket.0 ≤ self.old.given + length self.old.slots.items
+            → HasAll outs (read_done ticket.0 bytes ∷ waiting) (suc self.old.given)
+            self.old.slots.items
+            → HasAll outs waiting (suc self.old.given) self.new.slots.items }
         ensures same { IsAsLong self.old self.new }
     {
         let Some(place) = self.place_of(ticket) else {
@@ -92,6 +99,11 @@ impl Window {
         ensures there { (outs : List Ended) → Contains outs done
             → AreThere outs (suc self.old.given) self.old.slots.items
             → AreThere outs (suc self.old.given) self.new.slots.items }
+        ensures all { (outs waiting : List Ended)
+            → ((bytes : List ℕ) → done ≡ read_done done.ticket.0 bytes
+            → done.ticket.0 ≤ self.old.given + length self.old.slots.items)
+            → HasAll outs (done ∷ waiting) (suc self.old.given) self.old.slots.items
+            → HasAll outs waiting (suc self.old.given) self.new.slots.items }
         ensures same { IsAsLong self.old self.new }
     {
         let Done { ticket, outcome } = done;
@@ -100,7 +112,9 @@ impl Window {
                 self.put(ticket, bytes);
                 Ok(())
             }
-            Outcome::Written | Outcome::Flushed | Outcome::Told(_) => Ok(()),
+            Outcome::Written => Ok(()),
+            Outcome::Flushed => Ok(()),
+            Outcome::Told(_) => Ok(()),
             Outcome::AoeError(error) => Err(ToolRefusal::Refused(Refusal::Aoe(error))),
             Outcome::AtaError { status, error } => {
                 Err(ToolRefusal::Refused(Refusal::Ata { status, error }))

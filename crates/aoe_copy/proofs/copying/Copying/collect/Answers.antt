@@ -1,5 +1,5 @@
 use Rattle.aoe_copy.specs.Steps.{outcomes}
-use Rattle.aoe_copy.proofs.CollectLemmas.{collected, ends-by, ends-part, keeps-taken, ticked, Advanced}
+use Rattle.aoe_copy.proofs.CollectLemmas.{collected, ends-by, ends-part, keeps-taken, ticked, up-to, Advanced}
 use Rattle.aoe_copy.proofs.copying.Copying.collect.Goals as goal
 
 pub returns-in-Err-clause-collects : goal.returns-in-Err-clause-collects
@@ -8,8 +8,8 @@ returns-in-Err-clause-collects g c = λ s seen later steps told stands keeps ord
     let adv : Advanced c.args.self.now.host c.advance.new.self c.args.now = record { gives_up = a.gives_up; clock_is = a.clock; same = a.same; last = a.last } in
     let t = ticked (record seen { held = g.K.Sink.held c.args.sink.now }) adv told stands keeps order in
     let all = c.take_all-taken.ensures in
-    let taken = all.takes (outcomes t.steps') t.keeps.there t.order in
-    let k = keeps-taken t.keeps all.host all.plan all.reached all.window all.matches taken.0 in
+    let taken = all.takes (outcomes t.steps') t.keeps.there t.keeps.all (up-to t.stands t.keeps) t.order in
+    let k = keeps-taken t.keeps all.host all.plan all.reached all.window all.matches taken.0 taken.1 in
     ends-part (record seen { answers = later }) c.give.new.self t k c.args.turns (c.in-Err.ensures.gives (outcomes t.steps') k.there)
 
 pub returns-in-Ok-taken-clause-collects : goal.returns-in-Ok-taken-clause-collects
@@ -18,11 +18,11 @@ returns-in-Ok-taken-clause-collects g c = λ s seen later steps told stands keep
     let adv : Advanced c.args.self.now.host c.advance.new.self c.args.now = record { gives_up = a.gives_up; clock_is = a.clock; same = a.same; last = a.last } in
     let t = ticked (record seen { held = g.K.Sink.held c.args.sink.now }) adv told stands keeps order in
     let all = c.take_all-taken.ensures in
-    let taken = all.takes (outcomes t.steps') t.keeps.there t.order in
-    let k = keeps-taken t.keeps all.host all.plan all.reached all.window all.matches taken.0 in
-    let ok = rw c.in-Ok-taken.is at taken.1 in
+    let taken = all.takes (outcomes t.steps') t.keeps.there t.keeps.all (up-to t.stands t.keeps) t.order in
+    let k = keeps-taken t.keeps all.host all.plan all.reached all.window all.matches taken.0 taken.1 in
+    let ok = rw c.in-Ok-taken.is at taken.2 in
     let gave = c.in-Ok.ensures.gives (outcomes t.steps') k.there in
-    (collected (record seen { answers = later }) c.give.new.self t k gave.0 ok.0 ok.1, c.is_over.ensures)
+    (collected (record seen { answers = later }) c.give.new.self t k gave.0 gave.1 ok.0 ok.1, c.is_over.ensures)
 
 pub returns-in-Err-taken-clause-collects : goal.returns-in-Err-taken-clause-collects
 returns-in-Err-taken-clause-collects g c = λ s seen later steps told stands keeps order.
@@ -30,7 +30,7 @@ returns-in-Err-taken-clause-collects g c = λ s seen later steps told stands kee
     let adv : Advanced c.args.self.now.host c.advance.new.self c.args.now = record { gives_up = a.gives_up; clock_is = a.clock; same = a.same; last = a.last } in
     let t = ticked (record seen { held = g.K.Sink.held c.args.sink.now }) adv told stands keeps order in
     let all = c.take_all-taken.ensures in
-    let taken = all.takes (outcomes t.steps') t.keeps.there t.order in
-    let k = keeps-taken t.keeps all.host all.plan all.reached all.window all.matches taken.0 in
+    let taken = all.takes (outcomes t.steps') t.keeps.there t.keeps.all (up-to t.stands t.keeps) t.order in
+    let k = keeps-taken t.keeps all.host all.plan all.reached all.window all.matches taken.0 taken.1 in
     let gave = c.in-Ok.ensures.gives (outcomes t.steps') k.there in
-    ends-by (record seen { answers = later }) c.give.new.self t k c.args.turns c.in-Err-taken.refusal gave.0 (rw c.in-Err-taken.is at taken.1)
+    ends-by (record seen { answers = later }) c.give.new.self t k c.args.turns c.in-Err-taken.refusal gave.0 (rw c.in-Err-taken.is at taken.2)

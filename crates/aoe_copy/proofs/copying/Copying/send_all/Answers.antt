@@ -22,7 +22,7 @@ pub returns-then-is_none-clause-sends : goal.returns-then-is_none-clause-sends
 returns-then-is_none-clause-sends g c = λ s turns seen steps stands keeps well.
     let same = c.pull.ensures.same in
     let stays = when-none ((log : List Event) → Matches log c.loop.self.host → Matches log c.pull.new.self) c.pull.result c.if-is_none.ensures c.pull.ensures.stays in
-    sends-over (c.loop.invariant.sent s seen steps stands keeps well) stays same.0 same.2 refl
+    sends-over (c.loop.invariant.sent s seen steps stands keeps well) stays same.0 same.2 same.3 refl
 
 pub returns-in-Err-clause-fit : goal.returns-in-Err-clause-fit
 returns-in-Err-clause-fit g c = let same = c.pull.ensures.same in fit-host c.loop.invariant.fit same.0 same.2 refl

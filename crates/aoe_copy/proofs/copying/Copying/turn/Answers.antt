@@ -16,7 +16,7 @@ returns-in-Ok-false-clause-turn g c = λ s seen later steps told stands keeps or
     let first = c.in-Ok-false.ensures.collects s before later steps told stands keeps order in
     let mid = record before { answers = later; held = g.K.Sink.held c.collect.new.sink } in
     turns-behind _ c.exchange.new.self c.args.turns first.0 c.exchange.result
-    (c.exchange.ensures.exchanges s c.args.turns mid first.0.steps' first.0.stands first.0.keeps first.0.goes_on)
+    (c.exchange.ensures.exchanges s c.args.turns mid first.0.steps' first.0.stands first.0.keeps first.0.goes_on first.0.given_out)
 
 pub returns-in-Err-clause-turn : goal.returns-in-Err-clause-turn
 returns-in-Err-clause-turn g c = λ s seen later steps told stands keeps order.
