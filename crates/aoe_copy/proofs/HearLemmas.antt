@@ -12,10 +12,10 @@ use Rattle.aoe_copy.specs.declared.copying.Copying.{Copying}
 use Rattle.aoe_copy.specs.declared.plan.Plan.{Plan}
 use Rattle.aoe_copy.specs.Copying.{count_heard, Passes, Setting, Went}
 use Rattle.aoe_copy.specs.Runs.{Seen}
-use Rattle.aoe_copy.specs.Steps.{asked, given, log_of, outcomes, turns_of, GoesOn, IsFilled, IsGivenOut, Step}
+use Rattle.aoe_copy.specs.Steps.{asked, given, log_of, outcomes, turns_of, GoesOn, IsFilled, IsGivenOut, IsSent, Step}
 use Rattle.aoe_copy.specs.Window.{read_done}
 use Rattle.aoe_copy.specs.Steps.Step.{hears}
-use Rattle.aoe_copy.proofs.StepLemmas.{go-on-then, goes-on, Sent-so}
+use Rattle.aoe_copy.proofs.StepLemmas.{go-on-then, goes-on}
 use Rattle.aoe_copy.proofs.WindowLemmas.{change-all, there-more}
 
 told-back : (heard : Option Heard) → reverse (told_by heard) ≡ told_by heard
@@ -32,10 +32,10 @@ still-filled p steps steps' filled asked_is given_is = rw (asked_is, given_is) f
 
 -- what one turn brought, of a host that goes on
 pub heard-one : {c : Setting} (seen : Seen) {turns turns' : ℕ} {given_by given_by' : Option (List Turn)} {steps : List Step} {x y : Copying} {finished : Bool}
-    (w : Went c (record seen { turns = turns; given = given_by }) steps x) → GoesOn steps → IsFilled c.plan w.steps' → IsGivenOut steps → x.host.waiting ≡ []
+    (w : Went c (record seen { turns = turns; given = given_by }) steps x) → GoesOn steps → IsFilled c.plan w.steps' → IsGivenOut steps → IsSent c.base c.plan w.steps' → x.host.waiting ≡ []
     → HearsOne finished x.host y.host turns turns' given_by given_by' → y ≡ record x { host = y.host }
     → (heard : Option Heard) × Passes c (record seen { turns = turns'; given = given_by' }) steps y heard × (finished ≡ is_heard heard)
-heard-one {c} seen {turns} {turns'} {given_by} {given_by'} {steps} {x} {y} w well filled out none one is =
+heard-one {c} seen {turns} {turns'} {given_by} {given_by'} {steps} {x} {y} w well filled out sent none one is =
     let k = w.keeps in
     let s = w.stands.seen_is in
     let log = log_of c.plan w.steps' in
@@ -47,7 +47,7 @@ heard-one {c} seen {turns} {turns'} {given_by} {given_by'} {steps} {x} {y} w wel
       record {
         steps' = hears one.brought heard ∷ w.steps';
         stands = record {
-          are = (w.stands.are, (still, filled, rw (w.on.outcomes_are, w.on.given_is) out, h.1));
+          are = (w.stands.are, (still, filled, rw (w.on.outcomes_are, w.on.given_is) out, sent, h.1));
           seen_is = record {
             turned = turned-then c.before.turns turns turns' c.before.given given_by given_by' (turns_of w.steps') (one.brought ∷ []) s.turned one.turned;
             took = s.took;
@@ -99,5 +99,5 @@ was-quiet {c} {seen} {steps} {y} is x = at x.0 x.1 (sym is ∙ x.2)
     at (Some h) p e = absurd cc
 
 -- frames were sent behind commands that were submitted
-abbrev pub sent-then : {c : Setting} {seen seen' : Seen} {steps : List Step} {x y : Copying} (w : Went c seen steps x) → Sent-so c seen' w.steps' y → Went c seen' steps y
-sent-then w so = record { steps' = so.0.steps'; on = go-on-then w.on so.0.on; stands = so.0.stands; keeps = so.0.keeps }
+abbrev pub sent-then : {c : Setting} {seen seen' : Seen} {steps : List Step} {x y : Copying} (w : Went c seen steps x) → Went c seen' w.steps' y → Went c seen' steps y
+sent-then w v = record { steps' = v.steps'; on = go-on-then w.on v.on; stands = v.stands; keeps = v.keeps }

@@ -144,14 +144,14 @@ heard-at base p (hears (came frame) (Some h) ∷ steps) n bytes are there =
         heard = h;
         earlier = steps;
         order = refl;
-        answers = are.1.3;
+        answers = are.1.4;
         ticket = ap (λ (x : Done). x.ticket) same;
         says = ap (λ (x : Done). x.outcome) same;
       }
       | inr before ↦ heard-later (hears (came frame) (Some h)) (heard-at base p steps n bytes are.0 before)
     ]
-heard-at base p (hears quiet (Some h) ∷ steps) n bytes are there = absurd are.1.3
-heard-at base p (hears over (Some h) ∷ steps) n bytes are there = absurd are.1.3
+heard-at base p (hears quiet (Some h) ∷ steps) n bytes are there = absurd are.1.4
+heard-at base p (hears over (Some h) ∷ steps) n bytes are there = absurd are.1.4
 heard-at base p (gives bytes' ∷ steps) n bytes are there = heard-later (gives bytes') (heard-at base p steps n bytes are.0 there)
 
 -- as many were submitted before

@@ -1,12 +1,13 @@
 -- What each step changes of what a copy keeps and is true of.
 use Rattle.std.proofs.Common.{ℕ, suc, ◌≡◌, ◌+◌, ◌<◌, ◌≤◌, true, false, nat_lt, List, [], ◌∷◌, length, Option, refl, sym, ap, ◌∙◌, arith, inl, inr}
-use Rattle.std.specs.Prelude.{Err}
+use Rattle.std.specs.Prelude.{Ok, Err}
 use Rattle.std.proofs.lemmas.List.{length-map}
 use Rattle.std.proofs.lemmas.Bool.{and_parts, cases_lt, lt-ltb, ltb-true}
 use Rattle.aoe_initiator.proofs.MatchLemmas.{same-then}
 use Rattle.aoe_initiator.specs.declared.device.Attached.{Attached}
 use Rattle.aoe_initiator.specs.declared.device.Device.{Device}
 use Rattle.aoe_initiator.specs.Host.{Host, IsSame, Matches}
+use Rattle.aoe_initiator.specs.HostLaw.{IsQuiet}
 use Rattle.aoe_initiator.specs.HostLog.{commands, submitted, Event}
 use Rattle.aoe_io.proofs.LinkLemmas.{Added-then}
 use Rattle.aoe_io.specs.Link.{Added}
@@ -20,10 +21,10 @@ use Rattle.aoe_initiator.specs.declared.step.Sent.{Sent}
 use Rattle.aoe_copy.specs.Window.{most_open}
 use Rattle.aoe_copy.specs.declared.copying.Copying.{Copying}
 use Rattle.aoe_copy.specs.declared.plan.Plan.{Plan}
-use Rattle.aoe_copy.specs.Copying.{is_open, left_of, may_ask, AsksOne, Ended, GoOn, IsFit, Keeps, Setting, Stands, Went}
+use Rattle.aoe_copy.specs.Copying.{is_open, left_of, may_ask, AsksOne, Ended, GoOn, IsFit, Keeps, Sends, Setting, Stands, Went}
 use Rattle.aoe_copy.specs.Plan.{reach}
 use Rattle.aoe_copy.specs.Runs.{HasSeen, Seen}
-use Rattle.aoe_copy.specs.Steps.{asked, frames_of, given, log_of, read_at, the_device, ticket_at, GoesOn, IsFilled, MayAsk, MaySend, Step}
+use Rattle.aoe_copy.specs.Steps.{asked, frames_of, given, log_of, read_at, sent_now, the_device, ticket_at, GoesOn, IsFilled, MayAsk, MaySend, Step}
 use Rattle.aoe_copy.specs.Steps.Step.{asks, sends}
 use Rattle.aoe_copy.proofs.WindowLemmas.{open-all, there-open}
 
@@ -143,16 +144,17 @@ sends-may {c} {steps} {x} host' k p =
     }
 
 -- frames were sent, and no command submitted
-abbrev pub Sent-so : Setting → Seen → List Step → Copying → Type 0
-Sent-so c seen steps x = (w : Went c seen steps x) × (asked w.steps' ≡ asked steps) × (given w.steps' ≡ given steps)
+abbrev pub Sent-so : ℕ → Setting → Seen → List Step → Copying → Type 0
+Sent-so n c seen steps x =
+    (w : Went c seen steps x) × (asked w.steps' ≡ asked steps) × (given w.steps' ≡ given steps) × (n ≤ sent_now w.steps')
 
-pub sent-none : {c : Setting} {seen : Seen} {steps : List Step} {x : Copying} → Stands c seen steps → Keeps c steps x → Sent-so c seen steps x
+pub sent-none : {c : Setting} {seen : Seen} {steps : List Step} {x : Copying} → Stands c seen steps → Keeps c steps x → Sent-so 0 c seen steps x
 sent-none {c} {steps = steps} stands keeps =
-    (record { steps' = steps; on = go-on-self c.plan steps; stands = stands; keeps = keeps }, refl, refl)
+    (record { steps' = steps; on = go-on-self c.plan steps; stands = stands; keeps = keeps }, refl, refl, omega arith)
 
-pub sends-more : {c : Setting} (seen : Seen) {mid after : Option (List (List ℕ))} {steps : List Step} {x y : Copying} {sent : Sent} {frame : List ℕ}
-    → Sent-so c (record seen { taken = mid }) steps x → GoesOn steps → Pulls x.host y.host sent frame → y ≡ record x { host = y.host }
-    → Added mid after (frame ∷ []) → Sent-so c (record seen { taken = after }) steps y
+pub sends-more : {n : ℕ} {c : Setting} (seen : Seen) {mid after : Option (List (List ℕ))} {steps : List Step} {x y : Copying} {sent : Sent} {frame : List ℕ}
+    → Sent-so n c (record seen { taken = mid }) steps x → GoesOn steps → Pulls x.host y.host sent frame → y ≡ record x { host = y.host }
+    → Added mid after (frame ∷ []) → Sent-so (n + 1) c (record seen { taken = after }) steps y
 sends-more {c} seen {mid} {after} {y = y} {sent} {frame} so well p is took =
     let w = so.0 in
     let s = w.stands.seen_is in (
@@ -167,13 +169,20 @@ sends-more {c} seen {mid} {after} {y = y} {sent} {frame} so well p is took =
       },
       so.1,
       so.2,
+      omega (arith, so.3),
     )
 
+-- as many frames were sent as commands can be open
+pub sends-full : {n : ℕ} {c : Setting} {seen : Seen} {steps : List Step} {x : Copying} (turns : ℕ) → Sent-so n c seen steps x → most_open ≤ n
+    → Sends (Ok record {}) c turns seen steps x
+sends-full turns so full = (so.0, so.1, so.2, inr (omega (arith, so.3, full)))
+
 -- no frame is left, and the host keeps what it did
-pub sends-over : {c : Setting} {seen : Seen} {steps : List Step} {x y : Copying} → Sent-so c seen steps x
+pub sends-over : {n : ℕ} {c : Setting} {seen : Seen} {steps : List Step} {x y : Copying} (turns : ℕ) → Sent-so n c seen steps x
+    → ((log : List Event) → Matches log x.host → IsQuiet x.host (commands log))
     → ((log : List Event) → Matches log x.host → Matches log y.host) → IsSame x.host y.host → y.host.last_ticket ≡ x.host.last_ticket
-    → y.host.waiting ≡ x.host.waiting → y ≡ record x { host = y.host } → Sent-so c seen steps y
-sends-over {c} {x = x} {y} so stays same last waits is =
+    → y.host.waiting ≡ x.host.waiting → y ≡ record x { host = y.host } → Sends (Ok record {}) c turns seen steps y
+sends-over {c = c} {x = x} {y} turns so quiet stays same last waits is =
     let w = so.0 in
     let k = w.keeps in (
       record {
@@ -193,6 +202,7 @@ sends-over {c} {x = x} {y} so stays same last waits is =
       },
       so.1,
       so.2,
+      inl (record { host = x.host; at = record { same = k.same; time = k.matches.time }; quiet = quiet (log_of c.plan w.steps') k.matches }),
     )
 
 -- a host that has its devices and its last ticket fits as before
@@ -213,8 +223,8 @@ fit-host {x} {y} fit same last is =
     })
 
 -- no link fails by itself: what it tells stays
-pub sends-fail : {c : Setting} (seen : Seen) {mid after : Option (List (List ℕ))} {steps : List Step} {x : Copying} (turns : ℕ)
-    → Sent-so c (record seen { taken = mid }) steps x → GoesOn steps → after ≡ mid
+pub sends-fail : {n : ℕ} {c : Setting} (seen : Seen) {mid after : Option (List (List ℕ))} {steps : List Step} {x : Copying} (turns : ℕ)
+    → Sent-so n c (record seen { taken = mid }) steps x → GoesOn steps → after ≡ mid
     → Ended (Err (copy.Tool tool.LinkFault)) c turns (record seen { taken = after })
 sends-fail seen turns so well is = rw is (record { steps = so.0.steps'; are = so.0.stands.are; ends = (so.0.stands.seen_is, goes-on so.0 well) })
 

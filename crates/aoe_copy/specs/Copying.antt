@@ -19,7 +19,7 @@ use Rattle.aoe_copy.specs.declared.copying.Passed.TheVariants as passed
 use Rattle.aoe_copy.specs.declared.plan.Plan.{Plan}
 use Rattle.aoe_copy.specs.Plan.{reach}
 use Rattle.aoe_copy.specs.Runs.{HasSeen, Runs, Seen}
-use Rattle.aoe_copy.specs.Steps.{Step, asked, given, log_of, outcomes, quiet_turns, the_device, ticket_at, AreSteps, Fails, GoesOn, IsFilled, IsGivenOut, IsWell}
+use Rattle.aoe_copy.specs.Steps.{Step, asked, given, log_of, outcomes, quiet_turns, the_device, ticket_at, AreSteps, Fails, GoesOn, IsFilled, IsGivenOut, IsSent, IsWell}
 use Rattle.aoe_copy.specs.Window.{most_open, read_done, AreThere, HasAll}
 
 -- its numbers fit one another: there is one device, each command submitted stands in the window or was given, no command asks for no
@@ -144,7 +144,7 @@ Asks (Err none_left) c turns seen steps x = Ended (Err (copy.Tool tool.NoMemory)
 
 -- frames were sent
 abbrev pub Sends : Result Unit Failed → Setting → ℕ → Seen → List Step → Copying → Type 0
-Sends (Ok done) c turns seen steps x = (w : Went c seen steps x) × (asked w.steps' ≡ asked steps) × (given w.steps' ≡ given steps)
+Sends (Ok done) c turns seen steps x = (w : Went c seen steps x) × (asked w.steps' ≡ asked steps) × (given w.steps' ≡ given steps) × IsSent c.base c.plan w.steps'
 Sends (Err failed) c turns seen steps x = Ended (Err (copy.Tool tool.LinkFault)) c turns seen
 
 abbrev pub count_heard : Option Heard → ℕ

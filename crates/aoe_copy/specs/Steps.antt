@@ -11,7 +11,7 @@ use Rattle.aoe_initiator.specs.HostLog.{commands, Event}
 use Rattle.aoe_initiator.specs.HostLog.Event.{Sends, Submits}
 use Rattle.aoe_io.specs.Link.{Turn}
 use Rattle.aoe_tools.specs.TransferCourse.{failure}
-use Rattle.aoe_tools.specs.TransferRun.{after_heard, after_tick, quiet_by, told_by, GivesUp, Heard, Hears, IsAt, Outgoing}
+use Rattle.aoe_tools.specs.TransferRun.{after_heard, after_tick, quiet_by, told_by, GivesUp, Heard, Hears, IsAt, IsSilent, Outgoing}
 use Rattle.aoe_tools.specs.declared.end.ToolRefusal.{ToolRefusal}
 use Rattle.aoe_copy.specs.declared.plan.Plan.{Plan}
 use Rattle.aoe_copy.specs.Plan.{reach, span_at}
@@ -97,6 +97,15 @@ quiet_turns (sends o ∷ steps) = quiet_turns steps
 quiet_turns (hears turn heard ∷ steps) = quiet_by heard (quiet_turns steps)
 quiet_turns (gives bytes ∷ steps) = quiet_turns steps
 
+-- how many frames were sent since the last turn of the link
+abbrev pub sent_now : List Step → ℕ
+sent_now [] = 0
+sent_now (ticks answer gave_up ∷ steps) = sent_now steps
+sent_now (asks ∷ steps) = sent_now steps
+sent_now (sends o ∷ steps) = suc (sent_now steps)
+sent_now (hears turn heard ∷ steps) = 0
+sent_now (gives bytes ∷ steps) = sent_now steps
+
 -- the command behind n others has the next ticket, is for the one device, and reads the sectors behind theirs (ATA, READ SECTORS EXT)
 abbrev pub ticket_at : ℕ → Ticket
 ticket_at n = record { 0 = suc n }
@@ -141,6 +150,10 @@ pub record MayAsk (p : Plan) (steps : List Step) : Type 0 where
 abbrev pub IsFilled : Plan → List Step → Type 0
 IsFilled p steps = (reach p (asked steps) ≡ p.count) ⊎ (given steps + most_open ≤ asked steps)
 
+-- nothing more may be sent, or as many frames were as commands can be open
+abbrev pub IsSent : Host → Plan → List Step → Type 0
+IsSent base p steps = IsSilent base (log_of p steps) ⊎ (most_open ≤ sent_now steps)
+
 -- the next command for the sink was answered with these sectors
 abbrev pub IsNextRead : List Step → List ℕ → Type 0
 IsNextRead steps bytes = Contains (outcomes steps) (read_done (suc (given steps)) bytes)
@@ -154,7 +167,7 @@ abbrev pub MayCome : Host → Plan → List Step → Step → Type 0
 MayCome base p steps (ticks answer gave_up) = GivesUp base (log_of p steps) answer gave_up
 MayCome base p steps asks = GoesOn steps × MayAsk p steps
 MayCome base p steps (sends o) = GoesOn steps × MaySend base (log_of p steps) o
-MayCome base p steps (hears turn heard) = GoesOn steps × IsFilled p steps × IsGivenOut steps × Hears base (log_of p steps) turn heard
+MayCome base p steps (hears turn heard) = GoesOn steps × IsFilled p steps × IsGivenOut steps × IsSent base p steps × Hears base (log_of p steps) turn heard
 MayCome base p steps (gives bytes) = IsNextRead steps bytes
 
 -- steps of a copy, each of which might come

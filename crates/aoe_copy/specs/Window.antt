@@ -6,10 +6,10 @@ use Rattle.aoe_initiator.specs.declared.outcome.Outcome.TheVariants as outcome
 use Rattle.aoe_io.specs.Bytes.{Took, TookSome}
 use Rattle.aoe_copy.specs.declared.window.Window.{Window}
 
--- the most commands that are under way or wait for the sink: as many as shelves announce that they queue (AoEr11, "Query Config
--- Information", Buffer Count)
+-- the most commands that are under way or wait for the sink: fewer than the 16 that shelves announce that they queue (AoEr11, "Query
+-- Config Information", Buffer Count), and so many that their responses of 17 sectors fit what a socket of Linux holds, 212,992 bytes
 abbrev pub most_open : ℕ
-most_open = 16
+most_open = 8
 
 -- the command with a ticket was answered with these sectors
 abbrev pub read_done : ℕ → List ℕ → Done

@@ -1,7 +1,7 @@
 //! Copies of any length out of a device: sectors that are read part by part and given to a sink
 //! (`aoe_io`), in order, each as soon as all before it are there.
 //!
-//! [`get`] finds the device as the tools of `aoe_tools` do, and then keeps up to 16 reads under way
+//! [`get`] finds the device as the tools of `aoe_tools` do, and then keeps up to 8 reads under way
 //! at a time, by a host (`aoe_initiator`) that repeats what isn't answered. It holds what these reads
 //! brought and no more, whatever the length. The first command has ticket 1, the next one 2, and so
 //! on, and each asks for the sectors behind those of the one before it.

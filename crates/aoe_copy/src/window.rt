@@ -11,9 +11,10 @@ use aoe_io::{Sink, give_all};
 use aoe_tools::{Refusal, ToolRefusal};
 use std::alloc::Global;
 
-/// The most commands of a window: as many as shelves announce that they queue (AoEr11, "Query Config
-/// Information", Buffer Count). More of them at once would overrun what a socket holds.
-pub(crate) const MAX_OPEN: u64 = 16;
+/// The most commands of a window. It is fewer than the 16 that shelves announce that they queue (AoEr11,
+/// "Query Config Information", Buffer Count), and the responses of 17 sectors to so many of them fit
+/// what a socket of Linux holds.
+pub(crate) const MAX_OPEN: u64 = 8;
 
 /// The commands behind those whose sectors were given to the sink, in the order of their tickets.
 #[derive(Drop)]

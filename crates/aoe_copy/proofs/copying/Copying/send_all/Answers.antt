@@ -1,8 +1,9 @@
-use Rattle.std.proofs.Common.{refl, List, ◌∙◌}
+use Rattle.std.proofs.Common.{refl, List, ◌∙◌, arith}
 use Rattle.aoe_initiator.specs.Host.{Matches}
-use Rattle.aoe_initiator.specs.HostLog.{Event}
+use Rattle.aoe_initiator.specs.HostLog.{commands, Event}
+use Rattle.aoe_initiator.specs.HostLaw.{IsQuiet}
 use Rattle.aoe_tools.proofs.SendingLemmas.{pulls, when-none}
-use Rattle.aoe_copy.proofs.StepLemmas.{fit-host, sends-fail, sends-more, sends-over, sent-none}
+use Rattle.aoe_copy.proofs.StepLemmas.{fit-host, sends-fail, sends-full, sends-more, sends-over, sent-none}
 use Rattle.aoe_copy.proofs.copying.Copying.send_all.Goals as goal
 
 pub loop-init : goal.loop-init
@@ -22,7 +23,8 @@ pub returns-then-is_none-clause-sends : goal.returns-then-is_none-clause-sends
 returns-then-is_none-clause-sends g c = λ s turns seen steps stands keeps well.
     let same = c.pull.ensures.same in
     let stays = when-none ((log : List Event) → Matches log c.loop.self.host → Matches log c.pull.new.self) c.pull.result c.if-is_none.ensures c.pull.ensures.stays in
-    sends-over (c.loop.invariant.sent s seen steps stands keeps well) stays same.0 same.2 same.3 refl
+    let quiet = when-none ((log : List Event) → Matches log c.loop.self.host → IsQuiet c.loop.self.host (commands log)) c.pull.result c.if-is_none.ensures c.pull.ensures.quiet in
+    sends-over turns (c.loop.invariant.sent s seen steps stands keeps well) quiet stays same.0 same.2 same.3 refl
 
 pub returns-in-Err-clause-fit : goal.returns-in-Err-clause-fit
 returns-in-Err-clause-fit g c = let same = c.pull.ensures.same in fit-host c.loop.invariant.fit same.0 same.2 refl
@@ -47,4 +49,5 @@ loop-preserved g c =
     }
 
 pub returns-clause-sends : goal.returns-clause-sends
-returns-clause-sends g c = λ s turns seen steps stands keeps well. c.loop.invariant.sent s seen steps stands keeps well
+returns-clause-sends g c = λ s turns seen steps stands keeps well.
+    sends-full turns (c.loop.invariant.sent s seen steps stands keeps well) (omega (arith, c.loop-test.false))

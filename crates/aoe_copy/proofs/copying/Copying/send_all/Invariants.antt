@@ -10,7 +10,7 @@ invariant-loop g l = record {
   fit : IsFit l.self;
   waiting : l.self.host.waiting ≡ l.fn.self.host.waiting;
   sent : (c : Setting) (seen : Seen) (steps : List Step) → Stands c (record seen { taken = g.L.Link.taken l.fn.link }) steps → Keeps c steps l.fn.self
-      → GoesOn steps → Sent-so c (record seen { taken = g.L.Link.taken l.link }) steps l.self;
+      → GoesOn steps → Sent-so l.counter c (record seen { taken = g.L.Link.taken l.link }) steps l.self;
   given : g.L.Link.given l.link ≡ g.L.Link.given l.fn.link;
   turns : g.L.Link.turns l.link ≡ g.L.Link.turns l.fn.link;
   faults : g.L.Link.faults l.link ≡ g.L.Link.faults l.fn.link;
