@@ -1,5 +1,6 @@
 mod Blame
 mod Complete
+mod CopyLemmas
 mod Exits
 mod OnSlots
 mod Refusals
