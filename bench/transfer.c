@@ -14,7 +14,14 @@
 #include <sys/time.h>
 #include <time.h>
 
-enum { HEADER = 24, DATA = HEADER + 12, MOST = 9018, SECTOR = 512, EACH = 2, UNDER_WAY = 64, ROOM = 16384 };
+// How many sectors a command has, and how many commands are under way: others by -DEACH=N and -DUNDER_WAY=N.
+#ifndef EACH
+#define EACH 2
+#endif
+#ifndef UNDER_WAY
+#define UNDER_WAY 64
+#endif
+enum { HEADER = 24, DATA = HEADER + 12, MOST = 9018, SECTOR = 512, ROOM = 16384 };
 enum { READ = 0x24, WRITE = 0x34, FLUSH = 0xea };
 
 struct command { uint32_t tag; uint64_t first; int under_way; };
