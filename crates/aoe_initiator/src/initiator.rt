@@ -606,6 +606,13 @@ impl Initiator {
         }
     }
 
+    /// How many commands have no outcome yet: those that wait, and those under way.
+    pub fn unfinished(&self) -> u64
+        ensures { result ≡ length self.now.pending }
+    {
+        self.pending.len() as u64
+    }
+
     /// The outcome that came first and wasn't taken yet.
     pub fn take_done(&mut self) -> Option<Done>
         ensures first { self.old.waiting ≡ option_to_list result ++ self.new.waiting }
