@@ -138,10 +138,14 @@ abbrev pub device_tool : Text → App
 device_tool name = with_rule (bare name) (needed (codes "dev"))
 
 abbrev pub get_app : App
-get_app = with_tool_options (with_rule (with_rule (device_tool (codes "get")) (allowed (codes "at"))) (allowed (codes "count")))
+get_app =
+    with_rule (with_tool_options (with_rule (with_rule (device_tool (codes "get")) (allowed (codes "at"))) (allowed (codes "count"))))
+    (flag (codes "progress"))
 
 abbrev pub put_app : App
-put_app = with_rule (with_tool_options (with_rule (device_tool (codes "put")) (needed (codes "at")))) (flag (codes "verify"))
+put_app =
+    with_rule (with_rule (with_tool_options (with_rule (device_tool (codes "put")) (needed (codes "at")))) (flag (codes "verify")))
+    (flag (codes "progress"))
 
 -- what all commands stand under: one has to be named, and it is the first word
 abbrev pub top : App

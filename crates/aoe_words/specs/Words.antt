@@ -267,6 +267,25 @@ stop_in (Keep action) rows = None
 abbrev pub stop_name : List Text → Option Text
 stop_name words = option_and_then (λ p. stop_in p.0 p.1) (spelled words)
 
+-- how far it has come is told where standard error is no terminal, too
+abbrev pub is_told_in : Command → List Row → Bool
+is_told_in (Answer answer) rows = false
+is_told_in (Serve serve) rows = false
+is_told_in (Mirror asked) rows = false
+is_told_in (Audit audit) rows = false
+is_told_in Replay rows = false
+is_told_in (Soak soak) rows = false
+is_told_in (Live live) rows = false
+is_told_in (Switch asked) rows = false
+is_told_in (Ask tool) rows = false
+is_told_in (Get get) rows = is_set (codes "progress") rows
+is_told_in (LongGet get) rows = is_set (codes "progress") rows
+is_told_in (Put put) rows = is_set (codes "progress") rows
+is_told_in (Keep action) rows = false
+
+abbrev pub is_told : List Text → Bool
+is_told words = option_map_or (λ p. is_told_in p.0 p.1) (spelled words) false
+
 -- what names its links: the one that it has, and two
 abbrev pub one_link : List Row → List PortWords
 one_link rows = option_map_or (λ ends. ends ∷ []) (link rows) []

@@ -97,6 +97,9 @@ const DURABLE: Argument = ("durable", Flag);
 /// How many turns it waits.
 const TURNS: Argument = ("turns", Optional);
 
+/// Whether it is told how far a copy has come where standard error is no terminal, too.
+const PROGRESS: Argument = ("progress", Flag);
+
 /// All commands. A function that names a `const` is proved with its whole value, and one that names
 /// a `static` isn't.
 pub(crate) static FORMS: [Form; 18] = [
@@ -187,6 +190,7 @@ pub(crate) static FORMS: [Form; 18] = [
             TAP,
             PORT,
             TURNS,
+            PROGRESS,
         ],
     ),
     (
@@ -201,6 +205,7 @@ pub(crate) static FORMS: [Form; 18] = [
             PORT,
             TURNS,
             ("verify", Flag),
+            PROGRESS,
         ],
     ),
     ("keep", &[KEEP, ACTION]),

@@ -3,7 +3,7 @@ ghost use Rattle.std.specs.Prelude.{◌≡◌, ◌≢◌, ◌≤◌, length, fal
 ghost use Rattle.std.specs.List.{list_all};
 ghost use Rattle.clap.specs.Values.{kind_of};
 ghost use Rattle.clap.specs.Words.{found_of, rows_of};
-ghost use Rattle.aoe_words.specs.Words.{CanRun, CanServe, Fits, IsFoundIn, IsInRange, answer_of, asked_of, audit_of, command, command_of, file_count, file_names, files_of, holds_back_durably, idle_of, is_durable, is_word, keep_action, keep_name, keep_of, link_count, links_of, list_tool_of, live_of, mirror_of, parsed, port_words, serve_of, serve_with, soak_of, spelled, stop_in, stop_name, switch_of, tool_of, with_rows};
+ghost use Rattle.aoe_words.specs.Words.{CanRun, CanServe, Fits, IsFoundIn, IsInRange, answer_of, asked_of, audit_of, command, command_of, file_count, file_names, files_of, holds_back_durably, idle_of, is_durable, is_told, is_told_in, is_word, keep_action, keep_name, keep_of, link_count, links_of, list_tool_of, live_of, mirror_of, parsed, port_words, serve_of, serve_with, soak_of, spelled, stop_in, stop_name, switch_of, tool_of, with_rows};
 ghost use Rattle.aoe_words.specs.Values.{link};
 
 use crate::app::matches;
@@ -493,6 +493,29 @@ pub fn stop_of(alloc: Global, words: &[String]) -> Result<Option<String>, NoMemo
     match stop_in(&found) {
         Some(name) => Ok(Some(String::from_str(alloc, name)?)),
         None => Ok(None),
+    }
+}
+
+/// Whether it is told how far a command has come where standard error is no terminal, too.
+fn is_told_in(found: &Found) -> bool
+    ensures { result ≡ is_told_in found.now.command (rows_of (found_of found.now.matches)) }
+{
+    match found.command {
+        Command::Get(_) | Command::LongGet(_) | Command::Put(_) => {
+            is_set(&found.matches, "progress")
+        }
+        _ => false,
+    }
+}
+
+/// Whether it is told how far a copy has come where standard error is no terminal, too: `--progress`
+/// of `get` and `put`.
+pub fn is_told(alloc: Global, words: &[String]) -> Result<bool, NoMemory>
+    ensures { IfOk result (λ told. told ≡ is_told (map string_bytes words.now)) }
+{
+    match spelled(alloc, words)? {
+        Some(found) => Ok(is_told_in(&found)),
+        None => Ok(false),
     }
 }
 
