@@ -1,5 +1,5 @@
 -- Scripts that grow by a line, and texts that are read line by line.
-use Rattle.std.proofs.Common.{◌≡◌, ◌∙◌, ◌+◌, ◌<◌, ◌≤◌, ℕ, zero, suc, Bool, true, false, not, List, [], ◌∷◌, ◌++◌, length, take, drop, map, Option, Some, None, nat_lt, refl, sym, ap, subst, arith, zero-add, ◌-◌}
+use Rattle.std.proofs.Common.{◌≡◌, ◌∙◌, ◌+◌, ◌<◌, ◌≤◌, ◌⊎◌, inl, inr, ℕ, zero, suc, Bool, true, false, not, List, [], ◌∷◌, ◌++◌, length, take, drop, map, Option, Some, None, nat_lt, refl, sym, ap, subst, arith, zero-add, ◌-◌}
 use Rattle.std.specs.Prelude.{All, IfSome, slice_get, option_and_then, Err}
 use Rattle.std.specs.Option.{option_or}
 use Rattle.std.specs.Str.Lines.{lines}
@@ -15,10 +15,11 @@ use Rattle.aoe_script.specs.declared.refusal.Why.TheVariants.{Value, Place}
 use Rattle.aoe_script.specs.declared.refusal.ScriptRefusal.{ScriptRefusal}
 use Rattle.aoe_script.specs.declared.refusal.ScriptRefusal.TheVariants.{NoMemory, BadLine, TooMany, TooLong}
 use Rattle.aoe_script.specs.declared.setup.Setup.{Setup}
-use Rattle.aoe_script.specs.Forms.{line_of}
-use Rattle.aoe_script.specs.Lines.{FailsFor, IsScript, ScriptLines, asked, declared, first_refusal, line_refusal, lines_of, refusal, refusal_at, said_by, script_of, with_line}
+use Rattle.aoe_script.specs.Forms.{line_of, takes_memory}
+use Rattle.aoe_script.specs.Lines.{FailsFor, IsScript, IsWanting, ScriptLines, asked, declared, first_refusal, line_refusal, lines_of, refusal, refusal_at, said_by, script_of, with_line}
 use Rattle.aoe_script.specs.Rules.{declared_why, event_why, is_setup, setup_why, unless}
 use Rattle.aoe_script.specs.Types.{FitsEvent, FitsSetup}
+use Rattle.aoe_script.specs.Words.{few_words}
 use Rattle.aoe_script.proofs.KeptLemmas.{both}
 
 -- what holds of each element behind those before it, with one more at the end
@@ -202,6 +203,24 @@ module _ (text rest line next : List ℕ) (number : ℕ) (script : ScriptLines) 
   fails T U (BadLine line why) short f = refused (BadLine line why) short f
   fails T U TooMany short f = refused TooMany short f
   fails T U TooLong short f = refused TooLong short f
+
+  -- there was no memory for it
+  pub wanting : length text ≤ 16777216 → (line_refusal (number + 1) script (line_of line) ≡ None) ⊎ (takes_memory (few_words line) ≡ true) → IsWanting text
+  wanting short wants =
+      let l = taken_more (lines text) (lines next) line number (h.left ∙ is) in
+      record {
+        short = short;
+        place = number;
+        line = line;
+        is_next = l.2;
+        good = h.good;
+        wants = also wants;
+      }
+    where
+      also : (line_refusal (number + 1) script (line_of line) ≡ None) ⊎ (takes_memory (few_words line) ≡ true)
+          → (refusal_at (said_by text) number ≡ None) ⊎ (takes_memory (few_words line) ≡ true)
+      also (inl good) = inl (at_next ∙ good)
+      also (inr bytes) = inr bytes
 
 -- all lines
 module _ (text rest : List ℕ) (number : ℕ) (script : ScriptLines) (h : AreRead text rest number script) (end : lines rest ≡ []) where

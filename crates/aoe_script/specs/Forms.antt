@@ -201,3 +201,14 @@ said ws = if length ws == 0 || slice_index (word_at ws 0) 0 == 35 then Blank els
 -- what a line says
 abbrev pub line_of : Text → Line
 line_of line = said (few_words line)
+
+-- ---- lines that take memory for themselves
+
+-- those that have bytes of any number: the text of a configuration, and a frame
+abbrev pub has_bytes : Option Keyword → Bool
+has_bytes (Some ConfigLine) = true
+has_bytes (Some InjectLine) = true
+has_bytes _ = false
+
+abbrev pub takes_memory : List Text → Bool
+takes_memory ws = has_bytes (keyword_of (word_at ws 0))

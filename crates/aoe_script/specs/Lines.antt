@@ -1,5 +1,5 @@
 -- What the lines of a text spell.
-use Rattle.std.specs.Prelude.{ℕ, All, zero, suc, ◌+◌, ◌≡◌, ◌≤◌, Bool, false, option_and_then, List, [], ◌∷◌, ◌++◌, length, map, take, nat_lt, nat_le, slice_get, Option, Some, None, if◌then◌else◌, IfSome, Result, Ok, Err}
+use Rattle.std.specs.Prelude.{ℕ, All, zero, suc, ◌+◌, ◌≡◌, ◌≤◌, ◌⊎◌, Bool, true, false, option_and_then, List, [], ◌∷◌, ◌++◌, length, map, take, nat_lt, nat_le, slice_get, Option, Some, None, if◌then◌else◌, IfSome, Result, Ok, Err}
 use Rattle.std.specs.List.{filter_map}
 use Rattle.std.specs.Option.{option_or}
 use Rattle.std.specs.Str.Lines.{lines}
@@ -10,10 +10,10 @@ use Rattle.aoe_script.specs.declared.refusal.Why.{Why}
 use Rattle.aoe_script.specs.declared.refusal.ScriptRefusal.{ScriptRefusal}
 use Rattle.aoe_script.specs.declared.refusal.ScriptRefusal.TheVariants.{NoMemory, BadLine, TooMany, TooLong}
 use Rattle.aoe_script.specs.declared.setup.Setup.{Setup}
-use Rattle.aoe_script.specs.Forms.{line_of}
+use Rattle.aoe_script.specs.Forms.{line_of, takes_memory}
 use Rattle.aoe_script.specs.Rules.{event_why, setup_why}
 use Rattle.aoe_script.specs.Types.{FitsEvent, FitsSetup}
-use Rattle.aoe_script.specs.Words.{Text}
+use Rattle.aoe_script.specs.Words.{Text, few_words}
 
 -- the setup lines and the event lines of a script, each in their order
 pub record ScriptLines : Type 0 where
@@ -89,6 +89,16 @@ FailsFor cause (Err NoMemory) = Unit {0}
 FailsFor cause (Err (BadLine line why)) = cause ≡ Some (BadLine line why)
 FailsFor cause (Err TooMany) = cause ≡ Some TooMany
 FailsFor cause (Err TooLong) = cause ≡ Some TooLong
+
+-- What holds where there is no memory for the next line of a text: nothing is wrong with the lines before it, and either nothing
+-- with it, or it takes memory for itself.
+pub record IsWanting (text : Text) : Type 0 where
+  pub short : length text ≤ 16777216
+  pub place : ℕ
+  pub line : Text
+  pub is_next : slice_get (lines text) place ≡ Some line
+  pub good : first_refusal (said_by text) place ≡ None
+  pub wants : (refusal_at (said_by text) place ≡ None) ⊎ (takes_memory (few_words line) ≡ true)
 
 -- a script with one line more
 abbrev pub with_line : ScriptLines → Line → ScriptLines

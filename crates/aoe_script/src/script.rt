@@ -1,7 +1,7 @@
 //! Scripts, and the text that spells one.
-ghost use Rattle.std.specs.Prelude.{◌≡◌, ◌+◌, ◌<◌, ◌≤◌, [], ◌∷◌, ◌++◌, length, nat_le, slice_get, IfOk, OnErr, OnOk, Some, None};
+ghost use Rattle.std.specs.Prelude.{◌≡◌, ◌+◌, ◌<◌, ◌≤◌, [], ◌∷◌, ◌++◌, length, nat_le, slice_get, Err, IfOk, OnErr, OnOk, Some, None};
 ghost use Rattle.std.specs.List.{list_any};
-ghost use Rattle.aoe_script.specs.Lines.{FailsFor, IsScript, ScriptLines, line_refusal, lines_of, refusal, refused_for, said_by, script_of, with_line};
+ghost use Rattle.aoe_script.specs.Lines.{FailsFor, IsScript, IsWanting, ScriptLines, line_refusal, lines_of, refusal, refused_for, said_by, script_of, with_line};
 ghost use Rattle.aoe_script.specs.Rules.{event_why, marks, setup_why};
 
 use crate::event::Event;
@@ -90,6 +90,8 @@ impl Script {
     fn declare(&mut self, number: u32, setup: Setup) -> Result<(), ScriptRefusal>
         requires { length self.old.setups < 16777216 }
         ensures cause { FailsFor (line_refusal number self.old (Line.Declares setup)) result }
+        ensures memory { result ≡ Err ScriptRefusal.NoMemory
+            → line_refusal number self.old (Line.Declares setup) ≡ None }
         ensures ok { OnOk result (self.new ≡ with_line self.old (Line.Declares setup)) }
     {
         let behind = self.events.len() > 0;
@@ -106,6 +108,8 @@ impl Script {
     /// Takes an event in.
     fn ask(&mut self, number: u32, event: Event) -> Result<(), ScriptRefusal>
         ensures cause { FailsFor (line_refusal number self.old (Line.Asks event)) result }
+        ensures memory { result ≡ Err ScriptRefusal.NoMemory
+            → line_refusal number self.old (Line.Asks event) ≡ None }
         ensures ok { OnOk result (self.new ≡ with_line self.old (Line.Asks event)) }
         ensures err { OnErr result (self.new ≡ self.old) }
     {
@@ -126,6 +130,8 @@ impl Script {
     fn enter(&mut self, number: u32, line: Line) -> Result<(), ScriptRefusal>
         requires { length self.old.setups < 16777216 }
         ensures cause { FailsFor (line_refusal number self.old line) result }
+        ensures memory { result ≡ Err ScriptRefusal.NoMemory
+            → line_refusal number self.old line ≡ None }
         ensures ok { OnOk result (self.new ≡ with_line self.old line) }
     {
         match line {
@@ -141,6 +147,9 @@ impl Script {
         ensures cause { FailsFor (line_refusal
             (length self.old.setups + length self.old.events + 1) self.old
             (Line.Asks event)) result }
+        ensures memory { result ≡ Err ScriptRefusal.NoMemory → line_refusal
+            (length self.old.setups + length self.old.events + 1) self.old
+            (Line.Asks event) ≡ None }
         ensures ok { OnOk result (self.new ≡ with_line self.old (Line.Asks event)) }
         ensures err { OnErr result (self.new ≡ self.old) }
     {
@@ -153,6 +162,7 @@ impl Script {
 fn read_lines(alloc: Global, text: &[u8]) -> Result<Script, ScriptRefusal>
     requires { length text.now ≤ 16777216 }
     ensures cause { FailsFor (refusal text.now) result }
+    ensures memory { result ≡ Err ScriptRefusal.NoMemory → IsWanting text.now }
     ensures script { IfOk result (λ script. script ≡ script_of text.now) }
 {
     let mut script = Script::empty(alloc);
@@ -173,9 +183,11 @@ fn read_lines(alloc: Global, text: &[u8]) -> Result<Script, ScriptRefusal>
 }
 
 /// The script that a text spells. It is refused for its length, or for the first line that is bad
-/// or one event too many.
+/// or one event too many. Memory is asked for only where nothing is wrong with the lines before: for
+/// the bytes of a line, and for a line with which nothing is wrong.
 pub fn read_script(alloc: Global, text: &[u8]) -> Result<Script, ScriptRefusal>
     ensures cause { FailsFor (refusal text.now) result }
+    ensures memory { result ≡ Err ScriptRefusal.NoMemory → IsWanting text.now }
     ensures script { IfOk result (λ script. script ≡ script_of text.now) }
 {
     if text.len() > LONGEST_TEXT {

@@ -1,7 +1,7 @@
 //! The table of lines: what any line says.
-ghost use Rattle.std.specs.Prelude.{◌≡◌, IfOk, length, ◌==◌, ◌||◌, slice_index};
-ghost use Rattle.aoe_script.specs.Forms.{asks, declares, line_of, row_of, said};
-ghost use Rattle.aoe_script.specs.Words.{word_at};
+ghost use Rattle.std.specs.Prelude.{◌≡◌, IfOk, OnErr, length, ◌==◌, ◌||◌, slice_index, true, Some};
+ghost use Rattle.aoe_script.specs.Forms.{asks, declares, has_bytes, line_of, row_of, said, takes_memory};
+ghost use Rattle.aoe_script.specs.Words.{few_words, word_at};
 
 use crate::event::Event;
 use crate::forms::{attach_of, host_of, life_of, readonly_of, shelf_of, slot_of};
@@ -49,7 +49,8 @@ fn asks(shaped: bool, event: Option<Event>) -> Line
 
 /// What the row of a first word says.
 fn row_of(alloc: Global, keyword: Keyword, words: &Words) -> Result<Line, NoMemory>
-    ensures { IfOk result (λ line. line ≡ row_of keyword words.now) }
+    ensures line { IfOk result (λ line. line ≡ row_of keyword words.now) }
+    ensures memory { OnErr result (has_bytes (Some keyword) ≡ true) }
 {
     let count = words.len();
     let line = match keyword {
@@ -90,7 +91,8 @@ fn is_blank(words: &Words) -> bool
 /// What words say.
 #[tactic(auto, unfolding(crate::specs::Forms::said))]
 fn said(alloc: Global, words: &Words) -> Result<Line, NoMemory>
-    ensures { IfOk result (λ line. line ≡ said words.now) }
+    ensures said { IfOk result (λ line. line ≡ said words.now) }
+    ensures memory { OnErr result (takes_memory words.now ≡ true) }
 {
     if is_blank(words) {
         return Ok(Line::Blank);
@@ -103,7 +105,8 @@ fn said(alloc: Global, words: &Words) -> Result<Line, NoMemory>
 
 /// What a line says, whatever stands before it.
 pub fn read_line(alloc: Global, line: &[u8]) -> Result<Line, NoMemory>
-    ensures { IfOk result (λ said. said ≡ line_of line.now) }
+    ensures said { IfOk result (λ said. said ≡ line_of line.now) }
+    ensures memory { OnErr result (takes_memory (few_words line.now) ≡ true) }
 {
     said(alloc, &Words::of(line))
 }
