@@ -1,5 +1,6 @@
 -- What is wrong with words that are no command.
-use Rattle.std.specs.Prelude.{ℕ, ◌≡◌, ◌<◌, ◌≤◌, ◌+◌, Bool, true, false, is_some, ◌||◌, List, [], get_or, length, None, if◌then◌else◌, unwrap_or, codes, MatchOption}
+use Rattle.std.specs.Prelude.{ℕ, ◌≡◌, ◌<◌, ◌≤◌, ◌+◌, Bool, true, false, is_some, ◌||◌, List, [], ◌∷◌, get_or, length, None, if◌then◌else◌, unwrap_or, codes, MatchOption}
+use Rattle.std.specs.List.{list_all, list_any}
 use Rattle.std.specs.Str.{bytes_eq}
 use Rattle.clap.specs.Words.{Text}
 use Rattle.aoe_base.specs.Names.{device_of, mac_of}
@@ -36,6 +37,15 @@ IsMisfit wrong.Directive text = dir_of text ≡ None
 IsMisfit (wrong.Action actions) text = is_action actions text ≡ false
 IsMisfit wrong text = ⊥
 
+-- the names of the commands
+abbrev pub command_names : List Text
+command_names =
+    codes "answer" ∷ codes "capture" ∷ codes "serve" ∷ codes "mirror" ∷ codes "audit" ∷ codes "replay" ∷ codes "soak" ∷ codes "live" ∷ codes "switch"
+    ∷ codes "discover" ∷ codes "stat" ∷ codes "cfg" ∷ codes "mask" ∷ codes "reserve" ∷ codes "flush" ∷ codes "get" ∷ codes "put" ∷ codes "keep" ∷ []
+
+abbrev pub is_command_name : Text → Bool
+is_command_name name = list_any (bytes_eq name) command_names
+
 -- the word at this place
 abbrev pub word_at : ℕ → List Text → Text
 word_at n words = get_or words n []
@@ -50,7 +60,7 @@ IsNoValue n words = n < length words → is_value (word_at n words) ≡ false
 
 -- this is wrong with the word at this place; all that isn't said of the command or of any word is said of words behind the command
 abbrev pub IsWrongAt : List Text → ℕ → Wrong → Type 0
-IsWrongAt words n wrong.Command = n ≡ 0
+IsWrongAt words n wrong.Command = (n ≡ 0) × (is_command_name (word_at n words) ≡ false)
 IsWrongAt words n wrong.Word = is_word (word_at n words) ≡ false
 IsWrongAt words n wrong.Option = (1 ≤ n) × (is_value (word_at n words) ≡ false)
 IsWrongAt words n wrong.Twice = (1 ≤ n) × (is_value (word_at n words) ≡ false)
@@ -59,11 +69,11 @@ IsWrongAt words n wrong.NoValue = (1 ≤ n) × (is_value (word_at n words) ≡ f
 IsWrongAt words n wrong.Further = (1 ≤ n) × (is_value (word_at n words) ≡ true)
 IsWrongAt words n wrong = (1 ≤ n) × IsMisfit wrong (value_in (word_at n words))
 
--- this is wrong with all words
+-- this is wrong with all words: there are none; or each can stand on a command line, and the first is the name of a command
 abbrev pub IsWrongOfAll : List Text → Wrong → Type 0
 IsWrongOfAll words wrong.NoCommand = words ≡ []
-IsWrongOfAll words (wrong.Missing name) = 1 ≤ length words
-IsWrongOfAll words wrong.Together = 1 ≤ length words
+IsWrongOfAll words (wrong.Missing name) = (list_all is_word words ≡ true) × (is_command_name (word_at 0 words) ≡ true)
+IsWrongOfAll words wrong.Together = (list_all is_word words ≡ true) × (is_command_name (word_at 0 words) ≡ true)
 IsWrongOfAll words wrong = ⊥
 
 -- the reason of a slip holds of the word that it names, which is there, or of all words

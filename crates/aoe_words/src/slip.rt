@@ -1,6 +1,8 @@
 //! What is wrong with words that are no command.
-ghost use Rattle.std.specs.Prelude.{◌≡◌, ◌<◌, ◌≤◌, ◌↔◌, false, is_some, length, map, string_bytes, true, IfErr, IfOk, IfSome, IsSome, None, Some};
-ghost use Rattle.aoe_words.specs.Slips.{IsMisfit, IsSlip, IsWrongOfAll, is_action, value_in, word_at};
+ghost use Rattle.std.specs.Prelude.{◌≡◌, ◌<◌, ◌≤◌, ◌↔◌, false, is_some, length, map, string_bytes, true, IfErr, IfNone, IfOk, IfSome, IsSome, None, Some};
+ghost use Rattle.std.specs.List.{list_all, list_any};
+ghost use Rattle.std.specs.Str.{bytes_eq};
+ghost use Rattle.aoe_words.specs.Slips.{IsMisfit, IsSlip, IsWrongOfAll, is_action, is_command_name, value_in, word_at};
 ghost use Rattle.aoe_words.specs.Values.{number_within};
 ghost use Rattle.aoe_words.specs.Words.{command, is_value, is_word};
 
@@ -415,7 +417,8 @@ fn lacking_end(form: Form, words: &[String]) -> Option<&'static str> {
 
 /// What is wrong with words each of which is good, of which so many are no options.
 fn lack(form: Form, words: &[String], before: usize) -> Wrong
-    requires { 1 ≤ length words.now }
+    requires words { list_all is_word (map string_bytes words.now) ≡ true }
+    requires name { is_command_name (word_at 0 (map string_bytes words.now)) ≡ true }
     ensures { IsWrongOfAll (map string_bytes words.now) result }
 {
     let needed = form
@@ -434,10 +437,30 @@ fn lack(form: Form, words: &[String], before: usize) -> Wrong
     }
 }
 
+/// The form of this name among these.
+fn form_in(forms: &[Form], name: &str) -> Option<Form>
+    ensures { is_some result ≡ list_any (λ form. bytes_eq name.now form.0.now) forms.now }
+{
+    'forms: for form in forms {
+        if name == form.0 {
+            return Some(*form);
+        }
+    }
+    None
+}
+
+/// The form of the command of this name.
+fn form_of(name: &str) -> Option<Form>
+    ensures { is_some result ≡ is_command_name name.now }
+{
+    form_in(&FORMS, name)
+}
+
 /// The first word that can stand on no command line.
 fn first_bad(words: &[String]) -> Option<usize>
-    ensures { IfSome result (λ n. (n < length words.now)
+    ensures bad { IfSome result (λ n. (n < length words.now)
         × (is_word (word_at n (map string_bytes words.now)) ≡ false)) }
+    ensures good { IfNone result (list_all is_word (map string_bytes words.now) ≡ true) }
 {
     'words: for place in 0..words.len() {
         if !is_word(word_at(words, place)) {
@@ -457,11 +480,11 @@ fn first_slip(words: &[String]) -> Slip
     let Some(name) = words.first() else {
         return of_all(Wrong::NoCommand);
     };
-    let Some(form) = FORMS.iter().find(|form| form.0 == name.as_str()) else {
+    let Some(form) = form_of(name.as_str()) else {
         return at(0, Wrong::Command);
     };
-    match walk(*form, words) {
-        Ok(before) => of_all(lack(*form, words, before)),
+    match walk(form, words) {
+        Ok(before) => of_all(lack(form, words, before)),
         Err(slip) => slip,
     }
 }
