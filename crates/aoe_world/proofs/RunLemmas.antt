@@ -55,7 +55,7 @@ stops_no_sink end script stops e = rw e at stops
 module _ (left left' held : Option (List ℕ)) where
   pub unread : (end : ReplayEnd) → Unread end left left' → Replayed end left left' held held
   unread SourceFault u = (u, refl)
-  unread NoMemory u = (u, refl)
+  unread NoMemory u = (inl u, refl)
   unread _ u = absurd u
 
 module _ (left left' : Option (List ℕ)) (text : List ℕ) (read : IsRead left left' text) where
@@ -63,7 +63,7 @@ module _ (left left' : Option (List ℕ)) (text : List ℕ) (read : IsRead left 
   gave_all short = record { gave = read.gave; ended = read.ended short; short = short }
 
   pub refused : (end : ReplayEnd) (held : Option (List ℕ)) → IsRefusedAs end text → Replayed end left left' held held
-  refused NoMemory held r = ((text, read.gave), refl)
+  refused NoMemory held r = (inr (text, gave_all r.short, inl r), refl)
   refused (Script line why) held r = ((text, gave_all r.0, r.1), refl)
   refused (Limit Events) held r = ((text, gave_all r.0, r.1), refl)
   refused (Limit ScriptBytes) held r = (record { text = text; gave = read.gave; long = r; within = read.within }, refl)
@@ -78,7 +78,7 @@ module _ (left left' : Option (List ℕ)) (text : List ℕ) (read : IsRead left 
     ran_script SinkFault runs = spelled SinkFault runs
     ran_script (Limit Frames) runs = spelled (Limit Frames) runs
     ran_script (Limit FrameBytes) runs = spelled (Limit FrameBytes) runs
-    ran_script NoMemory runs = ((text, read.gave), runs)
+    ran_script NoMemory runs = (inr (text, gave_all (short_none text good), inr good), runs)
     ran_script _ runs = absurd runs
 
     pub ran : (end : ReplayEnd) (script : ScriptLines) → script ≡ script_of text → Runs end script held held' → Replayed end left left' held held'

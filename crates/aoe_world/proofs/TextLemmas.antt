@@ -7,7 +7,7 @@ use Rattle.aoe_script.specs.declared.line.Line.{Line}
 use Rattle.aoe_script.specs.declared.refusal.Why.{Why}
 use Rattle.aoe_script.specs.declared.refusal.ScriptRefusal.{ScriptRefusal}
 use Rattle.aoe_script.specs.declared.refusal.ScriptRefusal.TheVariants.{NoMemory, BadLine, TooMany, TooLong}
-use Rattle.aoe_script.specs.Lines.{FailsFor, ScriptLines, first_refusal, line_refusal, refusal, refusal_at, refused_for, said_by}
+use Rattle.aoe_script.specs.Lines.{FailsFor, IsWanting, ScriptLines, first_refusal, line_refusal, refusal, refusal_at, refused_for, said_by}
 use Rattle.aoe_world.specs.Replay.{refused_as, IsRefusedAs}
 
 never_long_line : (number : ℕ) (w : Option Why) (over : Bool) → refused_for number w over ≡ Some TooLong → ⊥
@@ -46,11 +46,12 @@ short_text {cause} text e other = go (nat_lt 16777216 (length text)) refl e
     go false is e = ltb-false 16777216 (length text) is
 
 -- why a text is refused that has a cause, or for which there was no memory
-pub refused_text : (text : List ℕ) (r : ScriptRefusal) → FailsFor {T = ScriptLines} (refusal text) (Err r) → IsRefusedAs (refused_as r) text
-refused_text text NoMemory cause = tt
-refused_text text (BadLine line why) cause = (short_text text cause (λ f. cc), cause)
-refused_text text TooMany cause = (short_text text cause (λ f. cc), cause)
-refused_text text TooLong cause = long_text text cause
+pub refused_text : (text : List ℕ) (r : ScriptRefusal) → FailsFor {T = ScriptLines} (refusal text) (Err r) → (r ≡ NoMemory → IsWanting text)
+    → IsRefusedAs (refused_as r) text
+refused_text text NoMemory cause memory = memory refl
+refused_text text (BadLine line why) cause memory = (short_text text cause (λ f. cc), cause)
+refused_text text TooMany cause memory = (short_text text cause (λ f. cc), cause)
+refused_text text TooLong cause memory = long_text text cause
 
 pub short_none : (text : List ℕ) → refusal text ≡ None → length text ≤ 16777216
 short_none text e = short_text text e (λ f. cc)

@@ -1,7 +1,7 @@
 -- What a replay takes, gives and leaves, by how it ended.
 use Rattle.std.specs.Prelude.{ℕ, ◌+◌, ◌-◌, ◌^◌, ◌<◌, ◌≤◌, ◌≡◌, ◌⊎◌, if◌then◌else◌, nat_le, List, [], ◌∷◌, length, take, slice_get, Option, Some, None}
 use Rattle.aoe_io.specs.Bytes.{Gave, GaveSome, Took, TookSome, IsEnded}
-use Rattle.aoe_io.specs.Input.{IsReadUpTo}
+use Rattle.aoe_io.specs.Input.{IsReadInPart, IsReadUpTo}
 use Rattle.aoe_history.specs.declared.entry.Entry.{Entry}
 use Rattle.aoe_history.specs.Frames.{frames}
 use Rattle.aoe_history.specs.Lawful.{IsLawful}
@@ -14,7 +14,7 @@ use Rattle.aoe_script.specs.declared.refusal.ScriptRefusal.{ScriptRefusal}
 use Rattle.aoe_script.specs.declared.refusal.ScriptRefusal.TheVariants.{BadLine, TooMany, TooLong}
 use Rattle.aoe_script.specs.declared.refusal.ScriptRefusal.TheVariants as script
 use Rattle.aoe_script.specs.declared.setup.Setup.{Setup as Line}
-use Rattle.aoe_script.specs.Lines.{ScriptLines, refusal, script_of}
+use Rattle.aoe_script.specs.Lines.{IsWanting, ScriptLines, refusal, script_of}
 use Rattle.aoe_transcript.specs.Counts.{run_text, summary_of}
 use Rattle.aoe_transcript.specs.Summary.{summary_text}
 use Rattle.aoe_world.specs.declared.part.Part.{Part}
@@ -125,6 +125,11 @@ abbrev pub Spells : ReplayEnd → Option (List ℕ) → Option (List ℕ) → Op
 Spells end left left' held held' =
     (text : List ℕ) × GaveAll left left' text × (refusal text ≡ None) × Runs end (script_of text) held held'
 
+-- There was no memory: for the next bytes of a text that isn't too long so far; for a line of a text that came whole, where nothing is
+-- wrong before that line; or for the run of a text that spells a script.
+abbrev pub Wants : Option (List ℕ) → Option (List ℕ) → Type 0
+Wants left left' = IsReadInPart 16777216 left left' ⊎ ((text : List ℕ) × GaveAll left left' text × (IsWanting text ⊎ (refusal text ≡ None)))
+
 -- ---- a replay
 
 abbrev pub Replayed : ReplayEnd → Option (List ℕ) → Option (List ℕ) → Option (List ℕ) → Option (List ℕ) → Type 0
@@ -136,7 +141,7 @@ Replayed (Limit ScriptBytes) left left' held held' = GaveMore left left' × (hel
 Replayed (Limit Events) left left' held held' = Refuses left left' TooMany × (held' ≡ held)
 Replayed (Script line why) left left' held held' = Refuses left left' (BadLine line why) × (held' ≡ held)
 Replayed SourceFault left left' held held' = GaveSome left left' × (held' ≡ held)
-Replayed NoMemory left left' held held' = GaveSome left left' × (held' ≡ held)
+Replayed NoMemory left left' held held' = Wants left left' × (held' ≡ held)
 
 -- but at the end and where it failed, the sink is as it was
 abbrev pub LeavesSink : {T : Type 0} → ReplayEnd → T → T → Type 0
@@ -162,7 +167,7 @@ HasRun end script = (end ≡ Ended) ⊎ Stops end script
 -- why no text came
 abbrev pub Unread : ReplayEnd → Option (List ℕ) → Option (List ℕ) → Type 0
 Unread SourceFault left left' = GaveSome left left'
-Unread NoMemory left left' = GaveSome left left'
+Unread NoMemory left left' = IsReadInPart 16777216 left left'
 Unread (Limit limit) left left' = ⊥
 Unread (Script line why) left left' = ⊥
 Unread Ended left left' = ⊥
@@ -181,7 +186,7 @@ refused_as TooLong = Limit ScriptBytes
 
 -- why a text spells no script
 abbrev pub IsRefusedAs : ReplayEnd → List ℕ → Type 0
-IsRefusedAs NoMemory text = Unit {0}
+IsRefusedAs NoMemory text = IsWanting text
 IsRefusedAs (Script line why) text = (length text ≤ 16777216) × (refusal text ≡ Some (BadLine line why))
 IsRefusedAs (Limit Events) text = (length text ≤ 16777216) × (refusal text ≡ Some TooMany)
 IsRefusedAs (Limit ScriptBytes) text = 16777216 < length text
