@@ -2,7 +2,8 @@
 ghost use Rattle.std.specs.Prelude.{◌≤◌, ◌<◌, ◌^◌};
 
 use aoe_ata::{
-    AFLAG_EXTENDED, AFLAG_WRITE, AtaAnswer, AtaArgs, CommandCode, decide, identify_page, read_args,
+    AFLAG_EXTENDED, AFLAG_WRITE, AtaAnswer, AtaArgs, CommandCode, ERROR_ABRT, ERROR_IDNF,
+    ERROR_UNC, STATUS_DF, STATUS_DRDY, STATUS_DRQ, STATUS_ERR, decide, identify_page, read_args,
     read_identify, write_args,
 };
 use aoe_base::{AoeError, Span};
@@ -34,6 +35,14 @@ fn registers_go_both_ways(rt: HostRuntime) {
     };
     let bytes = [0x41, 0, 2, 0x34, 0x0f, 0x0e, 0x0d, 0x0c, 0x0b, 0x0a, 0, 0];
     assert!(rt; go_both_ways(&args, &bytes));
+}
+
+/// The bits of the status, and those of the error register, as the standard has them.
+#[test]
+fn bits_of_registers(rt: HostRuntime) {
+    let status = [STATUS_ERR, STATUS_DRQ, STATUS_DF, STATUS_DRDY];
+    let error = [ERROR_ABRT, ERROR_IDNF, ERROR_UNC];
+    assert!(rt; status == [0x01, 0x08, 0x20, 0x40] && error == [0x04, 0x10, 0x40]);
 }
 
 /// A page that has these bytes from these places on, and zeros else.

@@ -1,6 +1,7 @@
 //! Capture files, read and written.
 ghost use Rattle.std.specs.Prelude.{◌≤◌, length};
 
+use crate::checks::holds;
 use aoe_frame::Frame;
 use aoe_io::MemSource;
 use aoe_pcap::{
@@ -235,5 +236,24 @@ fn tells_a_fault_of_the_source(rt: HostRuntime) -> Result<(), Fail> {
         },
     );
     assert!(rt; is_told && is_taken && is_told_again);
+    Ok(())
+}
+
+#[test]
+fn says_why_a_file_is_not_read_on(rt: HostRuntime) -> Result<(), Fail> {
+    let cases = [
+        (PcapRefusal::SourceFault, "source fault"),
+        (PcapRefusal::BadHeader, "bad header"),
+        (
+            PcapRefusal::BadRecord {
+                number: 4_294_967_295,
+            },
+            "bad record 4294967295",
+        ),
+    ];
+    for (refusal, text) in &cases {
+        let told = format!(in rt.alloc(); "{refusal}")?;
+        holds(&rt, told.as_str() == *text, text);
+    }
     Ok(())
 }

@@ -94,13 +94,15 @@ const QUIET: Turn = Turn::Gives(Ok(Got::Quiet));
 fn joined_links_give_what_the_other_took(rt: HostRuntime) -> Result<(), Fail> {
     let long = [0; 9019];
     // Whether it is the turn of the first end, what it does, and the bytes.
-    let turns: [(bool, Turn, &[u8]); 14] = [
+    let turns: [(bool, Turn, &[u8]); 19] = [
         (false, QUIET, b""),
         (true, Turn::Takes, b"first"),
         (true, Turn::Takes, b"second"),
         (true, Turn::Refuses, b"third"),
         (true, QUIET, b""),
         (false, Turn::Takes, b"back"),
+        (false, Turn::Takes, b"again"),
+        (false, Turn::Refuses, b"full"),
         (false, Turn::Brings, b"first"),
         (true, Turn::Takes, b"fourth"),
         (false, Turn::Brings, b"second"),
@@ -108,6 +110,9 @@ fn joined_links_give_what_the_other_took(rt: HostRuntime) -> Result<(), Fail> {
         (false, QUIET, b""),
         (true, Turn::Brings, b"back"),
         (false, Turn::Refuses, &long),
+        (false, Turn::Takes, b"last"),
+        (true, Turn::Brings, b"again"),
+        (true, Turn::Brings, b"last"),
         (true, QUIET, b""),
     ];
     let (mut one, mut two) = JoinedLink::pair(rt.alloc(), 2)?;
