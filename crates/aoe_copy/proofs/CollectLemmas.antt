@@ -60,7 +60,7 @@ module _ {c : Setting} {steps : List Step} {x : Copying} {h : Host} {now : ℕ} 
       record { in_turn = rw (time, k.same.dead) at g.0; all = rw (time, k.same.dead) at g.1 }
 
 module _ {x : Host} {h : Host} {now : ℕ} (a : Advanced x h now) {outs : List Done} (o : InOrder x.waiting outs) where
-  still-in-order : InOrder h.waiting (a.gives_up.0 ++ outs)
+  pub still-in-order : InOrder h.waiting (a.gives_up.0 ++ outs)
   still-in-order =
       let up = a.gives_up.0 in
       let back : reverse h.waiting ≡ up ++ reverse x.waiting =
@@ -219,30 +219,22 @@ keeps-after {c} {steps} {x} w parts k given_is there all =
 left-after : (p : Plan) (parts : List (List ℕ)) (steps : List Step) → left_of p (after_gives parts steps) ≤ left_of p steps
 left-after p parts steps = let a = alike p parts steps in rw (a.log_is, a.asked_is) (omega arith)
 
+-- an outcome is neither want of memory nor a fault of the link
+pub refused-why : (turns : ℕ) (o : Outcome) → ((failure turns o ≡ Some tool.NoMemory → ⊥) × (failure turns o ≡ Some tool.LinkFault → ⊥))
+refused-why turns (outcome.Read bytes) = (λ e. cc, λ e. cc)
+refused-why turns outcome.Written = (λ e. cc, λ e. cc)
+refused-why turns outcome.Flushed = (λ e. cc, λ e. cc)
+refused-why turns (outcome.Told args) = (λ e. cc, λ e. cc)
+refused-why turns (outcome.AtaError status error) = (λ e. cc, λ e. cc)
+refused-why turns (outcome.AoeError error) = (λ e. cc, λ e. cc)
+refused-why turns (outcome.GaveUp first now) = (λ e. cc, λ e. cc)
+
 -- why an outcome ends a copy
 why : (turns : ℕ) (o : Outcome) (p : Plan) (steps : List Step) (e : ToolRefusal) → failure turns o ≡ Some e → Fails turns (outcomes steps) e → Breaks e p turns steps
 why turns o p steps (tool.Refused r) is f = f
 why turns o p steps (tool.Unanswered n) is f = inr f
-why turns o p steps tool.NoMemory is f = absurd (never o is)
-  where
-    never : (o : Outcome) → failure turns o ≡ Some tool.NoMemory → ⊥
-    never (outcome.Read bytes) e = absurd cc
-    never outcome.Written e = absurd cc
-    never outcome.Flushed e = absurd cc
-    never (outcome.Told args) e = absurd cc
-    never (outcome.AtaError status error) e = absurd cc
-    never (outcome.AoeError error) e = absurd cc
-    never (outcome.GaveUp first now) e = absurd cc
-why turns o p steps tool.LinkFault is f = absurd (never o is)
-  where
-    never : (o : Outcome) → failure turns o ≡ Some tool.LinkFault → ⊥
-    never (outcome.Read bytes) e = absurd cc
-    never outcome.Written e = absurd cc
-    never outcome.Flushed e = absurd cc
-    never (outcome.Told args) e = absurd cc
-    never (outcome.AtaError status error) e = absurd cc
-    never (outcome.AoeError error) e = absurd cc
-    never (outcome.GaveUp first now) e = absurd cc
+why turns o p steps tool.NoMemory is f = absurd ((refused-why turns o).0 is)
+why turns o p steps tool.LinkFault is f = absurd ((refused-why turns o).1 is)
 
 module _ {c : Setting} (seen : Seen) {mid after : Option (List ℕ)} {steps : List Step} {x : Copying} (w : Window) (t : Ticked c (record seen { held = mid }) steps x)
     {y : Copying} (k : Keeps c t.steps' y) where

@@ -18,11 +18,11 @@ use Rattle.aoe_copy.specs.Steps.Step.{hears}
 use Rattle.aoe_copy.proofs.StepLemmas.{go-on-then, goes-on}
 use Rattle.aoe_copy.proofs.WindowLemmas.{change-all, there-more}
 
-told-back : (heard : Option Heard) → reverse (told_by heard) ≡ told_by heard
+pub told-back : (heard : Option Heard) → reverse (told_by heard) ≡ told_by heard
 told-back None = refl
 told-back (Some h) = refl
 
-count-same : (heard : Option Heard) → count_of heard ≡ count_heard heard
+pub count-same : (heard : Option Heard) → count_of heard ≡ count_heard heard
 count-same None = refl
 count-same (Some h) = refl
 

@@ -35,22 +35,22 @@ use Rattle.aoe_copy.specs.Steps.Step.{asks, gives, hears, sends, ticks}
 use Rattle.aoe_copy.specs.Window.{read_done}
 
 -- a change that leaves what is asked for
-mapped : (f : HostCommand → HostCommand) → ((c : HostCommand) → as_asked (f c) ≡ as_asked c) → (cs : List HostCommand) → map as_asked (map f cs) ≡ map as_asked cs
+pub mapped : (f : HostCommand → HostCommand) → ((c : HostCommand) → as_asked (f c) ≡ as_asked c) → (cs : List HostCommand) → map as_asked (map f cs) ≡ map as_asked cs
 mapped f same [] = refl
 mapped f same (c ∷ cs) = rw (same c, mapped f same cs) refl
 
-end-asks : (t : Ticket) (c : HostCommand) → as_asked (at_ticket t after_end c) ≡ as_asked c
+pub end-asks : (t : Ticket) (c : HostCommand) → as_asked (at_ticket t after_end c) ≡ as_asked c
 end-asks t c = elim (cases_Bool (nat_eq c.ticket.0 t.0)) [ inl own ↦ rw own refl | inr other ↦ rw other refl ]
 
-send-asks : (t : Ticket) (tag : ℕ) (now : Millis) (path : PathNo) (timeouts : ℕ → ℕ) (c : HostCommand)
+pub send-asks : (t : Ticket) (tag : ℕ) (now : Millis) (path : PathNo) (timeouts : ℕ → ℕ) (c : HostCommand)
     → as_asked (at_ticket t (after_send tag now path timeouts) c) ≡ as_asked c
 send-asks t tag now path timeouts c = elim (cases_Bool (nat_eq c.ticket.0 t.0)) [ inl own ↦ rw own refl | inr other ↦ rw other refl ]
 
-ended-asks : (dones : List Done) (log : List Event) → map as_asked (commands (ended dones log)) ≡ map as_asked (commands log)
+pub ended-asks : (dones : List Done) (log : List Event) → map as_asked (commands (ended dones log)) ≡ map as_asked (commands log)
 ended-asks [] log = refl
 ended-asks (d ∷ dones) log = mapped (at_ticket d.ticket after_end) (end-asks d.ticket) (commands (ended dones log)) ∙ ended-asks dones log
 
-heard-asks : (heard : Option Heard) (log : List Event) → map as_asked (commands (after_heard heard log)) ≡ map as_asked (commands log)
+pub heard-asks : (heard : Option Heard) (log : List Event) → map as_asked (commands (after_heard heard log)) ≡ map as_asked (commands log)
 heard-asks None log = refl
 heard-asks (Some h) log = mapped (at_ticket h.ticket after_end) (end-asks h.ticket) (commands log)
 

@@ -1,7 +1,11 @@
 mod CollectLemmas
+mod FeedLemmas
 mod HearLemmas
 mod LawLemmas
 mod OutcomeLemmas
+mod PutLawLemmas
+mod PutStepLemmas
+mod PutTurnLemmas
 mod StepLemmas
 mod TurnLemmas
 mod WindowLemmas

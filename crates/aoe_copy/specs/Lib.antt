@@ -1,6 +1,11 @@
 pub mod Copying
+pub mod Feed
 pub mod Law
 pub mod Plan
+pub mod PutLaw
+pub mod PutRuns
+pub mod PutSteps
+pub mod Putting
 pub mod Runs
 pub mod Steps
 pub mod Window

@@ -6,13 +6,14 @@ ghost use Rattle.aoe_copy.specs.Runs.{Copies, MayRun};
 
 use crate::copying::Copying;
 use crate::plan::{Plan, plan_of};
+use crate::watch::Watch;
 use aoe_base::{NoMemory, TargetId};
 use aoe_io::{Clock, Link, Sink};
 use aoe_tools::{Ask, CopyRefusal, Device, Refusal, ToolRefusal, look_up};
 use std::alloc::Global;
 
 /// Copies sectors of a device that was found.
-fn copy_out<L: Link, C: Clock, K: Sink>(
+fn copy_out<L: Link, C: Clock, K: Sink, W: Watch>(
     alloc: Global,
     ask: &Ask,
     id: TargetId,
@@ -21,6 +22,7 @@ fn copy_out<L: Link, C: Clock, K: Sink>(
     sink: &mut K,
     link: &mut L,
     clock: &mut C,
+    watch: &mut W,
 ) -> Result<(), CopyRefusal>
     requires total { device.now.total < 2 ^ 48 }
     requires some { 0 < device.now.max }
@@ -38,7 +40,7 @@ fn copy_out<L: Link, C: Clock, K: Sink>(
         (K.faults sink.new) }
 {
     match Copying::new(alloc, ask.port, id, device, plan) {
-        Ok(mut copying) => copying.run(ask.turns, sink, link, clock),
+        Ok(mut copying) => copying.run(ask.turns, sink, link, clock, watch),
         Err(NoMemory) => Err(CopyRefusal::Tool(ToolRefusal::NoMemory)),
     }
 }
@@ -46,7 +48,7 @@ fn copy_out<L: Link, C: Clock, K: Sink>(
 /// Reads the `count` sectors of a device from `at` on, or all that it has there, and writes them to
 /// the sink in their order, each as soon as all before it are there. A command asks for as many
 /// sectors as the device takes, but at most `most`.
-pub fn get<L: Link, C: Clock, K: Sink>(
+pub fn get<L: Link, C: Clock, K: Sink, W: Watch>(
     alloc: Global,
     ask: &Ask,
     id: TargetId,
@@ -56,6 +58,7 @@ pub fn get<L: Link, C: Clock, K: Sink>(
     sink: &mut K,
     link: &mut L,
     clock: &mut C,
+    watch: &mut W,
 ) -> Result<(), CopyRefusal>
     requires some { 0 < most }
     requires few { most ≤ 17 }
@@ -76,7 +79,7 @@ pub fn get<L: Link, C: Clock, K: Sink>(
         Err(refusal) => return Err(CopyRefusal::Tool(refusal)),
     };
     match plan_of(&device, at, count) {
-        Some(plan) => copy_out(alloc, ask, id, &device, plan, sink, link, clock),
+        Some(plan) => copy_out(alloc, ask, id, &device, plan, sink, link, clock, watch),
         None => Err(CopyRefusal::Tool(ToolRefusal::Refused(Refusal::Range))),
     }
 }

@@ -12,22 +12,21 @@ ghost use Rattle.aoe_copy.specs.Runs.{Runs, Seen};
 ghost use Rattle.aoe_copy.specs.Steps.{outcomes, GoesOn, IsGivenOut, Step};
 ghost use Rattle.aoe_copy.specs.Window.{most_open, AreThere, HasAll, IsAsLong};
 
+use crate::host::{DEVICE, attach, hear};
 use crate::plan::Plan;
+use crate::watch::Watch;
 use crate::window::{MAX_OPEN, Window};
-use aoe_base::{DeviceNo, Failed, Mac, Millis, NoMemory, Ports, Span, TargetId};
+use aoe_base::{Failed, Mac, Millis, NoMemory, Span, TargetId};
 use aoe_frame::Frame;
-use aoe_initiator::{DEAD, Initiator, LIFETIMES, MOST_ROOM, Op, Taken};
-use aoe_io::{Clock, Got, Link, Sink};
+use aoe_initiator::{Initiator, Op};
+use aoe_io::{Clock, Link, Sink};
 use aoe_tools::{CopyRefusal, Device, ToolRefusal};
 use std::alloc::Global;
 
-/// The one device of the host.
-const DEVICE: DeviceNo = DeviceNo(0);
-
 /// What a turn came to.
 #[derive(Clone, Copy)]
-enum Passed {
-    /// All is written, and the turn broke off.
+pub(crate) enum Passed {
+    /// All is done, and the turn broke off.
     Over,
 
     /// A response came that ended a command.
@@ -49,15 +48,6 @@ pub(crate) struct Copying {
     window: Window,
 }
 
-/// A list of one port.
-fn one_port(port: Mac) -> Ports
-    ensures { result.items ≡ port ∷ [] }
-{
-    let mut ports = Ports::new();
-    ports.push(port);
-    ports
-}
-
 impl Copying {
     /// A host with one port, attached to a device at one port.
     pub(crate) fn new(
@@ -75,16 +65,13 @@ impl Copying {
         ensures fit { IfOk result IsFit }
         ensures begins { IfOk result (Begins (host_of port id device.now) plan) }
     {
-        let mut host = Initiator::new(alloc, &one_port(port), LIFETIMES, MOST_ROOM, DEAD)?;
-        match host.attach(id, &one_port(device.port), device.total, device.max) {
-            Ok(_) => Ok(Copying {
-                host,
-                plan,
-                reached: 0,
-                window: Window::new(alloc),
-            }),
-            Err(_) => Err(NoMemory),
-        }
+        let host = attach(alloc, port, id, device)?;
+        Ok(Copying {
+            host,
+            plan,
+            reached: 0,
+            window: Window::new(alloc),
+        })
     }
 
     /// Takes the outcomes that wait, up to the first that ends the copy.
@@ -207,15 +194,7 @@ impl Copying {
         ensures count { L.faults link.old ≤ L.faults link.new }
         ensures link { Blamed (is_err result ≡ true) (L.faults link.old) (L.faults link.new) }
     {
-        match link.recv(frame) {
-            Ok(Got::Frame) => match self.host.receive(frame.as_slice()) {
-                Taken::Finished(_) => Ok(true),
-                Taken::Stale => Ok(false),
-            },
-            Ok(Got::Quiet) => Ok(false),
-            Ok(Got::Ended) => Ok(false),
-            Err(Failed) => Err(Failed),
-        }
+        hear(&mut self.host, link, frame)
     }
 
     /// The second part of a turn: commands are submitted, frames go out, and one may come.
@@ -274,14 +253,21 @@ impl Copying {
         }
     }
 
+    /// How many sectors were given to the sink.
+    fn written(&self) -> u64 {
+        let whole = self.window.given().saturating_mul(u64::from(self.plan.max));
+        whole.min(self.plan.count)
+    }
+
     /// A turn that begins at a time.
-    fn turn<L: Link, K: Sink>(
+    fn turn<L: Link, K: Sink, W: Watch>(
         &mut self,
         now: u64,
         turns: u32,
         sink: &mut K,
         link: &mut L,
         frame: &mut Frame,
+        watch: &mut W,
     ) -> Result<Passed, CopyRefusal>
         requires fit { IsFit self.old }
         ensures fit { OnOk result (IsFit self.new) }
@@ -297,7 +283,13 @@ impl Copying {
         ensures sink { Blamed (result ≡ Err CopyRefusal.SinkFault) (K.faults sink.old)
             (K.faults sink.new) }
     {
-        match self.collect(now, turns, sink) {
+        let before = self.written();
+        let collected = self.collect(now, turns, sink);
+        let written = self.written();
+        if written != before {
+            watch.reached(written);
+        }
+        match collected {
             Ok(true) => Ok(Passed::Over),
             Ok(false) => self.exchange(link, frame),
             Err(refusal) => Err(refusal),
@@ -305,12 +297,13 @@ impl Copying {
     }
 
     /// Takes turns until all is written, or `turns` consecutive ones ended no command.
-    pub(crate) fn run<L: Link, C: Clock, K: Sink>(
+    pub(crate) fn run<L: Link, C: Clock, K: Sink, W: Watch>(
         &mut self,
         turns: u32,
         sink: &mut K,
         link: &mut L,
         clock: &mut C,
+        watch: &mut W,
     ) -> Result<(), CopyRefusal>
         requires fit { IsFit self.old }
         requires begins { Begins self.old.host self.old.plan self.old }
@@ -328,8 +321,9 @@ impl Copying {
     {
         let mut frame = Frame::new();
         let mut quiet = 0;
+        watch.planned(self.plan.count);
         'turns: while quiet < turns {
-            match self.turn(clock.now(), turns, sink, link, &mut frame) {
+            match self.turn(clock.now(), turns, sink, link, &mut frame, watch) {
                 Ok(Passed::Over) => return Ok(()),
                 Ok(Passed::Answered) => quiet = 0,
                 Ok(Passed::Quiet) => quiet += 1,

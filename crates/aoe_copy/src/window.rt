@@ -38,6 +38,11 @@ impl Window {
         }
     }
 
+    /// How many commands' sectors were given to the sink.
+    pub(crate) fn given(&self) -> u64 {
+        self.given
+    }
+
     /// How many commands there are.
     pub(crate) fn len(&self) -> u64
         ensures { result ≡ length self.now.slots.items }

@@ -7,10 +7,12 @@ use Rattle.aoe_tools.proofs.CopiedLemmas.{put-law}
 use Rattle.aoe_tools.specs.declared.course.Check.TheVariants as check
 use Rattle.aoe_tools.specs.declared.course.Course.{Course}
 use Rattle.aoe_tools.specs.declared.end.CopyRefusal.{CopyRefusal}
+use Rattle.aoe_tools.specs.declared.end.CopyRefusal.TheVariants as copy
 use Rattle.aoe_tools.specs.declared.end.ToolRefusal.{ToolRefusal}
 use Rattle.aoe_tools.specs.declared.lookup.Device.{Device}
 use Rattle.aoe_tools.specs.declared.question.Ask.{Ask}
 use Rattle.aoe_tools.specs.TransferAsks.{LinkState}
+use Rattle.aoe_tools.specs.TransferInput.{Inputs, Reads}
 use Rattle.aoe_tools.specs.TransferCopies.{put_of, CanCompare, Copies, CopiesAt, IsCheckEnd, IsFresh, PutEnds, Range, RunsAll}
 
 -- what has run to its end was begun at a device
@@ -44,3 +46,11 @@ module _ {ask : Ask} {id : TargetId} (verify : Bool) (at : ℕ) (bytes : List �
       by : (b : Bool) → result ≡ Ok record {} → joined c.block.parts ≡ bytes → PutEnds b at bytes (Ok c) result
       by false is same = is
       by true is same = rw is same
+
+-- a source that was read without a word of too much gave what the input is
+pub untold : (refusal : CopyRefusal) (left left' : Option (List ℕ)) → Reads (Err refusal) left left' → Inputs (Err refusal) left left'
+untold copy.Limit left left' x = absurd x
+untold copy.SourceFault left left' x = x
+untold copy.SinkFault left left' x = x
+untold (copy.Stream offset) left left' x = x
+untold (copy.Tool e) left left' x = x

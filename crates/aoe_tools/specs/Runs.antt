@@ -1,5 +1,5 @@
 -- What a run of each tool is, over a link and a clock that tell what they gave.
-use Rattle.std.specs.Prelude.{ℕ, ◌≡◌, Bool, List, [], Option, Some, Result}
+use Rattle.std.specs.Prelude.{ℕ, ◌≡◌, Bool, List, [], Option, Some, Result, Ok}
 use Rattle.arrayvec.specs.ArrayVec.{ArrayVec}
 use Rattle.aoe_base.specs.Addresses.{broadcast}
 use Rattle.aoe_base.specs.declared.address.Mac.{Mac}
@@ -94,6 +94,10 @@ after t = record { turns = t.turns'; given = t.given'; taken = t.taken' }
 abbrev pub RunsGet : Result Unit CopyRefusal → Ask → TargetId → ℕ → ℕ → Told → Option (List ℕ) → Option (List ℕ) → Type 0
 RunsGet result ask id at count t held held' = (copied : Result Course ToolRefusal)
     × Copies copied ask id (read_of at count) t.least (before t) (after t) t.answers t.answers' × TakesRead (read_by copied) result held held'
+
+-- these sectors were written to the device, and flushed; and read again and compared, where that was asked for
+abbrev pub RunsWrite : Result Unit CopyRefusal → Ask → TargetId → ℕ → List ℕ → Bool → Told → Type 0
+RunsWrite result ask id at bytes verify t = Puts (Ok bytes) result ask id at verify t.least (before t) (after t) t.answers t.answers'
 
 -- what a source gave was written to sectors of the device, and flushed; and read again and compared, where that was asked for
 abbrev pub RunsPut : Result Unit CopyRefusal → Ask → TargetId → ℕ → Bool → Told → Option (List ℕ) → Option (List ℕ) → Type 0

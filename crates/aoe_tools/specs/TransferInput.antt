@@ -5,6 +5,8 @@ use Rattle.aoe_io.specs.Input.{IsReadInPart, IsReadUpTo}
 use Rattle.aoe_tools.specs.declared.end.CopyRefusal.{CopyRefusal}
 use Rattle.aoe_tools.specs.declared.end.CopyRefusal.TheVariants as copy
 use Rattle.aoe_tools.specs.declared.end.ToolRefusal.TheVariants as tool
+use Rattle.aoe_tools.specs.declared.input.Input.{Input}
+use Rattle.aoe_tools.specs.declared.input.Input.TheVariants as input
 
 -- why no input came: the source failed; or there was no memory for more of it, and what came so far was whole sectors and not too many
 abbrev pub Unread : CopyRefusal → Option (List ℕ) → Option (List ℕ) → Type 0
@@ -23,3 +25,10 @@ Inputs (Err (copy.Stream offset)) left left' =
     (bytes : List ℕ) × IsReadUpTo 16777216 left left' bytes × (length bytes ≤ 16777216) × (length bytes % 512 ≢ 0)
     × (offset ≡ length bytes - length bytes % 512)
 Inputs (Err refusal) left left' = Unread refusal left left'
+
+-- what the source gave at first: all of it; or more than is written at a time, behind which there may be others; or why no input came
+abbrev pub Reads : Result Input CopyRefusal → Option (List ℕ) → Option (List ℕ) → Type 0
+Reads (Ok (input.Sectors bytes)) left left' = Inputs (Ok bytes) left left'
+Reads (Ok (input.Longer bytes)) left left' = IsReadUpTo 16777216 left left' bytes × (16777216 < length bytes)
+Reads (Err copy.Limit) left left' = ⊥
+Reads (Err refusal) left left' = Inputs (Err refusal) left left'

@@ -6,14 +6,14 @@ ghost use Rattle.aoe_base.specs.declared.address.Mac.{Mac};
 ghost use Rattle.aoe_base.specs.declared.address.TargetId.{TargetId};
 ghost use Rattle.aoe_tools.specs.declared.course.Course.{Course};
 ghost use Rattle.aoe_tools.specs.declared.end.ToolRefusal.{ToolRefusal as Refused};
-ghost use Rattle.aoe_tools.specs.Runs.{RunsFlush, RunsGet, RunsPut, told};
+ghost use Rattle.aoe_tools.specs.Runs.{RunsFlush, RunsGet, RunsPut, RunsWrite, told};
 ghost use Rattle.aoe_tools.specs.TransferCopies.{checks_of, end_of, first_phase, put_of, read_by, read_of, write_of, CanCompare, Copies, IsCheckEnd, IsCompared, IsFirstOther, IsFresh, IsFreshCheck, MayRun, NotBegun, Puts, TakesRead};
 ghost use Rattle.aoe_tools.specs.TransferInput.{Inputs};
 ghost use Rattle.aoe_tools.specs.TransferRun.{host_of, IsFit};
 
 use crate::course::{Check, Course, Phase};
 use crate::end::{CopyRefusal, Refusal, ToolRefusal};
-use crate::input::read_sectors;
+use crate::input::{Input, read_input};
 use crate::lookup::{Device, look_up};
 use crate::question::Ask;
 use crate::transfer::Transfer;
@@ -308,6 +308,34 @@ fn end_write(at: u64, course: Course) -> Result<(), CopyRefusal>
     }
 }
 
+/// Writes sectors to a device from `at` on, and flushes it. Where `verify` is set, each sector is read
+/// again once the flush is acknowledged, and compared with what was sent.
+pub fn put_sectors<L: Link, C: Clock>(
+    alloc: Global,
+    ask: &Ask,
+    id: TargetId,
+    at: u64,
+    sectors: Blob,
+    verify: bool,
+    link: &mut L,
+    clock: &mut C,
+) -> Result<(), CopyRefusal>
+    requires whole { length sectors % 512 ≡ 0 }
+    requires few { length sectors ≤ 16777216 }
+    ensures run { RunsWrite result ask.now id at sectors verify
+        (told C.least C.answers L.turns L.given L.taken clock.old clock.new link.old link.new) }
+    ensures unread { result ≢ Err CopyRefusal.SourceFault }
+    ensures unwritten { result ≢ Err CopyRefusal.SinkFault }
+    ensures count { L.faults link.old ≤ L.faults link.new }
+    ensures link { Blamed (result ≡ Err (CopyRefusal.Tool ToolRefusal.LinkFault))
+        (L.faults link.old) (L.faults link.new) }
+{
+    match write_all(alloc, ask, id, at, sectors, verify, link, clock) {
+        Ok(course) => end_write(at, course),
+        Err(refusal) => Err(CopyRefusal::Tool(refusal)),
+    }
+}
+
 /// Writes what the source gives up to its end to the sectors of a device from `at` on, and flushes
 /// the device. The source is read before anything is sent. Where `verify` is set, each sector is
 /// read again once the flush is acknowledged, and compared with what was sent.
@@ -332,13 +360,11 @@ pub fn put<L: Link, C: Clock, S: Source>(
     ensures source { Blamed (result ≡ Err CopyRefusal.SourceFault) (S.faults source.old)
         (S.faults source.new) }
 {
-    let sectors = match read_sectors(alloc, source) {
-        Ok(sectors) => sectors,
-        Err(refusal) => return Err(refusal),
-    };
-    match write_all(alloc, ask, id, at, sectors, verify, link, clock) {
-        Ok(course) => end_write(at, course),
-        Err(refusal) => Err(CopyRefusal::Tool(refusal)),
+    match read_input(alloc, source) {
+        Ok(Input::Sectors(sectors)) =>
+            put_sectors(alloc, ask, id, at, sectors, verify, link, clock),
+        Ok(Input::Longer(_)) => Err(CopyRefusal::Limit),
+        Err(refusal) => Err(refusal),
     }
 }
 

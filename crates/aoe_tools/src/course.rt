@@ -57,7 +57,7 @@ pub(crate) struct Course {
 }
 
 /// Why an outcome ends a transfer of which each wait lasts `turns` turns.
-fn failure(outcome: &Outcome, turns: u32) -> Option<ToolRefusal>
+pub fn failure(outcome: &Outcome, turns: u32) -> Option<ToolRefusal>
     ensures { result ≡ failure turns outcome.now }
 {
     match outcome {

@@ -1,7 +1,7 @@
 //! The sectors that a source gives up to its end.
 ghost use Rattle.std.specs.Prelude.{◌≡◌, ◌≤◌, Err};
 ghost use Rattle.aoe_base.specs.Faults.{Blamed};
-ghost use Rattle.aoe_tools.specs.TransferInput.{Inputs};
+ghost use Rattle.aoe_tools.specs.TransferInput.{Reads};
 
 use crate::end::{CopyRefusal, ToolRefusal};
 use aoe_base::{Blob, SECTOR_LEN};
@@ -11,9 +11,21 @@ use std::alloc::Global;
 /// The most bytes of an input, 16 MiB: a limit of this program.
 const LONGEST_INPUT: usize = 16_777_216;
 
-/// The sectors that the source gives up to its end.
-pub(crate) fn read_sectors<S: Source>(alloc: Global, source: &mut S) -> Result<Blob, CopyRefusal>
-    ensures inputs { Inputs result (S.left source.old) (S.left source.new) }
+/// What a source gave.
+#[derive(Drop)]
+pub enum Input {
+    /// All of it: whole sectors, 32,768 at most.
+    Sectors(Blob),
+
+    /// More than 16,777,216 bytes, and at most 65,536 more than these. There may be others behind
+    /// them.
+    Longer(Blob),
+}
+
+/// Reads the source to its end, where that isn't too far: the sectors that it gives, or the front of
+/// them.
+pub fn read_input<S: Source>(alloc: Global, source: &mut S) -> Result<Input, CopyRefusal>
+    ensures reads { Reads result (S.left source.old) (S.left source.new) }
     ensures count { S.faults source.old ≤ S.faults source.new }
     ensures source { Blamed (result ≡ Err CopyRefusal.SourceFault) (S.faults source.old)
         (S.faults source.new) }
@@ -25,12 +37,12 @@ pub(crate) fn read_sectors<S: Source>(alloc: Global, source: &mut S) -> Result<B
     };
     let len = input.len();
     if len > LONGEST_INPUT {
-        return Err(CopyRefusal::Limit);
+        return Ok(Input::Longer(Blob::from_vec(input)));
     }
     let rest = len % SECTOR_LEN;
     if rest != 0 {
         let offset = (len - rest) as u64;
         return Err(CopyRefusal::Stream { offset });
     }
-    Ok(Blob::from_vec(input))
+    Ok(Input::Sectors(Blob::from_vec(input)))
 }

@@ -8,8 +8,10 @@
 //!   device, and give the arguments of its response.
 //! - [`get`] reads sectors and gives them to a sink once all have come. [`put`] reads a source to
 //!   its end, writes that to sectors, and flushes, and may read the sectors again and compare them;
-//!   [`flush`] does the flush alone.
-//! - [`look_up`] finds a device as these do, for a tool of another crate.
+//!   [`flush`] does the flush alone. [`read_input`] and [`put_sectors`] are the two parts of [`put`],
+//!   for a tool that goes on where an input is longer.
+//! - [`look_up`] finds a device as these do, and [`failure`] says which outcomes end a copy, for a tool of
+//!   another crate.
 //! - [`print_found`], [`print_stat`], [`print_config`], [`print_masks`] and [`print_reserves`] then
 //!   make the text of an answer. A refusal has the exit status and the text of the program (`code`,
 //!   `text`).
@@ -41,10 +43,12 @@ mod transfer;
 mod visiting;
 
 pub use cases::wrong_copies;
-pub use copy::{flush, get, put};
+pub use copy::{flush, get, put, put_sectors};
+pub use course::failure;
 pub use end::{CopyRefusal, Refusal, ToolRefusal};
 pub use finding::discover;
 pub use found::{Found, Seen, State};
+pub use input::{Input, read_input};
 pub use law::{copied_law, submitted_law};
 pub use lists::{cfg, mask, reserve};
 pub use lookup::{Device, look_up};

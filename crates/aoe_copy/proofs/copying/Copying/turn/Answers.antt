@@ -14,7 +14,7 @@ returns-in-Ok-false-clause-turn g c = λ s seen later steps told stands keeps or
     let link = c.args.link.now in
     let before = record seen { turns = g.L.Link.turns link; given = g.L.Link.given link; taken = g.L.Link.taken link } in
     let first = c.in-Ok-false.ensures.collects s before later steps told stands keeps order in
-    let mid = record before { answers = later; held = g.K.Sink.held c.collect.new.sink } in
+    let mid = record before { answers = later; held = g.K.Sink.held c.collect-collected.new.sink } in
     turns-behind _ c.exchange.new.self c.args.turns first.0 c.exchange.result
     (c.exchange.ensures.exchanges s c.args.turns mid first.0.steps' first.0.stands first.0.keeps first.0.goes_on first.0.given_out)
 

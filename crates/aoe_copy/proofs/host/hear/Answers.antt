@@ -1,7 +1,7 @@
 use Rattle.aoe_io.proofs.LinkLemmas.{turned-by}
 use Rattle.aoe_io.specs.Link.{came}
 use Rattle.aoe_tools.proofs.HearLemmas.{hears-answer, hears-stale}
-use Rattle.aoe_copy.proofs.copying.Copying.hear.Goals as goal
+use Rattle.aoe_copy.proofs.host.hear.Goals as goal
 
 pub returns-in-Finished-clause-one : goal.returns-in-Finished-clause-one
 returns-in-Finished-clause-one g c =

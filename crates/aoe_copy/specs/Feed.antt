@@ -1,0 +1,18 @@
+-- What is left of an input that is read command by command.
+use Rattle.std.specs.Prelude.{ℕ, ◌≡◌, ◌≤◌, ◌⊎◌, List, [], ◌++◌, length, drop, Option}
+use Rattle.aoe_io.specs.Bytes.{Gave}
+use Rattle.aoe_copy.specs.declared.feed.Feed.{Feed}
+
+-- the bytes of the front that weren't used
+abbrev pub ahead : Feed → List ℕ
+ahead f = drop f.used f.front
+
+abbrev pub IsFeed : Feed → Type 0
+IsFeed f = f.used ≤ length f.front
+
+-- so many bytes were used of those that are left, first of the front, and then of the source
+pub record Feeds (left left' : Option (List ℕ)) (ahead ahead' bytes : List ℕ) : Type 0 where
+  pub fed : List ℕ
+  pub gave : Gave left left' fed
+  pub all : ahead ++ fed ≡ bytes ++ ahead'
+  pub lean : (fed ≡ []) ⊎ (ahead' ≡ [])

@@ -1,0 +1,610 @@
+//! A copy into a device, turn by turn.
+ghost use Rattle.std.specs.Prelude.{◌≡◌, ◌≢◌, ◌+◌, ◌*◌, ◌/◌, ◌%◌, ◌<◌, ◌≤◌, ◌^◌, ◌∷◌, ℕ, List, [], Option, Err, IfErr, IfOk, OnErr, OnOk, IfSome, is_err, length, true};
+ghost use Rattle.aoe_base.specs.Faults.{Blamed};
+ghost use Rattle.aoe_initiator.specs.declared.outcome.Done.{Done};
+ghost use Rattle.aoe_initiator.specs.Host.{Matches};
+ghost use Rattle.aoe_initiator.specs.HostLog.{Event};
+ghost use Rattle.aoe_io.specs.Bytes.{GaveSome};
+ghost use Rattle.aoe_io.specs.Link.{Added};
+ghost use Rattle.aoe_tools.specs.TransferRun.{host_of};
+ghost use Rattle.aoe_tools.specs.TransferSteps.{HearsOne, IsUnused};
+ghost use Rattle.aoe_copy.specs.Copying.{InOrder, Takes};
+ghost use Rattle.aoe_copy.specs.Feed.{ahead};
+ghost use Rattle.aoe_copy.specs.PutRuns.{PutSeen, Runs};
+ghost use Rattle.aoe_copy.specs.PutSteps.{outcomes, GoesOn, PutStep};
+ghost use Rattle.aoe_copy.specs.Putting.{end_of, may_flush, may_read, reads_left, room_of, stage_behind, stage_past, Asks, Begins, Collects, FlushesOne, IsFit, IsPiece, Keeps, ReadsOn, Sends, Setting, Stands, Turns, WritesOne, WritesSome};
+ghost use Rattle.aoe_copy.specs.Window.{most_open};
+
+use crate::copying::Passed;
+use crate::feed::Feed;
+use crate::flying::Flying;
+use crate::host::{DEVICE, attach, hear};
+use crate::plan::Plan;
+use crate::watch::Watch;
+use crate::window::MAX_OPEN;
+use aoe_base::{Blob, Failed, Mac, Millis, NoMemory, SECTOR_LEN, TargetId};
+use aoe_frame::Frame;
+use aoe_initiator::{Initiator, Op};
+use aoe_io::{Clock, Link, Source};
+use aoe_tools::{CopyRefusal, Device, Refusal, ToolRefusal, failure};
+use std::alloc::Global;
+
+/// What is left to do.
+#[derive(Clone, Copy)]
+pub(crate) enum Stage {
+    /// To read the input on.
+    Reading,
+
+    /// The input ended: to flush, once all is acknowledged.
+    Ended,
+
+    /// It ended within a sector: to say so, once all before it is acknowledged.
+    Broken,
+
+    /// It goes on behind the last sector of the device: to say so, once all is acknowledged.
+    Beyond,
+
+    /// The flush is under way.
+    Flushing,
+}
+
+/// What is left to do where the input ended with so many bytes behind its whole sectors.
+fn stage_behind(rest: usize) -> Stage
+    ensures { result ≡ stage_behind rest }
+{
+    if rest == 0 {
+        Stage::Ended
+    } else {
+        Stage::Broken
+    }
+}
+
+/// What is left to do where the input has so many bytes behind the last sector of the device.
+fn stage_past(rest: usize) -> Stage
+    ensures { result ≡ stage_past rest }
+{
+    if rest == 0 {
+        Stage::Ended
+    } else {
+        Stage::Beyond
+    }
+}
+
+/// A host that writes to sectors of one device in their order.
+#[derive(Drop)]
+pub(crate) struct Putting {
+    alloc: Global,
+    host: Initiator,
+    plan: Plan,
+    feed: Feed,
+
+    /// How many sectors were submitted.
+    reached: u64,
+
+    stage: Stage,
+
+    flying: Flying,
+}
+
+impl Putting {
+    /// A host with one port, attached to a device at one port, for an input with this front.
+    pub(crate) fn new(
+        alloc: Global,
+        port: Mac,
+        id: TargetId,
+        device: &Device,
+        plan: Plan,
+        front: Blob,
+    ) -> Result<Putting, NoMemory>
+        requires total { device.now.total ≤ 2 ^ 48 }
+        requires some { 0 < device.now.max }
+        requires max { device.now.max ≤ 17 }
+        requires same { plan.max ≡ device.now.max }
+        requires within { plan.at + plan.count ≤ device.now.total }
+        ensures fit { IfOk result IsFit }
+        ensures waiting { IfOk result (λ x. x.host.waiting ≡ []) }
+        ensures new { IfOk result (λ x. x.host.last_ticket ≡ 0) }
+        ensures begins { IfOk result (Begins (host_of port id device.now) plan front) }
+    {
+        let host = attach(alloc, port, id, device)?;
+        Ok(Putting {
+            alloc,
+            host,
+            plan,
+            feed: Feed::new(front),
+            reached: 0,
+            stage: Stage::Reading,
+            flying: Flying::new(),
+        })
+    }
+
+    /// Takes the outcomes that wait, up to the first that ends the copy.
+    fn take_all(&mut self, turns: u32) -> Result<(), ToolRefusal>
+        requires { IsFit self.old }
+        ensures fit { IsFit self.new }
+        ensures takes { (outs : List Done) → InOrder self.old.host.waiting outs
+            → Takes result turns outs self.new.host.waiting }
+        ensures none { OnOk result (self.new.host.waiting ≡ []) }
+        ensures link { result ≢ Err ToolRefusal.LinkFault }
+        ensures host { self.new.host ≡ record self.old.host { waiting = self.new.host.waiting } }
+        ensures same { self.new ≡ record self.old { host = self.new.host; flying = self.new.flying } }
+        ensures matches { (log : List Event) → Matches log self.old.host
+            → Matches log self.new.host }
+    {
+        'outcomes: while let Some(done) = self.host.take_done() {
+            self.flying.remove(done.ticket);
+            if let Some(refusal) = failure(&done.outcome, turns) {
+                return Err(refusal);
+            }
+        }
+        Ok(())
+    }
+
+    /// Whether all is written and flushed; or why it isn't and won't be.
+    fn end(&self) -> Result<bool, CopyRefusal>
+        requires { IsFit self.now }
+        ensures { result ≡ end_of self.now }
+    {
+        if self.host.unfinished() > 0 {
+            return Ok(false);
+        }
+        match self.stage {
+            Stage::Reading => Ok(false),
+            Stage::Ended => Ok(false),
+            Stage::Broken => Err(CopyRefusal::Stream {
+                offset: SECTOR_LEN as u64 * self.reached,
+            }),
+            Stage::Beyond => Err(CopyRefusal::Tool(ToolRefusal::Refused(Refusal::Range))),
+            Stage::Flushing => Ok(true),
+        }
+    }
+
+    /// Whether more of the input may be read.
+    fn may_read(&self) -> bool
+        ensures { result ≡ may_read self.now }
+    {
+        match self.stage {
+            Stage::Reading => self.host.unfinished() < MAX_OPEN,
+            Stage::Ended | Stage::Broken | Stage::Beyond | Stage::Flushing => false,
+        }
+    }
+
+    /// Whether the flush may be submitted.
+    fn may_flush(&self) -> bool
+        ensures { result ≡ may_flush self.now }
+    {
+        match self.stage {
+            Stage::Ended => self.host.unfinished() == 0,
+            Stage::Reading | Stage::Broken | Stage::Beyond | Stage::Flushing => false,
+        }
+    }
+
+    /// How many sectors the next command may have.
+    fn room(&self) -> u32
+        requires { IsFit self.now }
+        ensures value { result ≡ room_of self.now }
+        ensures few { result ≤ 17 }
+    {
+        let left = self.plan.count - self.reached;
+        u64::from(self.plan.max).min(left) as u32
+    }
+
+    /// The next bytes of the input, as many as are wanted, or fewer where it ends: the whole sectors,
+    /// and how many bytes are behind them. Room for them is asked for before they are read.
+    fn read_piece<S: Source>(
+        &mut self,
+        source: &mut S,
+        want: usize,
+    ) -> Result<(Blob, usize), CopyRefusal>
+        requires fit { IsFit self.old }
+        requires some { 0 < want }
+        ensures same { self.new ≡ record self.old { feed = self.new.feed } }
+        ensures fit { OnOk result (IsFit self.new) }
+        ensures piece { IfOk result (λ r. IsPiece want (S.left source.old) (S.left source.new)
+            (ahead self.old.feed) (ahead self.new.feed) r.0 r.1) }
+        ensures failed { OnErr result (GaveSome (S.left source.old) (S.left source.new)) }
+        ensures memory { IfErr result (λ e. e ≢ CopyRefusal.SourceFault
+            → (e ≡ CopyRefusal.Tool ToolRefusal.NoMemory)
+            × (S.left source.new ≡ S.left source.old)) }
+        ensures count { S.faults source.old ≤ S.faults source.new }
+        ensures source { Blamed (result ≡ Err CopyRefusal.SourceFault) (S.faults source.old)
+            (S.faults source.new) }
+    {
+        let mut piece = match Vec::from_elem(self.alloc, 0u8, want) {
+            Ok(piece) => piece,
+            Err(_) => return Err(CopyRefusal::Tool(ToolRefusal::NoMemory)),
+        };
+        let n = match self.feed.fill(source, piece.as_mut_slice()) {
+            Ok(n) => n,
+            Err(Failed) => return Err(CopyRefusal::SourceFault),
+        };
+        let rest = n % SECTOR_LEN;
+        piece.truncate(n - rest);
+        Ok((Blob::from_vec(piece), rest))
+    }
+
+    /// Submits the next write.
+    fn submit_write(&mut self, bytes: Blob) -> Result<(), CopyRefusal>
+        requires fit { IsFit self.old }
+        requires whole { length bytes % 512 ≡ 0 }
+        requires some { 0 < length bytes }
+        requires most { length bytes ≤ 512 * room_of self.old }
+        requires reading { self.old.stage ≡ Stage.Reading }
+        ensures fit { OnOk result (IsFit self.new) }
+        ensures writes { OnOk result (WritesOne bytes self.old self.new) }
+        ensures memory { IfErr result (λ e. e ≡ CopyRefusal.Tool ToolRefusal.NoMemory) }
+    {
+        let at = self.plan.at + self.reached;
+        let count = bytes.bytes().len() / SECTOR_LEN;
+        match self.host.submit(DEVICE, Op::Write { at, bytes }) {
+            Ok(ticket) => self.flying.add(ticket),
+            Err(_) => return Err(CopyRefusal::Tool(ToolRefusal::NoMemory)),
+        }
+        self.reached += count as u64;
+        Ok(())
+    }
+
+    /// Submits the last write, where there are sectors for one.
+    fn submit_last(&mut self, bytes: Blob) -> Result<(), CopyRefusal>
+        requires fit { IsFit self.old }
+        requires whole { length bytes % 512 ≡ 0 }
+        requires most { length bytes ≤ 512 * room_of self.old }
+        requires reading { self.old.stage ≡ Stage.Reading }
+        ensures fit { OnOk result (IsFit self.new) }
+        ensures writes { OnOk result (WritesSome bytes self.old self.new) }
+        ensures memory { IfErr result (λ e. e ≡ CopyRefusal.Tool ToolRefusal.NoMemory) }
+    {
+        if bytes.bytes().is_empty() {
+            return Ok(());
+        }
+        self.submit_write(bytes)
+    }
+
+    /// Notes that the input has ended, with so many bytes behind its whole sectors, the last of which
+    /// are submitted.
+    fn write_last(&mut self, sectors: Blob, rest: usize) -> Result<(), CopyRefusal>
+        requires fit { IsFit self.old }
+        requires whole { length sectors % 512 ≡ 0 }
+        requires most { length sectors ≤ 512 * room_of self.old }
+        requires reading { self.old.stage ≡ Stage.Reading }
+        ensures fit { OnOk result (IsFit self.new) }
+        ensures writes { OnOk result
+            (WritesSome sectors self.old (record self.new { stage = self.old.stage })) }
+        ensures stage { OnOk result (self.new.stage ≡ stage_behind rest) }
+        ensures memory { IfErr result (λ e. e ≡ CopyRefusal.Tool ToolRefusal.NoMemory) }
+    {
+        match self.submit_last(sectors) {
+            Ok(()) => {}
+            Err(refusal) => return Err(refusal),
+        }
+        self.stage = stage_behind(rest);
+        Ok(())
+    }
+
+    /// Reads the bytes of the next command, and submits its write, where they are at least a sector.
+    fn write_next<S: Source>(&mut self, source: &mut S, room: u32) -> Result<(), CopyRefusal>
+        requires fit { IsFit self.old }
+        requires may { may_read self.old ≡ true }
+        requires room { room ≡ room_of self.old }
+        requires some { 0 < room }
+        ensures fit { OnOk result (IsFit self.new) }
+        ensures waiting { OnOk result (self.new.host.waiting ≡ self.old.host.waiting) }
+        ensures less { OnOk result (reads_left self.new < reads_left self.old) }
+        ensures reads { (c : Setting) (turns : ℕ) (seen : PutSeen) (steps : List PutStep)
+            → Stands c (record seen { left = S.left source.old }) (ahead self.old.feed) steps
+            → Keeps c steps self.old → GoesOn steps
+            → ReadsOn result c turns (record seen { left = S.left source.new }) steps self.new }
+        ensures link { result ≢ Err (CopyRefusal.Tool ToolRefusal.LinkFault) }
+        ensures count { S.faults source.old ≤ S.faults source.new }
+        ensures source { Blamed (result ≡ Err CopyRefusal.SourceFault) (S.faults source.old)
+            (S.faults source.new) }
+    {
+        let want = SECTOR_LEN * room as usize;
+        match self.read_piece(source, want) {
+            Ok((sectors, rest)) if sectors.bytes().len() < want => self.write_last(sectors, rest),
+            Ok((sectors, _)) => self.submit_write(sectors),
+            Err(refusal) => Err(refusal),
+        }
+    }
+
+    /// Reads on behind the last sector of the device, where the input should end.
+    fn look_behind<S: Source>(&mut self, source: &mut S) -> Result<(), CopyRefusal>
+        requires fit { IsFit self.old }
+        requires may { may_read self.old ≡ true }
+        requires none { room_of self.old ≡ 0 }
+        ensures fit { OnOk result (IsFit self.new) }
+        ensures waiting { OnOk result (self.new.host.waiting ≡ self.old.host.waiting) }
+        ensures less { OnOk result (reads_left self.new < reads_left self.old) }
+        ensures reads { (c : Setting) (turns : ℕ) (seen : PutSeen) (steps : List PutStep)
+            → Stands c (record seen { left = S.left source.old }) (ahead self.old.feed) steps
+            → Keeps c steps self.old → GoesOn steps
+            → ReadsOn result c turns (record seen { left = S.left source.new }) steps self.new }
+        ensures link { result ≢ Err (CopyRefusal.Tool ToolRefusal.LinkFault) }
+        ensures count { S.faults source.old ≤ S.faults source.new }
+        ensures source { Blamed (result ≡ Err CopyRefusal.SourceFault) (S.faults source.old)
+            (S.faults source.new) }
+    {
+        match self.read_piece(source, SECTOR_LEN) {
+            Ok((sectors, rest)) => {
+                self.stage = stage_past(sectors.bytes().len() + rest);
+                Ok(())
+            }
+            Err(refusal) => Err(refusal),
+        }
+    }
+
+    /// Reads the input on.
+    fn read_next<S: Source>(&mut self, source: &mut S) -> Result<(), CopyRefusal>
+        requires fit { IsFit self.old }
+        requires may { may_read self.old ≡ true }
+        ensures fit { OnOk result (IsFit self.new) }
+        ensures waiting { OnOk result (self.new.host.waiting ≡ self.old.host.waiting) }
+        ensures less { OnOk result (reads_left self.new < reads_left self.old) }
+        ensures reads { (c : Setting) (turns : ℕ) (seen : PutSeen) (steps : List PutStep)
+            → Stands c (record seen { left = S.left source.old }) (ahead self.old.feed) steps
+            → Keeps c steps self.old → GoesOn steps
+            → ReadsOn result c turns (record seen { left = S.left source.new }) steps self.new }
+        ensures link { result ≢ Err (CopyRefusal.Tool ToolRefusal.LinkFault) }
+        ensures count { S.faults source.old ≤ S.faults source.new }
+        ensures source { Blamed (result ≡ Err CopyRefusal.SourceFault) (S.faults source.old)
+            (S.faults source.new) }
+    {
+        match self.room() {
+            0 => self.look_behind(source),
+            room => self.write_next(source, room),
+        }
+    }
+
+    /// Submits the flush.
+    fn flush(&mut self) -> Result<(), NoMemory>
+        requires fit { IsFit self.old }
+        requires may { may_flush self.old ≡ true }
+        ensures fit { OnOk result (IsFit self.new) }
+        ensures flushes { OnOk result (FlushesOne self.old self.new) }
+    {
+        match self.host.submit(DEVICE, Op::Flush) {
+            Ok(ticket) => self.flying.add(ticket),
+            Err(_) => return Err(NoMemory),
+        }
+        self.stage = Stage::Flushing;
+        Ok(())
+    }
+
+    /// Reads the input and submits its writes, as long as it goes on and fewer than a window are under
+    /// way.
+    fn read_all<S: Source>(&mut self, source: &mut S) -> Result<(), CopyRefusal>
+        requires fit { IsFit self.old }
+        ensures fit { OnOk result (IsFit self.new) }
+        ensures waiting { OnOk result (self.new.host.waiting ≡ self.old.host.waiting) }
+        ensures done { OnOk result (may_read self.new ≢ true) }
+        ensures reads { (c : Setting) (turns : ℕ) (seen : PutSeen) (steps : List PutStep)
+            → Stands c (record seen { left = S.left source.old }) (ahead self.old.feed) steps
+            → Keeps c steps self.old → GoesOn steps
+            → ReadsOn result c turns (record seen { left = S.left source.new }) steps self.new }
+        ensures link { result ≢ Err (CopyRefusal.Tool ToolRefusal.LinkFault) }
+        ensures count { S.faults source.old ≤ S.faults source.new }
+        ensures source { Blamed (result ≡ Err CopyRefusal.SourceFault) (S.faults source.old)
+            (S.faults source.new) }
+    {
+        'parts: while self.may_read() {
+            match self.read_next(source) {
+                Ok(()) => {}
+                Err(refusal) => return Err(refusal),
+            }
+        }
+        Ok(())
+    }
+
+    /// Submits commands, as many as may be: writes of what the source gives, and the flush behind
+    /// them.
+    fn ask_all<S: Source>(&mut self, source: &mut S) -> Result<(), CopyRefusal>
+        requires fit { IsFit self.old }
+        ensures fit { OnOk result (IsFit self.new) }
+        ensures waiting { OnOk result (self.new.host.waiting ≡ self.old.host.waiting) }
+        ensures asks { (c : Setting) (turns : ℕ) (seen : PutSeen) (steps : List PutStep)
+            → Stands c (record seen { left = S.left source.old }) (ahead self.old.feed) steps
+            → Keeps c steps self.old → GoesOn steps
+            → Asks result c turns (record seen { left = S.left source.new }) steps self.new }
+        ensures link { result ≢ Err (CopyRefusal.Tool ToolRefusal.LinkFault) }
+        ensures count { S.faults source.old ≤ S.faults source.new }
+        ensures source { Blamed (result ≡ Err CopyRefusal.SourceFault) (S.faults source.old)
+            (S.faults source.new) }
+    {
+        match self.read_all(source) {
+            Ok(()) => {}
+            Err(refusal) => return Err(refusal),
+        }
+        if !self.may_flush() {
+            return Ok(());
+        }
+        match self.flush() {
+            Ok(()) => Ok(()),
+            Err(NoMemory) => Err(CopyRefusal::Tool(ToolRefusal::NoMemory)),
+        }
+    }
+
+    /// Sends frames as long as one may be sent, up to as many as there are commands.
+    fn send_all<L: Link>(&mut self, link: &mut L, frame: &mut Frame) -> Result<(), Failed>
+        requires fit { IsFit self.old }
+        ensures fit { IsFit self.new }
+        ensures waiting { self.new.host.waiting ≡ self.old.host.waiting }
+        ensures sends { (c : Setting) (turns : ℕ) (seen : PutSeen) (steps : List PutStep)
+            → Stands c (record seen { taken = L.taken link.old }) (ahead self.old.feed) steps
+            → Keeps c steps self.old → GoesOn steps
+            → Sends result c turns (record seen { taken = L.taken link.new }) steps self.new }
+        ensures given { L.given link.new ≡ L.given link.old }
+        ensures turns { L.turns link.new ≡ L.turns link.old }
+        ensures count { L.faults link.old ≤ L.faults link.new }
+        ensures link { Blamed (is_err result ≡ true) (L.faults link.old) (L.faults link.new) }
+    {
+        for _ in 0..MAX_OPEN {
+            if self.host.pull(frame).is_none() {
+                return Ok(());
+            }
+            match link.send(frame.as_slice()) {
+                Ok(()) => {}
+                Err(Failed) => return Err(Failed),
+            }
+        }
+        Ok(())
+    }
+
+    /// Takes what one turn of the link brings: whether it ended a command.
+    fn hear<L: Link>(&mut self, link: &mut L, frame: &mut Frame) -> Result<bool, Failed>
+        requires fit { IsFit self.old }
+        ensures fit { OnOk result (IsFit self.new) }
+        ensures one { IfOk result (λ finished. HearsOne finished self.old.host self.new.host
+            (L.turns link.old) (L.turns link.new) (L.given link.old) (L.given link.new)) }
+        ensures same { self.new ≡ record self.old { host = self.new.host } }
+        ensures taken { L.taken link.new ≡ L.taken link.old }
+        ensures err { OnErr result (IsUnused (L.turns link.old) (L.turns link.new)
+            (L.given link.old) (L.given link.new)) }
+        ensures count { L.faults link.old ≤ L.faults link.new }
+        ensures link { Blamed (is_err result ≡ true) (L.faults link.old) (L.faults link.new) }
+    {
+        hear(&mut self.host, link, frame)
+    }
+
+    /// The second part of a turn: commands are submitted, frames go out, and one may come.
+    fn exchange<S: Source, L: Link>(
+        &mut self,
+        source: &mut S,
+        link: &mut L,
+        frame: &mut Frame,
+    ) -> Result<Passed, CopyRefusal>
+        requires fit { IsFit self.old }
+        requires waiting { self.old.host.waiting ≡ [] }
+        ensures fit { OnOk result (IsFit self.new) }
+        ensures exchanges { (c : Setting) (turns : ℕ) (seen : PutSeen) (steps : List PutStep)
+            → Stands c (record seen { turns = L.turns link.old; given = L.given link.old; taken = L.taken link.old; left = S.left source.old }) (ahead self.old.feed) steps
+            → Keeps c steps self.old → GoesOn steps
+            → Turns result c turns (record seen { turns = L.turns link.new; given = L.given link.new; taken = L.taken link.new; left = S.left source.new }) steps self.new }
+        ensures count { L.faults link.old ≤ L.faults link.new }
+        ensures link { Blamed (result ≡ Err (CopyRefusal.Tool ToolRefusal.LinkFault))
+            (L.faults link.old) (L.faults link.new) }
+        ensures source_count { S.faults source.old ≤ S.faults source.new }
+        ensures source { Blamed (result ≡ Err CopyRefusal.SourceFault) (S.faults source.old)
+            (S.faults source.new) }
+    {
+        match self.ask_all(source) {
+            Ok(()) => {}
+            Err(refusal) => return Err(refusal),
+        }
+        match self.send_all(link, frame) {
+            Ok(()) => {}
+            Err(Failed) => return Err(CopyRefusal::Tool(ToolRefusal::LinkFault)),
+        }
+        match self.hear(link, frame) {
+            Ok(true) => Ok(Passed::Answered),
+            Ok(false) => Ok(Passed::Quiet),
+            Err(Failed) => Err(CopyRefusal::Tool(ToolRefusal::LinkFault)),
+        }
+    }
+
+    /// The first part of a turn, which begins at a time: outcomes are taken. Whether all is written
+    /// and flushed.
+    fn collect(&mut self, now: u64, turns: u32) -> Result<bool, CopyRefusal>
+        requires fit { IsFit self.old }
+        ensures fit { OnOk result (IsFit self.new) }
+        ensures waiting { OnOk result (self.new.host.waiting ≡ []) }
+        ensures link { result ≢ Err (CopyRefusal.Tool ToolRefusal.LinkFault) }
+        ensures source { result ≢ Err CopyRefusal.SourceFault }
+        ensures collects { (c : Setting) (seen : PutSeen) (later : Option (List ℕ))
+            (steps : List PutStep) → IfSome later (λ _. Added seen.answers later (now ∷ []))
+            → Stands c seen (ahead self.old.feed) steps
+            → Keeps c steps self.old → InOrder self.old.host.waiting (outcomes steps)
+            → Collects result c turns (record seen { answers = later }) steps self.new }
+    {
+        self.host.advance(Millis(now));
+        match self.take_all(turns) {
+            Ok(()) => self.end(),
+            Err(refusal) => Err(CopyRefusal::Tool(refusal)),
+        }
+    }
+
+    /// How many sectors are acknowledged, from the first one on.
+    fn acknowledged(&self) -> u64 {
+        match self.flying.first() {
+            Some(ticket) => {
+                let before = ticket.saturating_sub(1);
+                before
+                    .saturating_mul(u64::from(self.plan.max))
+                    .min(self.reached)
+            }
+            None => self.reached,
+        }
+    }
+
+    /// A turn that begins at a time.
+    fn turn<S: Source, L: Link, W: Watch>(
+        &mut self,
+        now: u64,
+        turns: u32,
+        source: &mut S,
+        link: &mut L,
+        frame: &mut Frame,
+        watch: &mut W,
+    ) -> Result<Passed, CopyRefusal>
+        requires fit { IsFit self.old }
+        ensures fit { OnOk result (IsFit self.new) }
+        ensures turn { (c : Setting) (seen : PutSeen) (later : Option (List ℕ))
+            (steps : List PutStep) → IfSome later (λ _. Added seen.answers later (now ∷ []))
+            → Stands c (record { turns = L.turns link.old; given = L.given link.old; taken = L.taken link.old; answers = seen.answers; left = S.left source.old }) (ahead self.old.feed) steps
+            → Keeps c steps self.old → InOrder self.old.host.waiting (outcomes steps)
+            → Turns result c turns (record { turns = L.turns link.new; given = L.given link.new; taken = L.taken link.new; answers = later; left = S.left source.new }) steps self.new }
+        ensures count { L.faults link.old ≤ L.faults link.new }
+        ensures link { Blamed (result ≡ Err (CopyRefusal.Tool ToolRefusal.LinkFault))
+            (L.faults link.old) (L.faults link.new) }
+        ensures source_count { S.faults source.old ≤ S.faults source.new }
+        ensures source { Blamed (result ≡ Err CopyRefusal.SourceFault) (S.faults source.old)
+            (S.faults source.new) }
+    {
+        let before = self.acknowledged();
+        let collected = self.collect(now, turns);
+        let reached = self.acknowledged();
+        if reached != before {
+            watch.reached(reached);
+        }
+        match collected {
+            Ok(true) => Ok(Passed::Over),
+            Ok(false) => self.exchange(source, link, frame),
+            Err(refusal) => Err(refusal),
+        }
+    }
+
+    /// Takes turns until all is written and flushed, or `turns` consecutive ones ended no command.
+    pub(crate) fn run<S: Source, L: Link, C: Clock, W: Watch>(
+        &mut self,
+        turns: u32,
+        source: &mut S,
+        link: &mut L,
+        clock: &mut C,
+        watch: &mut W,
+    ) -> Result<(), CopyRefusal>
+        requires fit { IsFit self.old }
+        requires begins { Begins self.old.host self.old.plan (ahead self.old.feed) self.old }
+        requires waiting { self.old.host.waiting ≡ [] }
+        requires new { self.old.host.last_ticket ≡ 0 }
+        ensures run { Runs result self.old.host self.old.plan turns (ahead self.old.feed)
+            (record { turns = L.turns link.old; given = L.given link.old; taken = L.taken link.old; answers = C.answers clock.old; left = S.left source.old })
+            (record { turns = L.turns link.new; given = L.given link.new; taken = L.taken link.new; answers = C.answers clock.new; left = S.left source.new }) }
+        ensures count { L.faults link.old ≤ L.faults link.new }
+        ensures link { Blamed (result ≡ Err (CopyRefusal.Tool ToolRefusal.LinkFault))
+            (L.faults link.old) (L.faults link.new) }
+        ensures source_count { S.faults source.old ≤ S.faults source.new }
+        ensures source { Blamed (result ≡ Err CopyRefusal.SourceFault) (S.faults source.old)
+            (S.faults source.new) }
+    {
+        let mut frame = Frame::new();
+        let mut quiet = 0;
+        'turns: while quiet < turns {
+            match self.turn(clock.now(), turns, source, link, &mut frame, watch) {
+                Ok(Passed::Over) => return Ok(()),
+                Ok(Passed::Answered) => quiet = 0,
+                Ok(Passed::Quiet) => quiet += 1,
+                Err(refusal) => return Err(refusal),
+            }
+        }
+        Err(CopyRefusal::Tool(ToolRefusal::Unanswered { turns }))
+    }
+}

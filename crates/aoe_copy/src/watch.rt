@@ -1,0 +1,11 @@
+//! Who is told how far a copy has come.
+
+/// Whoever is told how far a copy has come. No clause rests on it.
+pub trait Watch {
+    /// The copy is of so many sectors.
+    fn planned(&mut self, sectors: u64);
+
+    /// So many sectors from the first one on are written, by a copy out of a device to the sink, by
+    /// one into it as far as the device acknowledged.
+    fn reached(&mut self, sectors: u64);
+}
