@@ -1,5 +1,5 @@
 -- What follows from the steps of a copy into a device.
-use Rattle.std.proofs.Common.{ℕ, zero, suc, ◌≡◌, ◌+◌, ◌-◌, ◌*◌, ◌≤◌, ◌<◌, cond, not, Bool, true, false, nat_eq, nat_le, List, [], ◌∷◌, ◌++◌, length, map, drop, Option, Some, None, refl, sym, ap, ◌∙◌, arith, inl, inr, append_assoc, append-nil}
+use Rattle.std.proofs.Common.{ℕ, suc, ◌≡◌, ◌+◌, ◌≤◌, ◌<◌, cond, not, Bool, true, false, nat_eq, nat_le, List, [], ◌∷◌, ◌++◌, length, map, drop, Some, None, refl, sym, ap, ◌∙◌, arith, inl, inr, append-nil}
 use Rattle.std.specs.Prelude.{◌⊎◌, All, Contains, if◌then◌else◌, slice_index}
 use Rattle.std.proofs.lemmas.Bool.{cases_Bool, eqb-true}
 use Rattle.std.proofs.lemmas.List.{map-append}
@@ -12,16 +12,15 @@ use Rattle.aoe_base.specs.declared.counted.Ticket.{Ticket}
 use Rattle.aoe_frame.specs.declared.header.Header.{Header}
 use Rattle.aoe_frame.specs.Header.{head}
 use Rattle.aoe_initiator.proofs.ListLemmas.{Contains-cons_cases, Contains-map, Contains-map_from}
-use Rattle.aoe_initiator.specs.declared.op.Op.{Op}
 use Rattle.aoe_initiator.specs.declared.op.Op.TheVariants as op
 use Rattle.aoe_initiator.specs.declared.response.Answer.{Answer}
 use Rattle.aoe_initiator.specs.declared.response.Answer.TheVariants as answered
-use Rattle.aoe_initiator.specs.Response.{answer, ata_success, has_flag, is_failure, outcome_of, success}
+use Rattle.aoe_initiator.specs.Response.{answer, has_flag, is_failure, outcome_of, success}
 use Rattle.aoe_initiator.specs.declared.outcome.Done.{Done}
 use Rattle.aoe_initiator.specs.declared.outcome.Outcome.{Outcome}
 use Rattle.aoe_initiator.specs.declared.outcome.Outcome.TheVariants as outcome
 use Rattle.aoe_initiator.specs.Host.{Host}
-use Rattle.aoe_initiator.specs.HostLaw.{ended, is_answered, GaveUpInTurn}
+use Rattle.aoe_initiator.specs.HostLaw.{is_answered, GaveUpInTurn}
 use Rattle.aoe_initiator.specs.HostLog.{after_end, after_send, at_ticket, clock, commands, path_log, submitted, Event, HostCommand}
 use Rattle.aoe_initiator.specs.HostLog.Event.{Advances}
 use Rattle.aoe_io.specs.Link.{came, quiet, ended as over}
@@ -29,7 +28,7 @@ use Rattle.aoe_paths.specs.PathLog.{timeout_on}
 use Rattle.aoe_tools.proofs.RunLemmas.{open-ended, open-frames, open-heard}
 use Rattle.aoe_tools.proofs.TransferHost.{count-end}
 use Rattle.aoe_tools.specs.TransferCourse.{failure, Submission}
-use Rattle.aoe_tools.specs.TransferRun.{after_heard, Heard, IsAnswer}
+use Rattle.aoe_tools.specs.TransferRun.{Heard, IsAnswer}
 use Rattle.aoe_copy.specs.declared.plan.Plan.{Plan}
 use Rattle.aoe_copy.specs.declared.putting.Stage.{Stage}
 use Rattle.aoe_copy.specs.declared.putting.Stage.TheVariants as stage

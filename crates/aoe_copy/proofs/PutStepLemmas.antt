@@ -1,13 +1,13 @@
 -- What each step changes of what a copy into a device keeps and is true of: what is read and submitted.
-use Rattle.std.proofs.Common.{ℕ, zero, suc, ◌≡◌, ◌+◌, ◌-◌, ◌*◌, ◌/◌, ◌%◌, ◌<◌, ◌≤◌, ◌&&◌, Bool, true, false, nat_eq, nat_lt, List, [], ◌∷◌, ◌++◌, length, Option, refl, sym, ap, ◌∙◌, arith, inl, inr, append_assoc, append-nil, length-append}
-use Rattle.std.specs.Prelude.{◌≢◌, ◌⊎◌, IfErr, OnOk, Ok, Err, Result, min}
+use Rattle.std.proofs.Common.{ℕ, suc, ◌≡◌, ◌+◌, ◌*◌, ◌%◌, ◌<◌, ◌≤◌, ◌&&◌, true, false, nat_eq, nat_lt, List, [], ◌∷◌, ◌++◌, length, Option, refl, sym, ap, ◌∙◌, arith, inl, inr, append_assoc, append-nil, length-append}
+use Rattle.std.specs.Prelude.{◌≢◌, ◌⊎◌, IfErr, OnOk, Ok, Err, Result}
 use Rattle.std.proofs.lemmas.Bool.{and_parts, cases_Bool, cases_lt, eqb-true, lt-ltb, ltb-true}
 use Rattle.aoe_initiator.proofs.MatchLemmas.{same-then}
 use Rattle.aoe_initiator.specs.declared.op.Op.TheVariants as op
-use Rattle.aoe_initiator.specs.Host.{Host, IsSame, Matches}
-use Rattle.aoe_initiator.specs.HostLog.{commands, submitted, Event}
+use Rattle.aoe_initiator.specs.Host.{Host}
+use Rattle.aoe_initiator.specs.HostLog.{commands, submitted}
 use Rattle.aoe_io.proofs.BytesLemmas.{Gave-then}
-use Rattle.aoe_io.specs.Bytes.{Gave, GaveSome, IsEnded}
+use Rattle.aoe_io.specs.Bytes.{GaveSome, IsEnded}
 use Rattle.aoe_tools.proofs.RunLemmas.{pending-open}
 use Rattle.aoe_tools.proofs.TransferHost.{count-end}
 use Rattle.aoe_tools.specs.declared.end.CopyRefusal.{CopyRefusal}
@@ -20,7 +20,7 @@ use Rattle.aoe_copy.specs.declared.putting.Stage.TheVariants as stage
 use Rattle.aoe_copy.specs.Copying.{is_open}
 use Rattle.aoe_copy.specs.Feed.{ahead, Feeds}
 use Rattle.aoe_copy.specs.PutRuns.{EndsBy, HasFed, HasSeen, PutSeen, IsLean as IsLeanAll}
-use Rattle.aoe_copy.specs.PutSteps.{answers_of, asked, count_of, frames_of, log_of, open_of, outcomes, pieces, quiet_turns, rest_of, room_behind, stage_at_end, stage_of, turns_of, write_behind, written, AreFull, AreSteps, GoesOn, IsFilled, IsPart, MayFlush, MayRead, NothingLeft, PutStep}
+use Rattle.aoe_copy.specs.PutSteps.{answers_of, asked, count_of, frames_of, log_of, open_of, outcomes, pieces, quiet_turns, rest_of, room_behind, stage_at_end, stage_of, turns_of, write_behind, written, AreSteps, GoesOn, IsFilled, IsPart, MayFlush, MayRead, NothingLeft, PutStep}
 use Rattle.aoe_copy.specs.PutSteps.PutStep.{ends, exceeds, flushes, writes}
 use Rattle.aoe_copy.specs.Putting.{flushes_left, is_ended, is_reading, left_of, may_flush, may_read, room_of, stage_behind, stage_past, Ended, FlushesOne, GoOn, IsLean, IsOver, IsPiece, IsRest, Keeps, ReadsOn, Setting, Stands, Went, WritesOne, WritesSome}
 use Rattle.aoe_copy.specs.Steps.{the_device, ticket_at}

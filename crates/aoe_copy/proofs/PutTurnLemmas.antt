@@ -1,8 +1,8 @@
 -- A turn of a copy into a device: the clock answers, frames are sent, and a turn of the link passes; and one turn after another.
-use Rattle.std.proofs.Common.{ℕ, ◌≡◌, ◌+◌, ◌-◌, ◌*◌, ◌<◌, ◌≤◌, max, Bool, true, false, nat_eq, List, [], ◌∷◌, ◌++◌, length, reverse, Option, Some, None, refl, sym, ap, ◌∙◌, arith, append-nil, inl, inr}
-use Rattle.std.specs.Prelude.{Result, Ok, Err, All, IfSome}
+use Rattle.std.proofs.Common.{ℕ, ◌≡◌, ◌+◌, ◌-◌, ◌*◌, ◌<◌, ◌≤◌, Bool, true, false, nat_eq, List, [], ◌∷◌, ◌++◌, length, reverse, Option, Some, None, refl, sym, ap, ◌∙◌, arith, append-nil, inl, inr}
+use Rattle.std.specs.Prelude.{Result, Ok, Err, IfSome}
 use Rattle.std.proofs.lemmas.Bool.{cases_Bool, eqb-true}
-use Rattle.std.proofs.lemmas.List.{length-map, reverse-append, reverse-reverse}
+use Rattle.std.proofs.lemmas.List.{length-map}
 use Rattle.aoe_initiator.proofs.MatchLemmas.{same-then}
 use Rattle.aoe_initiator.specs.declared.device.Attached.{Attached}
 use Rattle.aoe_initiator.specs.declared.device.Device.{Device}
@@ -16,7 +16,7 @@ use Rattle.aoe_io.proofs.BytesLemmas.{Gave-nothing}
 use Rattle.aoe_io.proofs.LinkLemmas.{Added-then, turned-nothing, turned-then}
 use Rattle.aoe_io.specs.Link.{Added, Turn}
 use Rattle.aoe_tools.proofs.ListenLemmas.{added-nothing}
-use Rattle.aoe_tools.proofs.RunLemmas.{open-ended, open-frames, open-heard, pending-open, smaller, told-then, count_heard as count_of}
+use Rattle.aoe_tools.proofs.RunLemmas.{open-ended, open-frames, open-heard, pending-open, smaller, told-then}
 use Rattle.aoe_tools.proofs.SendingLemmas.{Pulls}
 use Rattle.aoe_tools.proofs.TransferHost.{same-self}
 use Rattle.aoe_tools.specs.TransferRun.{quiet_by, told_by, GivesUp, Heard, Told}
@@ -31,10 +31,10 @@ use Rattle.aoe_copy.specs.declared.plan.Plan.{Plan}
 use Rattle.aoe_copy.specs.declared.putting.Putting.{Putting}
 use Rattle.aoe_copy.specs.declared.putting.Stage.{Stage}
 use Rattle.aoe_copy.specs.declared.putting.Stage.TheVariants as stage
-use Rattle.aoe_copy.specs.Copying.{count_heard, InOrder}
+use Rattle.aoe_copy.specs.Copying.{InOrder}
 use Rattle.aoe_copy.specs.Feed.{ahead}
 use Rattle.aoe_copy.specs.PutRuns.{PutSeen}
-use Rattle.aoe_copy.specs.PutSteps.{answers_of, asked, frames_of, log_of, open_of, outcomes, pieces, quiet_turns, rest_of, sent_now, stage_of, turns_of, GoesOn, IsFilled, IsSent, PutStep}
+use Rattle.aoe_copy.specs.PutSteps.{answers_of, frames_of, log_of, open_of, outcomes, quiet_turns, rest_of, sent_now, stage_of, turns_of, GoesOn, IsFilled, IsSent, PutStep}
 use Rattle.aoe_copy.specs.PutSteps.PutStep.{hears, sends, ticks}
 use Rattle.aoe_copy.specs.Putting.{end_in, end_of, left_now, left_of, Begins, Collected, Collects, Ended, IsFit, Keeps, Passes, Sends, Setting, Stands, Turns, Went}
 use Rattle.aoe_copy.specs.Steps.{Fails, MaySend}

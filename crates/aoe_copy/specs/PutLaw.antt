@@ -1,5 +1,5 @@
 -- What follows from the steps of a copy into a device: what was submitted, and what was acknowledged.
-use Rattle.std.specs.Prelude.{ℕ, suc, ◌≡◌, ◌≤◌, List, [], ◌∷◌, ◌++◌, length, Some}
+use Rattle.std.specs.Prelude.{ℕ, ◌≡◌, List, [], ◌∷◌, ◌++◌, length, Some}
 use Rattle.aoe_initiator.specs.declared.op.Op.TheVariants as op
 use Rattle.aoe_initiator.specs.declared.outcome.Outcome.{Outcome}
 use Rattle.aoe_initiator.specs.declared.outcome.Outcome.TheVariants as outcome

@@ -1,9 +1,7 @@
 -- What a copy into a device keeps while it runs, and what it is true of: the steps so far, and what link, clock and source tell of them.
-use Rattle.std.specs.Prelude.{ℕ, suc, ◌≡◌, ◌≢◌, ◌+◌, ◌-◌, ◌*◌, ◌/◌, ◌%◌, ◌^◌, ◌<◌, ◌≤◌, ◌⊎◌, min, nat_eq, nat_lt, Bool, true, false, ◌&&◌, List, [], ◌∷◌, ◌++◌, length, Option, Some, None, Result, Ok, Err, if◌then◌else◌}
+use Rattle.std.specs.Prelude.{ℕ, suc, ◌≡◌, ◌+◌, ◌-◌, ◌*◌, ◌/◌, ◌%◌, ◌^◌, ◌<◌, ◌≤◌, ◌⊎◌, min, nat_eq, nat_lt, Bool, true, false, ◌&&◌, List, [], ◌∷◌, ◌++◌, length, Option, Some, None, Result, Ok, Err, if◌then◌else◌}
 use Rattle.aoe_base.specs.declared.failure.Failed.{Failed}
-use Rattle.aoe_base.specs.declared.failure.NoMemory.{NoMemory}
 use Rattle.aoe_initiator.specs.declared.op.Op.TheVariants as op
-use Rattle.aoe_initiator.specs.declared.outcome.Done.{Done}
 use Rattle.aoe_initiator.specs.Host.{Host, IsSame, Matches}
 use Rattle.aoe_initiator.specs.HostLog.{Event}
 use Rattle.aoe_initiator.specs.HostLog.Event.{Submits}
@@ -22,7 +20,7 @@ use Rattle.aoe_copy.specs.declared.putting.Stage.TheVariants as stage
 use Rattle.aoe_copy.specs.Copying.{count_heard, InOrder}
 use Rattle.aoe_copy.specs.Feed.{ahead, Feeds, IsFeed}
 use Rattle.aoe_copy.specs.PutRuns.{HasSeen, PutSeen, Runs}
-use Rattle.aoe_copy.specs.PutSteps.{asked, count_of, log_of, open_of, outcomes, pieces, quiet_turns, rest_of, sent_now, stage_at_end, stage_of, written, AreFull, AreSteps, GoesOn, IsFilled, IsSent, PutStep}
+use Rattle.aoe_copy.specs.PutSteps.{asked, count_of, log_of, open_of, outcomes, pieces, quiet_turns, rest_of, stage_of, written, AreFull, AreSteps, GoesOn, IsFilled, IsSent, PutStep}
 use Rattle.aoe_copy.specs.Steps.{the_device, ticket_at}
 use Rattle.aoe_copy.specs.Window.{most_open}
 

@@ -312,19 +312,24 @@ fn puts_sectors_and_reads_them_again(rt: HostRuntime) -> Result<(), Fail> {
     Ok(())
 }
 
-/// How a copy of any length into the device ends, and how many sectors were told as acknowledged.
+/// How a copy of any length into the device ends, with so much time from one question of the clock to
+/// the next, and how many sectors were told as acknowledged.
 fn puts_any(
     alloc: Global,
     at: u64,
     most: u32,
     source: &mut MemSource,
     link: &mut MemLink,
+    step: u64,
 ) -> (Result<(), CopyRefusal>, u64)
     requires some { 0 < most }
     requires few { most ≤ 17 }
 {
-    let ask = Ask { port: A, turns: 50 };
-    let mut clock = SetClock::new(0, 100);
+    let ask = Ask {
+        port: A,
+        turns: 300,
+    };
+    let mut clock = SetClock::new(0, step);
     let mut watch = untold();
     let ended = put_any(
         alloc, &ask, DEVICE, at, most, source, link, &mut clock, &mut watch,
@@ -333,7 +338,7 @@ fn puts_any(
 }
 
 /// A link that brings the two responses of a device with so many sectors, then one to each of so many
-/// writes, and, once the flush may follow them, one to it.
+/// writes, and one to the flush, which follows them after two seconds, 200 turns of 10 milliseconds.
 fn long_link(alloc: Global, total: [u8; 2], writes: u16) -> Result<MemLink, Fail>
     requires { writes ≤ 3000 }
 {
@@ -343,7 +348,7 @@ fn long_link(alloc: Global, total: [u8; 2], writes: u16) -> Result<MemLink, Fail
         let [high, low] = (k + 1).to_be_bytes();
         coming.push(Some(response(alloc, 0, [0, 0, high, low], &registers, &[])?))?;
     }
-    'quiet: for _ in 0..40 {
+    'quiet: for _ in 0..205 {
         coming.push(None)?;
     }
     let [high, low] = (writes + 1).to_be_bytes();
@@ -353,14 +358,15 @@ fn long_link(alloc: Global, total: [u8; 2], writes: u16) -> Result<MemLink, Fail
 
 #[test]
 fn puts_short_inputs_as_before(rt: HostRuntime) -> Result<(), Fail> {
-    let mut link = long_link(rt.alloc(), [16, 0], 1)?;
+    let turns: [Option<(u8, &[u8])>; 6] = [Some((1, &[])), None, None, None, None, Some((2, &[]))];
+    let mut link = link_of(rt.alloc(), &turns)?;
     let mut source = MemSource::of(rt.alloc(), &[0x5a; 512])?;
-    let done = puts_any(rt.alloc(), 3, 17, &mut source, &mut link);
+    let done = puts_any(rt.alloc(), 3, 17, &mut source, &mut link, 500);
     assert!(rt; done == (Ok(()), 0) && link.count() == 4);
     let write = [0x41, 0, 1, 0x34, 3, 0, 0, 0, 0, 0, 0, 0, 0x5a];
     assert!(rt; is_sent(&link, 2, &write));
     let mut odd = MemSource::of(rt.alloc(), &[0x5a; 600])?;
-    let refused = puts_any(rt.alloc(), 3, 17, &mut odd, &mut link);
+    let refused = puts_any(rt.alloc(), 3, 17, &mut odd, &mut link, 500);
     assert!(rt; refused == (Err(CopyRefusal::Stream { offset: 512 }), 0) && link.count() == 4);
     Ok(())
 }
@@ -379,7 +385,7 @@ fn puts_long(
     let bytes = Vec::from_elem(alloc, 0x5au8, 16_777_216 + more)?;
     let mut source = MemSource::of(alloc, bytes.as_slice())?;
     let mut link = long_link(alloc, total, writes)?;
-    let (ended, reached) = puts_any(alloc, 0, 17, &mut source, &mut link);
+    let (ended, reached) = puts_any(alloc, 0, 17, &mut source, &mut link, 10);
     Ok((ended, link.count(), reached))
 }
 

@@ -1,4 +1,4 @@
-use Rattle.std.proofs.Common.{inl, inr, refl}
+use Rattle.std.proofs.Common.{inl, refl}
 use Rattle.aoe_copy.proofs.into.copy_in.Goals as goal
 
 pub returns-in-Err-clause-runs : goal.returns-in-Err-clause-runs

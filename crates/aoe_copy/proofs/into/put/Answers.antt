@@ -1,5 +1,4 @@
-use Rattle.std.proofs.Common.{refl, Ok}
-use Rattle.std.specs.Prelude.{Err}
+use Rattle.std.proofs.Common.{refl}
 use Rattle.aoe_copy.proofs.into.put.Goals as goal
 
 pub returns-in-Ok-Sectors-clause-run : goal.returns-in-Ok-Sectors-clause-run
