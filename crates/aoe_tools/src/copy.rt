@@ -361,8 +361,9 @@ pub fn put<L: Link, C: Clock, S: Source>(
         (S.faults source.new) }
 {
     match read_input(alloc, source) {
-        Ok(Input::Sectors(sectors)) =>
-            put_sectors(alloc, ask, id, at, sectors, verify, link, clock),
+        Ok(Input::Sectors(sectors)) => put_sectors(
+            alloc, ask, id, at, sectors, verify, link, clock,
+        ),
         Ok(Input::Longer(_)) => Err(CopyRefusal::Limit),
         Err(refusal) => Err(refusal),
     }
