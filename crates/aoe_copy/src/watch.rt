@@ -2,7 +2,8 @@
 
 /// Whoever is told how far a copy has come. No clause rests on it.
 pub trait Watch {
-    /// The copy is of so many sectors.
+    /// The copy is of so many sectors. A copy into a device doesn't say it: the length of its input
+    /// isn't known.
     fn planned(&mut self, sectors: u64);
 
     /// So many sectors from the first one on are written, by a copy out of a device to the sink, by

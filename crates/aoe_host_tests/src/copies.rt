@@ -33,16 +33,15 @@ fn response(
     Blob::of(alloc, out.as_slice())
 }
 
-/// The responses to the two requests before a transfer, of a device with so many sectors.
-fn found(alloc: Global, total: [u8; 2]) -> Result<Vec<Option<Blob>>, Fail>
+/// The responses to the two requests before a transfer: the device has 16 sectors.
+fn found(alloc: Global) -> Result<Vec<Option<Blob>>, Fail>
     ensures { IfOk result (λ coming. All IsShort coming.items) }
 {
     let config = [0, 16, 0, 1, 17, 0x10, 0, 0];
     let registers = [0, 0, 0, 0x40, 0, 0, 0, 0, 0, 0, 0, 0];
     let mut page = [0u8; 512];
     page[99] = 2;
-    page[120] = total[0];
-    page[121] = total[1];
+    page[120] = 16;
     let mut coming = Vec::new(alloc);
     coming.push(Some(response(alloc, 1, [0x80, 0, 0, 0], &config, &[])?))?;
     coming.push(Some(response(alloc, 0, [0x80, 0, 0, 1], &registers, &page)?))?;
@@ -61,9 +60,9 @@ fn turn(alloc: Global, told: &Option<(u8, &[u8])>) -> Result<Option<Blob>, NoMem
     }
 }
 
-/// A link that brings the two responses of a device with 16 sectors, and then these turns.
+/// A link that brings the two responses, and then these turns.
 fn link_of(alloc: Global, turns: &[Option<(u8, &[u8])>]) -> Result<MemLink, Fail> {
-    let mut coming = found(alloc, [16, 0])?;
+    let mut coming = found(alloc)?;
     'turns: for told in turns {
         coming.push(turn(alloc, told)?)?;
     }
@@ -139,10 +138,9 @@ fn gets_any(
     let ask = Ask { port: A, turns: 50 };
     let mut clock = SetClock::new(0, 10);
     let mut watch = untold();
-    let got = get_any(
+    get_any(
         alloc, &ask, DEVICE, at, count, most, sink, link, &mut clock, &mut watch,
-    );
-    got
+    )
 }
 
 #[test]
@@ -312,48 +310,24 @@ fn puts_sectors_and_reads_them_again(rt: HostRuntime) -> Result<(), Fail> {
     Ok(())
 }
 
-/// How a copy of any length into the device ends, with so much time from one question of the clock to
-/// the next, and how many sectors were told as acknowledged.
+/// How a copy of any length into the device ends, with half a second from one question of the clock to
+/// the next.
 fn puts_any(
     alloc: Global,
     at: u64,
     most: u32,
     source: &mut MemSource,
     link: &mut MemLink,
-    step: u64,
-) -> (Result<(), CopyRefusal>, u64)
+) -> Result<(), CopyRefusal>
     requires some { 0 < most }
     requires few { most ≤ 17 }
 {
-    let ask = Ask {
-        port: A,
-        turns: 300,
-    };
-    let mut clock = SetClock::new(0, step);
+    let ask = Ask { port: A, turns: 50 };
+    let mut clock = SetClock::new(0, 500);
     let mut watch = untold();
-    let ended = put_any(
+    put_any(
         alloc, &ask, DEVICE, at, most, source, link, &mut clock, &mut watch,
-    );
-    (ended, watch.reached)
-}
-
-/// A link that brings the two responses of a device with so many sectors, then one to each of so many
-/// writes, and one to the flush, which follows them after two seconds, 200 turns of 10 milliseconds.
-fn long_link(alloc: Global, total: [u8; 2], writes: u16) -> Result<MemLink, Fail>
-    requires { writes ≤ 3000 }
-{
-    let registers = [0x40, 0, 0, 0x40, 0, 0, 0, 0, 0, 0, 0, 0];
-    let mut coming = found(alloc, total)?;
-    'writes: for k in 0..writes {
-        let [high, low] = (k + 1).to_be_bytes();
-        coming.push(Some(response(alloc, 0, [0, 0, high, low], &registers, &[])?))?;
-    }
-    'quiet: for _ in 0..205 {
-        coming.push(None)?;
-    }
-    let [high, low] = (writes + 1).to_be_bytes();
-    coming.push(Some(response(alloc, 0, [0, 0, high, low], &registers, &[])?))?;
-    Ok(MemLink::of(alloc, coming, writes as usize + 10)?)
+    )
 }
 
 #[test]
@@ -361,51 +335,12 @@ fn puts_short_inputs_as_before(rt: HostRuntime) -> Result<(), Fail> {
     let turns: [Option<(u8, &[u8])>; 6] = [Some((1, &[])), None, None, None, None, Some((2, &[]))];
     let mut link = link_of(rt.alloc(), &turns)?;
     let mut source = MemSource::of(rt.alloc(), &[0x5a; 512])?;
-    let done = puts_any(rt.alloc(), 3, 17, &mut source, &mut link, 500);
-    assert!(rt; done == (Ok(()), 0) && link.count() == 4);
+    let done = puts_any(rt.alloc(), 3, 17, &mut source, &mut link);
+    assert!(rt; done == Ok(()) && link.count() == 4);
     let write = [0x41, 0, 1, 0x34, 3, 0, 0, 0, 0, 0, 0, 0, 0x5a];
     assert!(rt; is_sent(&link, 2, &write));
     let mut odd = MemSource::of(rt.alloc(), &[0x5a; 600])?;
-    let refused = puts_any(rt.alloc(), 3, 17, &mut odd, &mut link, 500);
-    assert!(rt; refused == (Err(CopyRefusal::Stream { offset: 512 }), 0) && link.count() == 4);
-    Ok(())
-}
-
-/// How an input of 32,768 sectors and so many bytes more ends, which is so many writes, at a device
-/// with so many sectors; how many frames were sent and how many sectors acknowledged.
-fn puts_long(
-    alloc: Global,
-    more: usize,
-    total: [u8; 2],
-    writes: u16,
-) -> Result<(Result<(), CopyRefusal>, usize, u64), Fail>
-    requires more { more ≤ 100000 }
-    requires writes { writes ≤ 3000 }
-{
-    let bytes = Vec::from_elem(alloc, 0x5au8, 16_777_216 + more)?;
-    let mut source = MemSource::of(alloc, bytes.as_slice())?;
-    let mut link = long_link(alloc, total, writes)?;
-    let (ended, reached) = puts_any(alloc, 0, 17, &mut source, &mut link, 10);
-    Ok((ended, link.count(), reached))
-}
-
-#[test]
-fn puts_long_inputs(rt: HostRuntime) -> Result<(), Fail> {
-    let range = CopyRefusal::Tool(ToolRefusal::Refused(Refusal::Range));
-    let stream = CopyRefusal::Stream { offset: 16_777_216 };
-    let rows: [(usize, [u8; 2], Option<CopyRefusal>, usize, u64); 4] = [
-        (512, [0, 0x90], None, 1931, 32769),
-        (1, [0, 0x90], Some(stream), 1930, 32768),
-        (1, [0, 0x80], Some(range), 1930, 32768),
-        (512, [0, 0x80], Some(range), 2, 0),
-    ];
-    'rows: for (more, total, refusal, frames, reached) in &rows {
-        let (ended, count, told) = puts_long(rt.alloc(), *more, *total, 1928)?;
-        let expected = match refusal {
-            Some(refusal) => Err(*refusal),
-            None => Ok(()),
-        };
-        assert!(rt; ended == expected && count == *frames && told == *reached);
-    }
+    let refused = puts_any(rt.alloc(), 3, 17, &mut odd, &mut link);
+    assert!(rt; refused == Err(CopyRefusal::Stream { offset: 512 }) && link.count() == 4);
     Ok(())
 }
