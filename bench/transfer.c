@@ -2,8 +2,9 @@
 // commands of 2 sectors under way, and a flush behind the last write. Each reply has to be the whole
 // answer to a command that is under way; what isn't answered for 100 milliseconds is sent again. The
 // frames go over UDP on the loopback interface from LINK to SHELF, two ports. With a LIFETIME, in
-// milliseconds, the flush keeps the order that `aoe put` keeps: it is sent when no frame of a write can
-// arrive any more, and when one of the 65,536 tags is free, which is two lifetimes after its last frame.
+// milliseconds, it keeps the order that `aoe get` and `aoe put` keep: a command is sent when one of the
+// 65,536 tags is free, which is two lifetimes after its last frame, and the flush, besides, when no frame of
+// a write can arrive any more.
 #include <arpa/inet.h>
 #include <endian.h>
 #include <stdint.h>
@@ -31,7 +32,7 @@ static struct sockaddr_in shelf;
 static struct command commands[UNDER_WAY];
 static uint8_t *data, code;
 static uint64_t start, count, sent, answered, again;
-static double sent_at[ROOM];
+static double sent_at[ROOM], lifetime;
 
 static void fail(const char *why) {
     fprintf(stderr, "transfer: %s\n", why);
@@ -67,12 +68,17 @@ static void give(const struct command *command) {
         length += sectors * SECTOR;
     }
     if (length < 60) length = 60;
-    if (code == WRITE) sent_at[command->first / EACH % ROOM] = now();
+    if (code != FLUSH) sent_at[command->first / EACH % ROOM] = now();
     if (sendto(link_socket, frame, length, 0, (struct sockaddr *)&shelf, sizeof shelf) < 0) fail("a command couldn't be sent");
+}
+
+static void wait_until(double time) {
+    while (now() < time) nanosleep(&(struct timespec){.tv_nsec = 100000}, NULL);
 }
 
 // Begins the next command in a place that is free. The tag's low bits are the place.
 static void begin(int place) {
+    if (lifetime && code != FLUSH && sent >= ROOM) wait_until(sent_at[sent % ROOM] + 2 * lifetime);
     commands[place] = (struct command){.tag = sent * UNDER_WAY + place + 1, .first = sent * EACH, .under_way = 1};
     sent++;
     give(&commands[place]);
@@ -114,18 +120,14 @@ static void run(uint64_t total) {
 }
 
 // Waits until a flush behind so many writes may be sent.
-static void wait_for_order(uint64_t writes, double lifetime) {
-    double least = 0;
-    if (writes > ROOM) fail("too many writes for one flush");
-    for (uint64_t i = 0; i < writes; i++)
+static void wait_for_order(uint64_t writes) {
+    double least = 0, free = now();
+    for (uint64_t i = 0; i < writes && i < ROOM; i++) {
         if (sent_at[i] + lifetime > least) least = sent_at[i] + lifetime;
-    if (writes == ROOM) {
-        double free = sent_at[0];
-        for (uint64_t i = 1; i < writes; i++)
-            if (sent_at[i] < free) free = sent_at[i];
-        if (free + 2 * lifetime > least) least = free + 2 * lifetime;
+        if (sent_at[i] < free) free = sent_at[i];
     }
-    while (now() < least) nanosleep(&(struct timespec){.tv_nsec = 100000}, NULL);
+    if (writes >= ROOM && free + 2 * lifetime > least) least = free + 2 * lifetime;
+    wait_until(least);
 }
 
 int main(int argc, char **argv) {
@@ -144,8 +146,9 @@ int main(int argc, char **argv) {
     int put = strcmp(argv[3], "put") == 0;
     if (put && fread(data, SECTOR, count, stdin) != count) fail("too few sectors");
     code = put ? WRITE : READ;
+    if (argc == 7) lifetime = atof(argv[6]) / 1000;
     run((count + EACH - 1) / EACH);
-    if (put && argc == 7) wait_for_order(sent, atof(argv[6]) / 1000);
+    if (put && lifetime) wait_for_order(sent);
     code = FLUSH;
     if (put) run(1);
     if (!put) fwrite(data, SECTOR, count, stdout);
