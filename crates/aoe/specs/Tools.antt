@@ -1,7 +1,8 @@
 -- What the tools ask and say, and how they end.
-use Rattle.std.specs.Prelude.{ℕ, ◌≡◌, ◌≤◌, Bool, true, false, List, [], Option, Result, Ok, Err, option_map}
+use Rattle.std.specs.Prelude.{ℕ, ◌≡◌, ◌≢◌, ◌≤◌, Bool, true, false, List, [], Option, Result, Ok, Err, option_map}
 use Rattle.arrayvec.specs.ArrayVec.{ArrayVec}
 use Rattle.aoe_base.specs.declared.failure.NoMemory.{NoMemory}
+use Rattle.aoe_copy.specs.PutRuns.{PutsAll}
 use Rattle.aoe_copy.specs.Runs.{Copies}
 use Rattle.aoe_io.specs.Bytes.{Took, TookSome}
 use Rattle.aoe_lists.specs.declared.dir.Dir.{Dir}
@@ -27,6 +28,7 @@ use Rattle.aoe_words.specs.declared.command.Tool.{Tool}
 use Rattle.aoe_words.specs.declared.command.Tool.TheVariants as tool
 use Rattle.aoe.specs.declared.status.Status.{Status}
 use Rattle.aoe.specs.declared.status.Status.TheVariants as status
+use Rattle.aoe.specs.declared.status.What.{What}
 use Rattle.aoe.specs.declared.status.What.TheVariants as what
 
 -- who asks, and how long it listens
@@ -159,8 +161,20 @@ pub record CopiesAll (asked : LongGet) (s : Status) (held held' : Option (List �
   pub runs : Copies result (ask_of asked.asking) asked.id asked.at asked.count most_sectors t held held'
   pub ends : s ≡ copied result
 
--- `put` ran over a source, a link and a clock, and the status tells how it ended
-pub record CopiesIn (asked : Put) (s : Status) (left left' : Option (List ℕ)) (t : Told) : Type 0 where
+-- `put` ran over a source, a link and a clock, read the sectors again, and the status tells how it ended
+pub record CopiesInAgain (asked : Put) (s : Status) (left left' : Option (List ℕ)) (t : Told) : Type 0 where
   pub result : Result Unit CopyRefusal
-  pub runs : RunsPut result (ask_of asked.asking) asked.id asked.at asked.verify t left left'
+  pub runs : RunsPut result (ask_of asked.asking) asked.id asked.at true t left left'
   pub ends : s ≡ copied result
+
+-- A `put` of any length ran over a source, a link and a clock, and the status tells how it ended; no input is too long for it.
+pub record CopiesAllIn (asked : Put) (s : Status) (left left' : Option (List ℕ)) (t : Told) : Type 0 where
+  pub result : Result Unit CopyRefusal
+  pub runs : PutsAll result (ask_of asked.asking) asked.id asked.at most_sectors t left left'
+  pub ends : s ≡ copied result
+  pub unlimited : (excess : What) → s ≢ status.Limit excess
+
+-- `put` ran as it was asked for: with its sectors read again, or of any length
+pub record CopiesIn (asked : Put) (s : Status) (left left' : Option (List ℕ)) (t : Told) : Type 0 where
+  pub again : asked.verify ≡ true → CopiesInAgain asked s left left' t
+  pub all : asked.verify ≡ false → CopiesAllIn asked s left left' t

@@ -33,15 +33,17 @@ mod until;
 mod upkeep;
 mod wire;
 
-use aoe_base::{Blob, NoMemory, SECTOR_LEN};
+use aoe_base::{Blob, NoMemory};
 use aoe_tap::{OpenRefusal as TapRefusal, TapMedium};
 use aoe_udp::{OpenRefusal, UdpMedium};
 use aoe_wire::WireLink;
-use aoe_words::{Command, PortWords, Wrong, files_of, ports_of, read_words, slip_of, stop_of};
+use aoe_words::{
+    Command, PortWords, Wrong, files_of, is_told, ports_of, read_words, slip_of, stop_of,
+};
 use arguments::words;
 use clock::SystemClock;
 use files::{FileDisk, FileRefusal, KeepDoubt};
-use flow::Flow;
+use flow::{Flow, Teller, input_sectors};
 use log::{Log, say};
 use status::Status;
 use std::fs::File;
@@ -251,17 +253,18 @@ fn open_link(rt: &HostRuntime, words: &PortWords) -> Result<WireLink<Wire>, u8> 
 }
 
 /// Opens the links that these arguments name, the first of which ends once a file of this name is there;
-/// the exit status where one can't be opened, which is said.
-fn open_links(
+/// the exit status where one can't be opened, which is said. The flow is told when one is quiet.
+fn open_links<'a>(
     rt: &HostRuntime,
     ends: &[PortWords],
     mut stop: Option<String>,
-) -> Result<Vec<Until<WireLink<Wire>>>, u8>
+    flow: &'a Flow,
+) -> Result<Vec<Until<'a, WireLink<Wire>>>, u8>
     ensures { IfOk result (λ links. length links.items ≡ length ends.now) }
 {
     let mut links = Vec::new(rt.alloc());
     'ends: for words in ends {
-        let link = Until::new(rt, open_link(rt, words)?, stop.take());
+        let link = Until::new(rt, open_link(rt, words)?, stop.take(), flow);
         if links.push(link).is_err() {
             return Err(tell(rt, Status::NoMemory));
         }
@@ -321,28 +324,26 @@ fn say_slip(rt: &HostRuntime, words: &[String]) {
     say(rt, b"--help\n");
 }
 
-/// Runs the command over its files and links, the standard streams and the clock, and counts the bytes
-/// that standard output took.
+/// Runs the command over its files and links, the standard streams and the clock. The flow is told how far
+/// a copy has come.
 fn run_over(
     rt: &HostRuntime,
     words: &[String],
-    command: Option<&Command>,
     disks: &mut [Option<FileDisk>],
     links: &mut [Until<WireLink<Wire>>],
-) -> (Status, u64)
+    flow: &Flow,
+) -> Status
     requires count { length disks.old ≡ length (file_names (map string_bytes words.now)) }
     requires there { All IsSome disks.old }
     requires links { length links.old ≡ length (port_words (map string_bytes words.now)) }
 {
     let Ok(reader) = BufReader::with_capacity(rt.alloc(), READ_AHEAD, rt.stdin()) else {
-        return (Status::NoMemory, 0);
+        return Status::NoMemory;
     };
     let mut source = Input::new(reader);
     let mut sink = Output::new(rt.stdout());
-    if let Some(Command::LongGet(asked)) = command {
-        sink.show(Flow::on_terminal(rt, asked.count));
-    }
     let mut clock = SystemClock::new(rt);
+    let mut watch = Teller::new(flow);
     let status = aoe(
         rt.alloc(),
         words,
@@ -351,22 +352,61 @@ fn run_over(
         disks,
         links,
         &mut clock,
+        &mut watch,
     );
-    sink.end_show();
-    (status, sink.taken())
+    flow.close();
+    status
 }
 
-/// Says how far a copy came that didn't come to its end, so that another can go on from there.
-fn tell_written(rt: &HostRuntime, at: u64, bytes: u64) {
-    let sectors = bytes / SECTOR_LEN as u64;
-    if sectors == 0 {
+/// What is known of how far a command comes: of a copy it is told.
+fn flow_of(rt: &HostRuntime, command: Option<&Command>, is_told: bool) -> Flow {
+    match command {
+        Some(Command::Get(_) | Command::LongGet(_)) => Flow::new(rt, is_told, None),
+        Some(Command::Put(_)) => Flow::new(rt, is_told, input_sectors(rt)),
+        _ => Flow::nowhere(rt),
+    }
+}
+
+/// Says how far a copy came that broke off behind so many sectors, so that another can go on from there.
+/// Where standard output failed more may be written, a part of a sector too.
+fn tell_reached(rt: &HostRuntime, command: &Command, is_sink: bool, reached: u64) {
+    let (at, done) = match command {
+        Command::LongGet(asked) => (asked.at, "were written"),
+        Command::Put(asked) => (asked.at, "were acknowledged, but no flush was"),
+        _ => return,
+    };
+    if reached > 0 {
+        let next = at.saturating_add(reached);
+        if let Ok(text) = format!(in rt.alloc(); "aoe: the sectors before {next} {done}\n") {
+            say(rt, text.as_bytes());
+        }
+    } else if matches!(command, Command::LongGet(_)) && !is_sink {
         say(rt, b"aoe: nothing was written\n");
-        return;
     }
-    let last = at.saturating_add(sectors - 1);
-    if let Ok(text) = format!(in rt.alloc(); "aoe: nothing was written behind sector {last}\n") {
-        say(rt, text.as_bytes());
+}
+
+/// Says what there is to say of how a command ended, of which a copy reached so many sectors, and gives the
+/// exit status.
+fn tell_end(
+    rt: &HostRuntime,
+    words: &[String],
+    command: Option<&Command>,
+    status: Status,
+    reached: u64,
+) -> u8 {
+    let is_ok = matches!(status, Status::Ok);
+    let is_usage = matches!(status, Status::Usage);
+    let is_sink = matches!(status, Status::SinkFault);
+    let code = tell(rt, status);
+    if is_usage {
+        say_slip(rt, words);
     }
+    if let Some(command) = command
+        && !is_ok
+    {
+        tell_reached(rt, command, is_sink, reached);
+    }
+    code
 }
 
 /// Opens the files with these names and the links that these arguments name, runs the command that the
@@ -377,6 +417,7 @@ fn run_named(
     names: &[String],
     ends: &[PortWords],
     stop: Option<String>,
+    is_told: bool,
 ) -> u8
     requires count { length names.now ≡ length (file_names (map string_bytes words.now)) }
     requires links { length ends.now ≡ length (port_words (map string_bytes words.now)) }
@@ -393,38 +434,22 @@ fn run_named(
     if let Err(code) = look_at_keeps(rt, command.as_ref(), names, disks.as_slice()) {
         return code;
     }
-    let mut links = match open_links(rt, ends, stop) {
+    let flow = flow_of(rt, command.as_ref(), is_told);
+    let mut links = match open_links(rt, ends, stop, &flow) {
         Ok(links) => links,
         Err(code) => return code,
     };
     if let (Some(log), Some(Command::Serve(serve))) = (&mut log, &command) {
         log.start(serve, ends);
     }
-    let (status, written) = run_over(
-        rt,
-        words,
-        command.as_ref(),
-        disks.as_mut_slice(),
-        links.as_mut_slice(),
-    );
+    let status = run_over(rt, words, disks.as_mut_slice(), links.as_mut_slice(), &flow);
     tell_offloaded(rt, links.as_slice());
     if let (Some(log), [link]) = (&log, links.as_slice())
         && matches!(command, Some(Command::Serve(_)))
     {
         log.end(disks.as_slice(), link);
     }
-    let is_usage = matches!(status, Status::Usage);
-    let is_ok = matches!(status, Status::Ok);
-    let code = tell(rt, status);
-    if is_usage {
-        say_slip(rt, words);
-    }
-    if let Some(Command::LongGet(asked)) = &command
-        && !is_ok
-    {
-        tell_written(rt, asked.at, written);
-    }
-    code
+    tell_end(rt, words, command.as_ref(), status, flow.reached())
 }
 
 /// Runs the command that the arguments spell on its files, its links and the standard streams, and gives
@@ -439,11 +464,14 @@ fn run_words(rt: &HostRuntime, words: &[String]) -> u8 {
     let Ok(stop) = stop_of(rt.alloc(), words) else {
         return tell(rt, Status::NoMemory);
     };
+    let Ok(is_told) = is_told(rt.alloc(), words) else {
+        return tell(rt, Status::NoMemory);
+    };
     let _streams = match hold_streams(rt) {
         Ok(streams) => streams,
         Err(error) => return tell_failed(rt, ROOT.as_bytes(), &error, 5),
     };
-    run_named(rt, words, names.as_slice(), ends.as_slice(), stop)
+    run_named(rt, words, names.as_slice(), ends.as_slice(), stop, is_told)
 }
 
 /// Runs the command that the program's arguments spell, and gives the exit status. Arguments that aren't

@@ -5,7 +5,6 @@ ghost use Rattle.std.specs.Io.KnownBytes.{WriteAppends};
 ghost use Rattle.std.specs.IoError.{error_kind};
 ghost use Rattle.aoe_base.specs.Faults.{Rose};
 
-use crate::flow::Flow;
 use aoe_base::Failed;
 use aoe_io::{Sink, Source};
 use std::io;
@@ -102,64 +101,18 @@ impl<R: Read> Source for Input<R> {
     }
 }
 
-/// A writer that counts its faults and the bytes that it took. Nothing is held back: what a call took,
-/// the writer has.
+/// A writer that counts its faults. Nothing is held back: what a call took, the writer has.
 #[derive(Drop)]
 pub struct Output<W> {
     writer: W,
     faults: u64,
-    taken: u64,
-
-    /// Where a terminal is told how much that is.
-    flow: Option<Flow>,
 }
 
 impl<W: Write> Output<W> {
     pub fn new(writer: W) -> Output<W>
-        ensures faults { result.faults ≡ 0 }
-        ensures taken { result.taken ≡ 0 }
+        ensures { result.faults ≡ 0 }
     {
-        Output {
-            writer,
-            faults: 0,
-            taken: 0,
-            flow: None,
-        }
-    }
-
-    /// Tells a terminal from now on how much the writer took.
-    pub fn show(&mut self, flow: Option<Flow>)
-        ensures { self.new ≡ record self.old { flow = flow } }
-    {
-        self.flow = flow;
-    }
-
-    /// Ends what a terminal is told.
-    pub fn end_show(&mut self) {
-        if let Some(flow) = self.flow.take() {
-            flow.close(self.taken);
-        }
-    }
-
-    /// Counts bytes that the writer took, and tells the terminal, where it is told.
-    #[inline(always)]
-    fn count(&mut self, bytes: usize)
-        ensures taken { self.old.taken + bytes < 2 ^ 64
-            → self.new.taken ≡ self.old.taken + bytes }
-        ensures writer { self.new.writer ≡ self.old.writer }
-        ensures faults { self.new.faults ≡ self.old.faults }
-    {
-        self.taken = self.taken.wrapping_add(bytes as u64);
-        if let Some(flow) = &mut self.flow {
-            flow.say_in_time(self.taken);
-        }
-    }
-
-    /// How many bytes the writer took.
-    pub fn taken(&self) -> u64
-        ensures { result ≡ self.now.taken }
-    {
-        self.taken
+        Output { writer, faults: 0 }
     }
 
     /// Writes once more where a signal interrupted the call, and else counts its fault. It stands apart,
@@ -172,8 +125,6 @@ impl<W: Write> Output<W> {
         ensures within { IfOk result (λ n. n ≤ length piece.now) }
         ensures bytes { WriteAppends (W.contents self.old.writer) (W.contents self.new.writer)
             result piece.now }
-        ensures taken { IfOk result (λ n. self.old.taken + n < 2 ^ 64
-            → self.new.taken ≡ self.old.taken + n) }
         ensures count { self.old.faults ≤ self.new.faults }
         ensures cause { OnErr result (Rose self.old.faults self.new.faults) }
         ensures no_fault { OnOk result (self.new.faults ≡ self.old.faults) }
@@ -183,7 +134,6 @@ impl<W: Write> Output<W> {
             && let Ok(n) = write_through(&mut self.writer, piece)
             && n > 0
         {
-            self.count(n);
             return Ok(n);
         }
         self.faults = self.faults.saturating_add(1);
@@ -204,18 +154,13 @@ impl<W: Write> Sink for Output<W> {
         ensures within { IfOk result (λ n. n ≤ length piece.now) }
         ensures bytes { WriteAppends (W.contents self.old.writer) (W.contents self.new.writer)
             result piece.now }
-        ensures taken { IfOk result (λ n. self.old.taken + n < 2 ^ 64
-            → self.new.taken ≡ self.old.taken + n) }
         ensures count { self.old.faults ≤ self.new.faults }
         ensures cause { OnErr result (Rose self.old.faults self.new.faults) }
         ensures no_fault { OnOk result (self.new.faults ≡ self.old.faults) }
         ensures one_fault { self.new.faults ≤ self.old.faults + 1 }
     {
         let is_interrupted = match self.writer.write(piece) {
-            Ok(n) if n > 0 => {
-                self.count(n);
-                return Ok(n);
-            }
+            Ok(n) if n > 0 => return Ok(n),
             Ok(_) => false,
             Err(error) => error.kind() == ErrorKind::Interrupted,
         };

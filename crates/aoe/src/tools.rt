@@ -5,10 +5,11 @@ ghost use Rattle.aoe_tools.specs.Runs.{told};
 ghost use Rattle.aoe_words.specs.Tools.{CanGet};
 ghost use Rattle.aoe_base.specs.Faults.{Blamed};
 ghost use Rattle.aoe_lists.specs.Settings.{max_directives};
-ghost use Rattle.aoe.specs.Tools.{CanAsk, CopiesAll, CopiesIn, CopiesOut, RunsTool, Says, SaysConfig, SaysFlush, SaysFound, SaysMasks, SaysReserves, SaysStat, ask_of, copy_status, dirs_of, is_copy_status, is_tool_status, said, tool_status};
+ghost use Rattle.aoe.specs.Tools.{CanAsk, CopiesAll, CopiesAllIn, CopiesIn, CopiesInAgain, CopiesOut, RunsTool, Says, SaysConfig, SaysFlush, SaysFound, SaysMasks, SaysReserves, SaysStat, ask_of, copy_status, dirs_of, is_copy_status, is_tool_status, said, tool_status};
 
 use crate::status::{Status, What};
 use aoe_base::{Blob, Failed, NoMemory};
+use aoe_copy::Watch;
 use aoe_io::{Clock, Link, Sink, Source, give_all};
 use aoe_lists::Dir;
 use aoe_tools::{
@@ -274,12 +275,13 @@ pub(crate) fn run_get<K: Sink, L: Link, C: Clock>(
 }
 
 /// Copies sectors of a device to the sink, each as soon as all before it came.
-pub(crate) fn run_long_get<K: Sink, L: Link, C: Clock>(
+pub(crate) fn run_long_get<K: Sink, L: Link, C: Clock, W: Watch>(
     alloc: Global,
     asked: &LongGet,
     sink: &mut K,
     link: &mut L,
     clock: &mut C,
+    watch: &mut W,
 ) -> Status
     ensures run { CopiesAll asked.now result (K.held sink.old) (K.held sink.new)
         (told C.least C.answers L.turns L.given L.taken clock.old clock.new link.old link.new) }
@@ -300,6 +302,66 @@ pub(crate) fn run_long_get<K: Sink, L: Link, C: Clock>(
         sink,
         link,
         clock,
+        watch,
+    ) {
+        Ok(()) => Status::Ok,
+        Err(refusal) => copy_status(refusal),
+    }
+}
+
+/// Copies what the source gives, 16,777,216 bytes at most, to sectors of a device, and reads them again.
+fn run_verified_put<S: Source, L: Link, C: Clock>(
+    alloc: Global,
+    asked: &Put,
+    source: &mut S,
+    link: &mut L,
+    clock: &mut C,
+) -> Status
+    ensures run { CopiesInAgain asked.now result (S.left source.old) (S.left source.new)
+        (told C.least C.answers L.turns L.given L.taken clock.old clock.new link.old link.new) }
+    ensures status { is_copy_status result ≡ true }
+    ensures unwritten { result ≢ Status.SinkFault }
+    ensures source { Blamed (result ≡ Status.SourceFault) (S.faults source.old)
+        (S.faults source.new) }
+    ensures link { Blamed (result ≡ Status.LinkFault 0) (L.faults link.old) (L.faults link.new) }
+    ensures alone { (port : ℕ) → result ≡ Status.LinkFault port → port ≡ 0 }
+{
+    let ask = ask_of(asked.asking);
+    match put(alloc, &ask, asked.id, asked.at, true, source, link, clock) {
+        Ok(()) => Status::Ok,
+        Err(refusal) => copy_status(refusal),
+    }
+}
+
+/// Copies what the source gives to sectors of a device.
+fn run_long_put<S: Source, L: Link, C: Clock, W: Watch>(
+    alloc: Global,
+    asked: &Put,
+    source: &mut S,
+    link: &mut L,
+    clock: &mut C,
+    watch: &mut W,
+) -> Status
+    ensures run { CopiesAllIn asked.now result (S.left source.old) (S.left source.new)
+        (told C.least C.answers L.turns L.given L.taken clock.old clock.new link.old link.new) }
+    ensures status { is_copy_status result ≡ true }
+    ensures unwritten { result ≢ Status.SinkFault }
+    ensures source { Blamed (result ≡ Status.SourceFault) (S.faults source.old)
+        (S.faults source.new) }
+    ensures link { Blamed (result ≡ Status.LinkFault 0) (L.faults link.old) (L.faults link.new) }
+    ensures alone { (port : ℕ) → result ≡ Status.LinkFault port → port ≡ 0 }
+{
+    let ask = ask_of(asked.asking);
+    match aoe_copy::put(
+        alloc,
+        &ask,
+        asked.id,
+        asked.at,
+        MOST_SECTORS,
+        source,
+        link,
+        clock,
+        watch,
     ) {
         Ok(()) => Status::Ok,
         Err(refusal) => copy_status(refusal),
@@ -307,12 +369,13 @@ pub(crate) fn run_long_get<K: Sink, L: Link, C: Clock>(
 }
 
 /// Copies what the source gives to sectors of a device.
-pub(crate) fn run_put<S: Source, L: Link, C: Clock>(
+pub(crate) fn run_put<S: Source, L: Link, C: Clock, W: Watch>(
     alloc: Global,
     asked: &Put,
     source: &mut S,
     link: &mut L,
     clock: &mut C,
+    watch: &mut W,
 ) -> Status
     ensures run { CopiesIn asked.now result (S.left source.old) (S.left source.new)
         (told C.least C.answers L.turns L.given L.taken clock.old clock.new link.old link.new) }
@@ -323,18 +386,9 @@ pub(crate) fn run_put<S: Source, L: Link, C: Clock>(
     ensures link { Blamed (result ≡ Status.LinkFault 0) (L.faults link.old) (L.faults link.new) }
     ensures alone { (port : ℕ) → result ≡ Status.LinkFault port → port ≡ 0 }
 {
-    let ask = ask_of(asked.asking);
-    match put(
-        alloc,
-        &ask,
-        asked.id,
-        asked.at,
-        asked.verify,
-        source,
-        link,
-        clock,
-    ) {
-        Ok(()) => Status::Ok,
-        Err(refusal) => copy_status(refusal),
+    if asked.verify {
+        run_verified_put(alloc, asked, source, link, clock)
+    } else {
+        run_long_put(alloc, asked, source, link, clock, watch)
     }
 }

@@ -38,6 +38,7 @@ use crate::switch::run_switch;
 use crate::tools::{run_get, run_long_get, run_put, run_tool};
 use crate::upkeep::run_keep;
 use aoe_base::NoMemory;
+use aoe_copy::Watch;
 use aoe_disk::Disk;
 use aoe_io::{Clock, Link, Sink, Source};
 use aoe_serve::{ExportRefusal, Plan, Rack, export};
@@ -118,7 +119,7 @@ fn run_soak<K: Sink>(alloc: Global, asked: Soak, sink: &mut K) -> Status
 }
 
 /// Runs a command: over its files and links, or the script that the source gives.
-fn run_command<S: Source, K: Sink, D: Disk + Drop, L: Link, C: Clock>(
+fn run_command<S: Source, K: Sink, D: Disk + Drop, L: Link, C: Clock, W: Watch>(
     alloc: Global,
     command: Command,
     source: &mut S,
@@ -126,6 +127,7 @@ fn run_command<S: Source, K: Sink, D: Disk + Drop, L: Link, C: Clock>(
     disks: &mut [Option<D>],
     links: &mut [L],
     clock: &mut C,
+    watch: &mut W,
 ) -> Status
     requires range { IsInRange command }
     requires count { length disks.old ≡ file_count command }
@@ -194,8 +196,10 @@ fn run_command<S: Source, K: Sink, D: Disk + Drop, L: Link, C: Clock>(
         Command::Switch(asked) => run_switch(alloc, asked.ports.as_slice(), source, sink),
         Command::Ask(tool) => run_tool(alloc, &tool, sink, &mut links[0], clock),
         Command::Get(asked) => run_get(alloc, &asked, sink, &mut links[0], clock),
-        Command::LongGet(asked) => run_long_get(alloc, &asked, sink, &mut links[0], clock),
-        Command::Put(asked) => run_put(alloc, &asked, source, &mut links[0], clock),
+        Command::LongGet(asked) => {
+            run_long_get(alloc, &asked, sink, &mut links[0], clock, watch)
+        }
+        Command::Put(asked) => run_put(alloc, &asked, source, &mut links[0], clock, watch),
         Command::Keep(action) => run_keep(alloc, action, sink, disks),
         Command::Audit(asked) => run_audit(alloc, &asked, source, sink, disks),
     }
@@ -219,7 +223,9 @@ fn run_command<S: Source, K: Sink, D: Disk + Drop, L: Link, C: Clock>(
 /// The tools ask over the first link and the clock: `discover` and `stat` which targets there are, with
 /// their sizes and states, `cfg`, `mask` and `reserve` one target for a list or a change of it; what they
 /// are told goes to the sink as text. `get` copies sectors of a target to the sink, up to 32,768 of them
-/// once all have come and more of them as they come, and `put` what the source gives to sectors. `--port` is who asks, and `--turns` how long each listens.
+/// once all have come and more of them as they come, and `put` what the source gives to sectors, up to
+/// 32,768 of them once all are read and more of them as they are read. How far a copy of more has come the
+/// watch is told. `--port` is who asks, and `--turns` how long each listens.
 ///
 /// `replay` reads the source to its end as a script, runs the events of the script through shelves
 /// and hosts in memory, and puts the text of what happened on the sink. Whatever a schedule loses,
@@ -255,7 +261,7 @@ fn run_command<S: Source, K: Sink, D: Disk + Drop, L: Link, C: Clock>(
 /// Memory is taken while the arguments are read, and for the shelf and its stores before the first keep is
 /// mounted; then no more. A replay takes memory until its text is written, and so does a tool; `keep` takes
 /// it for its line.
-pub fn aoe<S: Source, K: Sink, D: Disk + Drop, L: Link, C: Clock>(
+pub fn aoe<S: Source, K: Sink, D: Disk + Drop, L: Link, C: Clock, W: Watch>(
     alloc: Global,
     words: &[String],
     source: &mut S,
@@ -263,6 +269,7 @@ pub fn aoe<S: Source, K: Sink, D: Disk + Drop, L: Link, C: Clock>(
     disks: &mut [Option<D>],
     links: &mut [L],
     clock: &mut C,
+    watch: &mut W,
 ) -> Status
     requires count { length disks.old ≡ length (file_names (map string_bytes words.now)) }
     requires there { All IsSome disks.old }
@@ -362,7 +369,9 @@ pub fn aoe<S: Source, K: Sink, D: Disk + Drop, L: Link, C: Clock>(
         → IsFaultless (S.faults source.old) (S.faults source.new) → IsFaultless (K.faults sink.old) (K.faults sink.new) → HasReplayed (script_of text) result }
 {
     match read_words(alloc, words) {
-        Ok(Some(command)) => { run_command(alloc, command, source, sink, disks, links, clock) }
+        Ok(Some(command)) => {
+            run_command(alloc, command, source, sink, disks, links, clock, watch)
+        }
         Ok(None) => Status::Usage,
         Err(NoMemory) => Status::NoMemory,
     }

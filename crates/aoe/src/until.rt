@@ -1,6 +1,7 @@
 //! A link that ends once a file is there. It tells nothing of what it gives and takes.
 ghost use Rattle.std.specs.Prelude.{None};
 
+use crate::flow::Flow;
 use aoe_base::Failed;
 use aoe_frame::Frame;
 use aoe_io::{Got, Link};
@@ -11,24 +12,26 @@ const FRAMES: u32 = 1000;
 
 /// A link that has ended once a file of this name is there, whatever still comes on it; where there is
 /// no name, the link itself. The file is looked for before the first turn, behind each turn that brought
-/// no frame, and behind so many frames.
+/// no frame, and behind so many frames. A turn that brought none is told.
 #[derive(Drop)]
-pub struct Until<L: Link> {
+pub struct Until<'a, L: Link> {
     rt: HostRuntime,
     link: L,
     stop: Option<String>,
+    flow: &'a Flow,
     before_look: u32,
     turns: u64,
     came: u64,
     sent: u64,
 }
 
-impl<L: Link> Until<L> {
-    pub fn new(rt: &HostRuntime, link: L, stop: Option<String>) -> Until<L> {
+impl<'a, L: Link> Until<'a, L> {
+    pub fn new(rt: &HostRuntime, link: L, stop: Option<String>, flow: &'a Flow) -> Until<'a, L> {
         Until {
             rt: *rt,
             link,
             stop,
+            flow,
             before_look: 0,
             turns: 0,
             came: 0,
@@ -60,7 +63,7 @@ impl<L: Link> Until<L> {
     }
 }
 
-impl<L: Link> Link for Until<L> {
+impl<L: Link> Link for Until<'_, L> {
     ghost given = { λ _. None };
 
     ghost taken = { λ _. None };
@@ -91,8 +94,10 @@ impl<L: Link> Link for Until<L> {
             Got::Frame => self.before_look - 1,
             Got::Quiet | Got::Ended => 0,
         };
-        if got == Got::Frame {
-            self.came = self.came.saturating_add(1);
+        match got {
+            Got::Frame => self.came = self.came.saturating_add(1),
+            Got::Quiet => self.flow.quiet(self.came, self.sent),
+            Got::Ended => {}
         }
         Ok(got)
     }

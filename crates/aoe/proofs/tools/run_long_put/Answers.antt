@@ -1,0 +1,17 @@
+use Rattle.aoe.proofs.Blame.{retold}
+use Rattle.aoe.proofs.CopyLemmas.{copied-link, copied-source, unlimited}
+use Rattle.aoe.proofs.tools.run_long_put.Goals as goal
+
+pub returns-in-Err-clause-link : goal.returns-in-Err-clause-link
+returns-in-Err-clause-link g c = retold _ _ (copied-link _ c.in-Err.refusal c.copy_status.ensures) _ _ c.in-Err.ensures.link
+
+pub returns-in-Err-clause-source : goal.returns-in-Err-clause-source
+returns-in-Err-clause-source g c = retold _ _ (copied-source _ c.in-Err.refusal c.copy_status.ensures) _ _ c.in-Err.ensures.source
+
+pub returns-in-Err-clause-run : goal.returns-in-Err-clause-run
+returns-in-Err-clause-run g c = record {
+  result = _;
+  runs = rw c.ask_of-ask.ensures at c.in-Err.ensures.run;
+  ends = c.copy_status.ensures;
+  unlimited = unlimited _ c.in-Err.refusal _ _ _ _ _ _ _ c.copy_status.ensures c.in-Err.ensures.run;
+}
