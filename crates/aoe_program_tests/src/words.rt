@@ -7,8 +7,8 @@ use aoe_lists::Dir;
 use aoe_vlan::PortKind;
 use aoe_words::{
     Answer, Asking, Audit, Cfg, Command, Discover, Flush, Get, Live, LongGet, Mask, PortKinds,
-    PortWords, Put, Reserve, Serve, Soak, Stat, Switch, Tool, files_of, ports_of, read_words,
-    slip_of, stop_of,
+    PortWords, Put, Reserve, Serve, Soak, Stat, Switch, Tool, files_of, is_told, ports_of,
+    read_words, slip_of, stop_of,
 };
 use arrayvec::ArrayVec;
 use std::alloc::{AllocError, Global};
@@ -97,13 +97,22 @@ fn add_stop(alloc: Global, words: &[String], joined: &mut Vec<u8>) -> Result<(),
     Ok(())
 }
 
-/// What a line opens, its files and then its links, and what it looks for.
+/// Adds that it is told how far the run has come, where it is.
+fn add_told(alloc: Global, words: &[String], joined: &mut Vec<u8>) -> Result<(), Fail> {
+    if is_told(alloc, words)? {
+        add_part(joined, b"told")?;
+    }
+    Ok(())
+}
+
+/// What a line opens, its files and then its links, what it looks for, and whether it is told how far it has come.
 fn opened(alloc: Global, line: &str) -> Result<Vec<u8>, Fail> {
     let words = words_of(alloc, line)?;
     let mut joined = Vec::new(alloc);
     add_files(alloc, words.as_slice(), &mut joined)?;
     add_links(alloc, words.as_slice(), &mut joined)?;
     add_stop(alloc, words.as_slice(), &mut joined)?;
+    add_told(alloc, words.as_slice(), &mut joined)?;
     Ok(joined)
 }
 
@@ -396,6 +405,8 @@ fn names_files_and_links(rt: HostRuntime) -> Result<(), Fail> {
             "put e1.0 0 --vxlan 16777215 --local 0.0.0.0:1 --peers 10.0.0.1:1",
             "0.0.0.0:1>10.0.0.1:1#16777215",
         ),
+        ("get e1.0 --progress --local x --peers y", "x>y told"),
+        ("put --progress e1.0 0 --tap y --verify", "y told"),
         ("live 16 10 --one a --two b --vxlan 0", "a>b#0 b>a#0"),
         ("live 16 10 --one-tap a --two-tap b", "a b"),
     ];
