@@ -12,7 +12,7 @@ _aoe() {
             mapfile -t COMPREPLY < <(compgen -f -- "$word")
             return
             ;;
-        --durable | --verify | --long | --sectors) ;;
+        --durable | --verify | --progress | --long | --sectors) ;;
         --*) return ;;
     esac
     # The words of the synopsis that are no names of values: options and actions.
