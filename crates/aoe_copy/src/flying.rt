@@ -2,7 +2,7 @@
 use aoe_base::Ticket;
 use arrayvec::ArrayVec;
 
-/// The tickets of the commands that have no outcome, in their order, from which it is told how far a
+/// The tickets of the commands that aren't done, in their order, from which it is told how far a
 /// copy has come. No clause rests on it.
 #[derive(Drop)]
 pub(crate) struct Flying {
@@ -22,7 +22,7 @@ impl Flying {
         let _ = self.tickets.try_push(ticket.0);
     }
 
-    /// A command has its outcome.
+    /// A command is done.
     pub(crate) fn remove(&mut self, ticket: Ticket) {
         let place = self.tickets.iter().position(|own| *own == ticket.0);
         if let Some(place) = place {
@@ -30,7 +30,7 @@ impl Flying {
         }
     }
 
-    /// The command that was submitted first of those under way.
+    /// The command that was submitted first of these.
     pub(crate) fn first(&self) -> Option<u64> {
         self.tickets.first().copied()
     }

@@ -132,10 +132,10 @@ impl Putting {
             → Matches log self.new.host }
     {
         'outcomes: while let Some(done) = self.host.take_done() {
-            self.flying.remove(done.ticket);
             if let Some(refusal) = failure(&done.outcome, turns) {
                 return Err(refusal);
             }
+            self.flying.remove(done.ticket);
         }
         Ok(())
     }
@@ -522,7 +522,8 @@ impl Putting {
         }
     }
 
-    /// How many sectors are acknowledged, from the first one on.
+    /// How many sectors are acknowledged, from the first one on. A command that was refused counts as
+    /// under way.
     fn acknowledged(&self) -> u64 {
         match self.flying.first() {
             Some(ticket) => {
