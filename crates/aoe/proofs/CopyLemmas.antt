@@ -1,5 +1,5 @@
--- What the status of a copy tells of its link and its source, and that a `put` of any length has no limit.
-use Rattle.std.proofs.Common.{◌≡◌, ◌∙◌, ℕ, List, Option, Result, Ok, Err, false, ap, inl, inr, refl, subst, sym}
+-- Which statuses a copy has, what they tell of its link and its source, and that a `put` of any length has no limit.
+use Rattle.std.proofs.Common.{◌≡◌, ◌∙◌, ℕ, List, Option, Result, Ok, Err, false, true, ap, inl, inr, refl, subst, sym}
 use Rattle.std.specs.Prelude.{◌↔◌}
 use Rattle.aoe_base.specs.declared.address.TargetId.{TargetId}
 use Rattle.aoe_copy.specs.PutRuns.{CopiesAt, PutSeen, PutsAll, PutsRead}
@@ -14,7 +14,7 @@ use Rattle.aoe_tools.specs.declared.input.Input.{Input}
 use Rattle.aoe_tools.specs.declared.input.Input.TheVariants as input
 use Rattle.aoe_tools.specs.declared.lookup.Device.{Device}
 use Rattle.aoe_tools.specs.declared.question.Ask.{Ask}
-use Rattle.aoe.specs.Tools.{copied, copy_status}
+use Rattle.aoe.specs.Tools.{copied, copy_status, is_copy_status}
 use Rattle.aoe.specs.declared.status.Status.{Status}
 use Rattle.aoe.specs.declared.status.Status.TheVariants as status
 use Rattle.aoe.specs.declared.status.What.{What}
@@ -50,6 +50,16 @@ IsSourceFault ended = ended ≡ Err copy.SourceFault
 
 pub copied-source : (s : Status) (r : CopyRefusal) → s ≡ copy_status r → (s ≡ status.SourceFault) ↔ IsSourceFault (Err r)
 copied-source s r is = (λ told. ap Err (told-source r (sym is ∙ told)), λ e. is ∙ ap copied e)
+
+pub told-status : (r : CopyRefusal) → is_copy_status (copy_status r) ≡ true
+told-status (copy.Tool tool.LinkFault) = refl
+told-status (copy.Tool tool.NoMemory) = refl
+told-status (copy.Tool (tool.Unanswered n)) = refl
+told-status (copy.Tool (tool.Refused r)) = refl
+told-status (copy.Stream offset) = refl
+told-status copy.Limit = refl
+told-status copy.SourceFault = refl
+told-status copy.SinkFault = refl
 
 -- ---- a `put` of any length ends by no limit
 
