@@ -3,7 +3,7 @@
 // answer to a command that is under way; what isn't answered for 100 milliseconds is sent again. The
 // frames go over UDP on the loopback interface from LINK to SHELF, two ports. With a LIFETIME, in
 // milliseconds, it keeps the order that `aoe get` and `aoe put` keep: a command is sent when one of the
-// 65,536 tags is free, which is two lifetimes after its last frame, and the flush, besides, when no frame of
+// 131,072 tags is free, which is two lifetimes after its last frame, and the flush, besides, when no frame of
 // a write can arrive any more.
 #include <arpa/inet.h>
 #include <endian.h>
@@ -22,7 +22,7 @@
 #ifndef UNDER_WAY
 #define UNDER_WAY 64
 #endif
-enum { HEADER = 24, DATA = HEADER + 12, MOST = 9018, SECTOR = 512, ROOM = 65536 };
+enum { HEADER = 24, DATA = HEADER + 12, MOST = 9018, SECTOR = 512, ROOM = 131072 };
 enum { READ = 0x24, WRITE = 0x34, FLUSH = 0xea };
 
 struct command { uint32_t tag; uint64_t first; int under_way; };

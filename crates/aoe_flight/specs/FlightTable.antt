@@ -52,5 +52,5 @@ Recalls table sent = SameCommands table.commands (live table.rest table.latest s
 pub record FitsRoom (room capacity : ℕ) (commands : List Outstanding) : Type 0 where
   pub fits : length commands ≤ room
   pub reserved : room ≤ capacity
-  pub few : room ≤ 65536
+  pub few : room ≤ 131072
   pub distinct : (tag : ℕ) → tag_count commands tag ≤ 1

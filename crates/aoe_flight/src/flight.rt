@@ -69,7 +69,7 @@ impl Flight {
     /// own, since all of it is made here.
     pub fn new(alloc: Global, room: u32, life: Lifetimes, dead: Millis) -> Result<Flight, NoMemory>
         requires some_room { 0 < room }
-        requires room { room ≤ 65536 }
+        requires room { room ≤ 131072 }
         requires requests { life.requests.0 ≤ 600000 }
         requires responses { life.responses.0 ≤ 600000 }
         requires dead { 0 < dead.0 }

@@ -11,7 +11,7 @@ abbrev pub default_room : ℕ
 default_room = 4096
 
 abbrev pub most_room : ℕ
-most_room = 65536
+most_room = 131072
 
 -- after how many milliseconds a command is given up
 abbrev pub default_dead : ℕ

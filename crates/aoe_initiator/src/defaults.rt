@@ -17,4 +17,4 @@ pub const ROOM: u32 = 4096;
 
 /// The most that a host can have flying or resting. What copies a disk takes it, since its commands
 /// follow one another without a pause, and each rests for the sum of the lifetimes.
-pub const MOST_ROOM: u32 = 65_536;
+pub const MOST_ROOM: u32 = 131_072;

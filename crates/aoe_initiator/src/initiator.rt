@@ -186,7 +186,7 @@ impl Initiator {
         requires requests { life.requests.0 ≤ 600000 }
         requires responses { life.responses.0 ≤ 600000 }
         requires some_room { 0 < room }
-        requires room { room ≤ 65536 }
+        requires room { room ≤ 131072 }
         requires dead { 0 < dead.0 }
         ensures value { IfOk result (λ host. host ≡ new_host ports.now.items life room dead.0) }
         ensures matches { IfOk result (λ host. Matches [] host) }
