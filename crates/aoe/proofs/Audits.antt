@@ -13,7 +13,7 @@ use Rattle.aoe_pcap_audit.specs.Ends.{Audits}
 use Rattle.aoe_pcap_audit.specs.declared.stop.AuditStop.{AuditStop}
 use Rattle.aoe_pcap_audit.specs.declared.stop.AuditStop.TheVariants as stop
 use Rattle.aoe_target.specs.Mounted.{station_of}
-use Rattle.aoe_words.specs.declared.command.Audit.{Audit}
+use Rattle.aoe_args.specs.declared.command.Audit.{Audit}
 use Rattle.aoe.specs.Auditing.{JudgesCapture, audited_as}
 use Rattle.aoe.specs.Ending.{refused_slot}
 use Rattle.aoe.specs.Keeping.{refused_alone}

@@ -20,9 +20,9 @@ use Rattle.aoe_serve.specs.declared.over_stream.Format.{Format}
 use Rattle.aoe_serve.specs.declared.plan.Plan.TheVariants as plan
 use Rattle.aoe_serve.specs.declared.plan.RunEnd.{RunEnd}
 use Rattle.aoe_serve.specs.declared.plan.RunEnd.TheVariants as end
-use Rattle.aoe_words.specs.declared.command.Answer.{Answer as Answers}
-use Rattle.aoe_words.specs.declared.command.Serve.{Serve as Serves}
-use Rattle.aoe_words.specs.declared.command.Command.TheVariants.{Answer, Serve}
+use Rattle.aoe_args.specs.declared.command.Answer.{Answer as Answers}
+use Rattle.aoe_args.specs.declared.command.Serve.{Serve as Serves}
+use Rattle.aoe_args.specs.declared.command.Command.TheVariants.{Answer, Serve}
 use Rattle.aoe_world.specs.Replay.{IsFaultless}
 use Rattle.aoe.specs.Commands.{format_of, limit}
 use Rattle.aoe.specs.Ending.{after_syncs, ended_by}

@@ -22,10 +22,10 @@ use Rattle.aoe_serve.specs.declared.plan.Plan.TheVariants as plan
 use Rattle.aoe_serve.specs.declared.plan.RunEnd.{RunEnd}
 use Rattle.aoe_serve.specs.declared.plan.RunEnd.TheVariants.{Answered, Served}
 use Rattle.aoe_target.specs.declared.station.Station.{Station}
-use Rattle.aoe_words.specs.declared.command.Command.{Command}
-use Rattle.aoe_words.specs.declared.command.Command.TheVariants as command
-use Rattle.aoe_words.specs.declared.command.Mirror.{Mirror}
-use Rattle.aoe.specs.Commands.{is_mirror, mirror_rack, target_of}
+use Rattle.aoe_args.specs.declared.command.Command.{Command}
+use Rattle.aoe_args.specs.declared.command.Command.TheVariants as command
+use Rattle.aoe_args.specs.declared.command.Mirror.{Mirror}
+use Rattle.aoe.specs.Commands.{is_mirror, mirror_options, target_of}
 use Rattle.aoe.specs.Ending.{after_sync, ended_by, kept_out, mirrored_as, stopped_by}
 use Rattle.aoe.specs.Mirror.{ComesToSides, HasSides, RunsMirror, faults_at, four_of, is_kept_out, is_mirror_status}
 use Rattle.aoe.specs.declared.status.Status.{Status}
@@ -270,11 +270,11 @@ stopped-same P a b (Err why) p source sink links = (p, source, sink, links)
 
 pub runs-mirror : {D S K L : Type 0} (state : D → DiskState) (asked : Mirror) (t : Tells S K L) (a b : Outside S K L) (s : Status)
     (r : Result MirrorEnd MirrorStop) (given back : MirrorDisks D) (disks disks' : List (Option D)) → s ≡ mirrored_as r → disks ≡ four_of given
-    → disks' ≡ four_of back → IfOk r (λ e. IsMirrored state (target_of (mirror_rack asked) asked.id.minor) t (plan.Answer format.Replies) e a b given back)
+    → disks' ≡ four_of back → IfOk r (λ e. IsMirrored state (target_of (mirror_options asked) asked.id.minor) t (plan.Answer format.Replies) e a b given back)
     → IfErr r (λ why. Stops state why given back)
     → OnErr r (b.source ≡ a.source) → OnErr r (b.sink ≡ a.sink) → OnErr r (b.links ≡ a.links) → RunsMirror state asked t s a b disks disks'
 runs-mirror state asked t a b s r given back disks disks' is were are ran stopped source sink links =
-    let name = target_of (mirror_rack asked) asked.id.minor in
+    let name = target_of (mirror_options asked) asked.id.minor in
     let law = law-of state name t a b given back r ran stopped in
     rw is (record {
       given = given;

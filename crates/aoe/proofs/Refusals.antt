@@ -12,7 +12,7 @@ use Rattle.aoe_keep.specs.declared.refusal.MountRefusal.TheVariants as refusal
 use Rattle.aoe_lists.specs.Settings.{Settings}
 use Rattle.aoe_serve.specs.Exporting.{Outside, Tells}
 use Rattle.aoe_serve.specs.Files.{GivesBack}
-use Rattle.aoe_serve.specs.declared.over_files.Rack.{Rack}
+use Rattle.aoe_serve.specs.declared.over_files.ExportOptions.{ExportOptions}
 use Rattle.aoe_serve.specs.declared.plan.Plan.{Plan}
 use Rattle.aoe_serve.specs.declared.plan.RunEnd.{RunEnd}
 use Rattle.aoe_serve.specs.declared.plan.RunEnd.TheVariants.{Answered, Served}
@@ -22,9 +22,9 @@ use Rattle.aoe_world.specs.declared.end.ReplayEnd.{ReplayEnd}
 use Rattle.aoe_world.specs.declared.end.ReplayEnd.TheVariants as replay
 use Rattle.aoe_vlan.specs.declared.over_stream.SwitchEnd.{SwitchEnd}
 use Rattle.aoe_vlan.specs.declared.over_stream.SwitchEnd.TheVariants as switch
-use Rattle.aoe_words.specs.Words.{file_count}
-use Rattle.aoe_words.specs.declared.command.Command.{Command}
-use Rattle.aoe_words.specs.declared.command.Command.TheVariants as command
+use Rattle.aoe_args.specs.Words.{file_count}
+use Rattle.aoe_args.specs.declared.command.Command.{Command}
+use Rattle.aoe_args.specs.declared.command.Command.TheVariants as command
 use Rattle.aoe_world.specs.Replay.{IsFaultless}
 use Rattle.aoe.specs.Commands.{exports, is_mirror}
 use Rattle.aoe.specs.Ending.{after_syncs, ended_by, file_at, keep_at, refused_as, refused_slot, replayed_as, slot_of_keep, switched_as}
@@ -359,7 +359,7 @@ no-disk-switched switch.Limit disk e = cc
 
 -- over files, without any, or over a keep alone
 data Runs {D S K L : Type 0} (state : D → DiskState) (t : Tells S K L) (s : Status) (a b : Outside S K L) (disks disks' : List (Option D)) : Type 0 where
-  over_files : (rack : Rack) (p : Plan) → RanFiles state rack p t s a b disks disks' → Runs state t s a b disks disks'
+  over_files : (options : ExportOptions) (p : Plan) → RanFiles state options p t s a b disks disks' → Runs state t s a b disks disks'
   over_none : length disks ≡ 0 → ((disk : ℕ) → s ≢ status.DiskFault disk) → Runs state t s a b disks disks'
   over_one : length disks ≡ 1 → ((disk : ℕ) → s ≡ status.DiskFault disk → disk ≡ 0) → Runs state t s a b disks disks'
 
@@ -400,7 +400,7 @@ module _ {D S K L : Type 0} (state : D → DiskState) (command : Command) (t : T
           over : Runs state t s a b disks disks' → OnSlot (λ _ _ keep keep'. KeepIs state s slot keep keep') slot disks disks'
           over (over_none empty fine) = on-none (λ _ _ keep keep'. KeepIs state s slot keep keep') slot disks disks' empty
           over (over_one one first) = on-few (λ _ _ keep keep'. KeepIs state s slot keep keep') slot disks disks' (omega (arith, one))
-          over (over_files rack p r) =
+          over (over_files options p r) =
               let x = r.run in
               on-map (Stands state x.first x.last slot) (λ _ _ keep keep'. KeepIs state s slot keep keep') slot disks disks'
               (λ file file' keep keep' stand. is_mounted stand.a.device.keep stand.a.device.lists stand.mounted (λ k e. absurd (let f : (let y : Option ℕ = None in y) ≡ Some k = sym none ∙ is ∙ e in cc)))
@@ -457,7 +457,7 @@ module _ {D S K L : Type 0} (state : D → DiskState) (command : Command) (t : T
       over : Runs state t s a b disks disks' → disk < length disks
       over (over_none empty fine) = absurd (fine disk e)
       over (over_one one first) = omega (arith, one, first disk e)
-      over (over_files rack p r) =
+      over (over_files options p r) =
           let u = unsynced-disk r.exported.end r.exported.unsynced disk (sym e ∙ r.ends) in
           omega (arith, u.2, unsynced-within state _ _ _ t _ r.exported a b disks disks' r.run u.0 u.1)
 
@@ -471,7 +471,7 @@ module _ {D S K L : Type 0} (state : D → DiskState) (command : Command) (t : T
       over : Runs state t s a b disks disks' → OnSlot (λ file file' _ _. Rose (state file).faults (state file').faults) slot disks disks'
       over (over_none empty fine) = absurd (fine (file_at slot) e)
       over (over_one one first) = on-few (λ file file' _ _. Rose (state file).faults (state file').faults) slot disks disks' (omega (arith, one))
-      over (over_files rack p r) = unsynced-rose state _ _ _ t _ r.exported a b disks disks' r.run slot
+      over (over_files options p r) = unsynced-rose state _ _ _ t _ r.exported a b disks disks' r.run slot
           (unsynced-at r.exported.end r.exported.unsynced slot (sym e ∙ r.ends))
 
   pub settled : (slot : ℕ) → s ≡ status.Ok → OnSlot (λ _ file' _ _. IfSome (state file').contents NothingLoose) slot disks disks'
@@ -480,7 +480,7 @@ module _ {D S K L : Type 0} (state : D → DiskState) (command : Command) (t : T
       over : Runs state t s a b disks disks' → OnSlot (λ _ file' _ _. IfSome (state file').contents NothingLoose) slot disks disks'
       over (over_none empty fine) = on-none (λ _ file' _ _. IfSome (state file').contents NothingLoose) slot disks disks' empty
       over (over_one one first) = on-few (λ _ file' _ _. IfSome (state file').contents NothingLoose) slot disks disks' (omega (arith, one))
-      over (over_files rack p r) = all-settled state _ _ _ t _ r.exported a b disks disks' r.run slot
+      over (over_files options p r) = all-settled state _ _ _ t _ r.exported a b disks disks' r.run slot
           (synced-at r.exported.end r.exported.unsynced (sym e ∙ r.ends))
 
 -- Which command it was.

@@ -7,7 +7,7 @@ use Rattle.aoe_keep.specs.declared.refusal.MountRefusal.TheVariants as refusal
 use Rattle.aoe_upkeep.specs.Upkeep.{IsCaused, is_disk_fault}
 use Rattle.aoe_upkeep.specs.declared.stop.UpkeepStop.{UpkeepStop}
 use Rattle.aoe_upkeep.specs.declared.stop.UpkeepStop.TheVariants as stop
-use Rattle.aoe_words.specs.declared.command.KeepAction.{KeepAction}
+use Rattle.aoe_args.specs.declared.command.KeepAction.{KeepAction}
 use Rattle.aoe.specs.Ending.{refused_slot}
 use Rattle.aoe.specs.Keeping.{Acts, RunsKeep, upkept_as}
 use Rattle.aoe.specs.declared.status.Status.{Status}

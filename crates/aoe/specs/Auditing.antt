@@ -10,7 +10,7 @@ use Rattle.aoe_pcap_audit.specs.Ends.{Audits}
 use Rattle.aoe_pcap_audit.specs.declared.stop.AuditStop.{AuditStop}
 use Rattle.aoe_pcap_audit.specs.declared.stop.AuditStop.TheVariants as stop
 use Rattle.aoe_target.specs.Mounted.{station_of}
-use Rattle.aoe_words.specs.declared.command.Audit.{Audit}
+use Rattle.aoe_args.specs.declared.command.Audit.{Audit}
 use Rattle.aoe.specs.Keeping.{IsTooSmall, refused_alone}
 use Rattle.aoe.specs.declared.status.Status.{Status}
 use Rattle.aoe.specs.declared.status.Status.TheVariants as status

@@ -2,23 +2,23 @@
 use Rattle.std.specs.Prelude.{ℕ, ◌||◌, Bool, true, false, [], ◌∷◌, Option, None, Some, if◌then◌else◌}
 use Rattle.aoe_target.specs.declared.station.Station.{Station}
 use Rattle.aoe_serve.specs.Files.{named}
-use Rattle.aoe_serve.specs.declared.over_files.Rack.{Rack}
+use Rattle.aoe_serve.specs.declared.over_files.ExportOptions.{ExportOptions}
 use Rattle.aoe_serve.specs.declared.over_stream.Format.{Format}
 use Rattle.aoe_serve.specs.declared.over_stream.Format.TheVariants as format
 use Rattle.aoe_serve.specs.declared.plan.Plan.{Plan}
 use Rattle.aoe_serve.specs.declared.plan.Plan.TheVariants as plan
-use Rattle.aoe_words.specs.declared.command.Command.{Command}
-use Rattle.aoe_words.specs.declared.command.Command.TheVariants.{Answer, Ask, Audit, Get, Keep, Live, LongGet, Mirror, Put, Replay, Serve}
-use Rattle.aoe_words.specs.declared.command.Answer.{Answer as Answers}
-use Rattle.aoe_words.specs.declared.command.Mirror.{Mirror as Mirrors}
-use Rattle.aoe_words.specs.declared.command.Serve.{Serve as Serves}
+use Rattle.aoe_args.specs.declared.command.Command.{Command}
+use Rattle.aoe_args.specs.declared.command.Command.TheVariants.{Answer, Ask, Audit, Get, Keep, Live, LongGet, Mirror, Put, Replay, Serve}
+use Rattle.aoe_args.specs.declared.command.Answer.{Answer as Answers}
+use Rattle.aoe_args.specs.declared.command.Mirror.{Mirror as Mirrors}
+use Rattle.aoe_args.specs.declared.command.Serve.{Serve as Serves}
 
 -- what `capture` writes, or else `answer`
 abbrev pub format_of : Bool → Format
 format_of captures = if captures then format.Capture else format.Replies
 
 -- What the slot of `answer` or `capture` has, and what is done with it: its frames come as a stream.
-abbrev pub answer_plan : Answers → Rack × Plan
+abbrev pub answer_plan : Answers → ExportOptions × Plan
 answer_plan answer =
     (record { first = answer.id; ports = record { items = answer.port ∷ [] }; mtu = answer.mtu; cache = answer.cache; durable = answer.durable }, plan.Answer (format_of answer.captures))
 
@@ -28,12 +28,12 @@ limit None = 18446744073709551615
 limit (Some n) = n
 
 -- What the slots of `serve` have in common, which are numbered from 0 on, and what is done with them: their frames come and go by a link.
-abbrev pub serve_plan : Serves → Rack × Plan
+abbrev pub serve_plan : Serves → ExportOptions × Plan
 serve_plan serve = (record { first = record { major = serve.shelf; minor = 0 }; ports = serve.ports; mtu = serve.mtu; cache = serve.cache; durable = serve.durable }, plan.Serve (limit serve.frames) (limit serve.idle))
 
 -- What the slot of `mirror` has: its frames come and go as streams, and its store holds nothing back.
-abbrev pub mirror_rack : Mirrors → Rack
-mirror_rack mirror = record { first = mirror.id; ports = record { items = mirror.port ∷ [] }; mtu = mirror.mtu; cache = 0; durable = false }
+abbrev pub mirror_options : Mirrors → ExportOptions
+mirror_options mirror = record { first = mirror.id; ports = record { items = mirror.port ∷ [] }; mtu = mirror.mtu; cache = 0; durable = false }
 
 -- it exports files as slots, a pair of disks each: a file and its keep
 abbrev pub exports : Option Command → Bool
@@ -82,5 +82,5 @@ reads_input (Some (Put asked)) = true
 reads_input command = false
 
 -- the target with this minor, over a disk of so many sectors
-abbrev pub target_of : Rack → ℕ → ℕ → Station
-target_of rack = named rack.first.major rack.ports.items rack.mtu
+abbrev pub target_of : ExportOptions → ℕ → ℕ → Station
+target_of options = named options.first.major options.ports.items options.mtu

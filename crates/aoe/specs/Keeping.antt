@@ -8,8 +8,8 @@ use Rattle.aoe_keep.specs.declared.refusal.MountRefusal.TheVariants as refusal
 use Rattle.aoe_upkeep.specs.Upkeep.{Changes, Shows, marking, upgrading}
 use Rattle.aoe_upkeep.specs.declared.stop.UpkeepStop.{UpkeepStop}
 use Rattle.aoe_upkeep.specs.declared.stop.UpkeepStop.TheVariants as stop
-use Rattle.aoe_words.specs.declared.command.KeepAction.{KeepAction}
-use Rattle.aoe_words.specs.declared.command.KeepAction.TheVariants as action
+use Rattle.aoe_args.specs.declared.command.KeepAction.{KeepAction}
+use Rattle.aoe_args.specs.declared.command.KeepAction.TheVariants as action
 use Rattle.aoe.specs.declared.status.Status.{Status}
 use Rattle.aoe.specs.declared.status.Status.TheVariants as status
 

@@ -10,7 +10,7 @@ use Rattle.aoe_live.specs.declared.refusal.LiveRefusal.TheVariants as refusal
 use Rattle.aoe_script.specs.Lines.{refusal as text_refusal, script_of}
 use Rattle.aoe_script.specs.Print.{script_text}
 use Rattle.aoe_script.specs.declared.event.Event.{Event}
-use Rattle.aoe_words.specs.declared.command.Live.{Live}
+use Rattle.aoe_args.specs.declared.command.Live.{Live}
 use Rattle.aoe_base.specs.Faults.{Blamed}
 use Rattle.aoe.specs.declared.status.Status.{Status}
 use Rattle.aoe.specs.declared.status.Status.TheVariants as status

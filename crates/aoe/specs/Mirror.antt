@@ -10,8 +10,8 @@ use Rattle.aoe_serve.specs.declared.over_mirror.MirrorEnd.{MirrorEnd}
 use Rattle.aoe_serve.specs.declared.over_mirror.MirrorStop.{MirrorStop}
 use Rattle.aoe_serve.specs.declared.over_stream.Format.TheVariants as format
 use Rattle.aoe_serve.specs.declared.plan.Plan.TheVariants as plan
-use Rattle.aoe_words.specs.declared.command.Mirror.{Mirror}
-use Rattle.aoe.specs.Commands.{mirror_rack, target_of}
+use Rattle.aoe_args.specs.declared.command.Mirror.{Mirror}
+use Rattle.aoe.specs.Commands.{mirror_options, target_of}
 use Rattle.aoe.specs.Ending.{mirrored_as}
 use Rattle.aoe.specs.declared.status.Status.{Status}
 use Rattle.aoe.specs.declared.status.Status.TheVariants as status
@@ -57,7 +57,7 @@ pub record RunsMirror {D S K L : Type 0} (state : D → DiskState) (asked : Mirr
   pub are : disks' ≡ four_of back
   pub answer : Result MirrorEnd MirrorStop
   pub ends : s ≡ mirrored_as answer
-  pub ran : IfOk answer (λ e. IsMirrored state (target_of (mirror_rack asked) asked.id.minor) t (plan.Answer format.Replies) e a b given back)
+  pub ran : IfOk answer (λ e. IsMirrored state (target_of (mirror_options asked) asked.id.minor) t (plan.Answer format.Replies) e a b given back)
   pub stopped : IfErr answer (λ why. Stops state why given back × (b.source ≡ a.source) × (b.sink ≡ a.sink) × (b.links ≡ a.links))
   -- exactly when sides and a mark disk are refused
   pub unequal : (first second : ℕ)

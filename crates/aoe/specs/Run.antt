@@ -9,19 +9,19 @@ use Rattle.aoe_serve.specs.Backing.{held_back}
 use Rattle.aoe_serve.specs.Exporting.{AtFirst, IsExported, Outside, Tells}
 use Rattle.aoe_serve.specs.Files.{GivesBack}
 use Rattle.aoe_serve.specs.declared.plan.Exported.{Exported}
-use Rattle.aoe_serve.specs.declared.over_files.Rack.{Rack}
+use Rattle.aoe_serve.specs.declared.over_files.ExportOptions.{ExportOptions}
 use Rattle.aoe_serve.specs.declared.plan.Plan.{Plan}
 use Rattle.aoe_world.specs.Replay.{HasRun, LeavesSink, Replayed, Sums}
 use Rattle.aoe_script.specs.Lines.{ScriptLines}
 use Rattle.aoe_soak.specs.Soak.{soaked}
 use Rattle.aoe_world.specs.declared.end.ReplayEnd.{ReplayEnd}
-use Rattle.aoe_words.specs.declared.command.Command.{Command}
-use Rattle.aoe_words.specs.declared.command.Command.TheVariants as command
-use Rattle.aoe_words.specs.declared.command.Get.{Get}
-use Rattle.aoe_words.specs.declared.command.LongGet.{LongGet}
-use Rattle.aoe_words.specs.declared.command.Put.{Put}
-use Rattle.aoe_words.specs.declared.command.Soak.{Soak}
-use Rattle.aoe_words.specs.declared.command.Tool.{Tool}
+use Rattle.aoe_args.specs.declared.command.Command.{Command}
+use Rattle.aoe_args.specs.declared.command.Command.TheVariants as command
+use Rattle.aoe_args.specs.declared.command.Get.{Get}
+use Rattle.aoe_args.specs.declared.command.LongGet.{LongGet}
+use Rattle.aoe_args.specs.declared.command.Put.{Put}
+use Rattle.aoe_args.specs.declared.command.Soak.{Soak}
+use Rattle.aoe_args.specs.declared.command.Tool.{Tool}
 use Rattle.aoe_tools.specs.Runs.{Told}
 use Rattle.aoe.specs.Auditing.{RunsAudit}
 use Rattle.aoe.specs.Commands.{answer_plan, serve_plan, target_of}
@@ -35,9 +35,9 @@ use Rattle.aoe.specs.declared.status.Status.{Status}
 use Rattle.aoe.specs.declared.status.Status.TheVariants as status
 
 -- A run over files and their keeps, which were all mounted: it ended so, and the status says how.
-pub record RanFiles {D S K L : Type 0} (state : D → DiskState) (rack : Rack) (p : Plan) (t : Tells S K L) (s : Status) (a b : Outside S K L) (disks disks' : List (Option D)) : Type 0 where
+pub record RanFiles {D S K L : Type 0} (state : D → DiskState) (options : ExportOptions) (p : Plan) (t : Tells S K L) (s : Status) (a b : Outside S K L) (disks disks' : List (Option D)) : Type 0 where
   pub exported : Exported
-  pub run : IsExported state (held_back rack.durable rack.cache) (target_of rack) rack.first.minor t p exported a b disks disks'
+  pub run : IsExported state (held_back options.durable options.cache) (target_of options) options.first.minor t p exported a b disks disks'
   pub ends : s ≡ status_of exported
 
 -- A run of the script that a source gave to its end, with its text on the sink: it ended so, and the status says how. But for a whole run

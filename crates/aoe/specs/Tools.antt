@@ -14,18 +14,18 @@ use Rattle.aoe_tools.specs.declared.end.ToolRefusal.{ToolRefusal}
 use Rattle.aoe_tools.specs.declared.end.ToolRefusal.TheVariants as refusal
 use Rattle.aoe_tools.specs.declared.found.Seen.{Seen}
 use Rattle.aoe_tools.specs.declared.question.Ask.{Ask}
-use Rattle.aoe_words.specs.declared.command.Asking.{Asking}
-use Rattle.aoe_words.specs.declared.command.Cfg.{Cfg}
-use Rattle.aoe_words.specs.declared.command.Discover.{Discover}
-use Rattle.aoe_words.specs.declared.command.Flush.{Flush}
-use Rattle.aoe_words.specs.declared.command.Get.{Get}
-use Rattle.aoe_words.specs.declared.command.LongGet.{LongGet}
-use Rattle.aoe_words.specs.declared.command.Mask.{Mask}
-use Rattle.aoe_words.specs.declared.command.Put.{Put}
-use Rattle.aoe_words.specs.declared.command.Reserve.{Reserve}
-use Rattle.aoe_words.specs.declared.command.Stat.{Stat}
-use Rattle.aoe_words.specs.declared.command.Tool.{Tool}
-use Rattle.aoe_words.specs.declared.command.Tool.TheVariants as tool
+use Rattle.aoe_args.specs.declared.command.Asking.{Asking}
+use Rattle.aoe_args.specs.declared.command.Cfg.{Cfg}
+use Rattle.aoe_args.specs.declared.command.Discover.{Discover}
+use Rattle.aoe_args.specs.declared.command.Flush.{Flush}
+use Rattle.aoe_args.specs.declared.command.Get.{Get}
+use Rattle.aoe_args.specs.declared.command.LongGet.{LongGet}
+use Rattle.aoe_args.specs.declared.command.Mask.{Mask}
+use Rattle.aoe_args.specs.declared.command.Put.{Put}
+use Rattle.aoe_args.specs.declared.command.Reserve.{Reserve}
+use Rattle.aoe_args.specs.declared.command.Stat.{Stat}
+use Rattle.aoe_args.specs.declared.command.Tool.{Tool}
+use Rattle.aoe_args.specs.declared.command.Tool.TheVariants as tool
 use Rattle.aoe.specs.declared.status.Status.{Status}
 use Rattle.aoe.specs.declared.status.Status.TheVariants as status
 use Rattle.aoe.specs.declared.status.What.{What}

@@ -1,7 +1,7 @@
 //! The command that judges a capture of a target's wire by the lists of its keep.
 ghost use Rattle.std.specs.Prelude.{◌≡◌, ◌≢◌, ℕ, All, Err, IsSome, length};
 ghost use Rattle.aoe_base.specs.Faults.{Blamed};
-ghost use Rattle.aoe_words.specs.Words.{CanAudit};
+ghost use Rattle.aoe_args.specs.Words.{CanAudit};
 ghost use Rattle.aoe.specs.Auditing.{JudgesCapture, RunsAudit, audited_as};
 ghost use Rattle.aoe.specs.Ending.{refused_slot};
 
@@ -34,7 +34,7 @@ fn audited_as(ended: Result<(), AuditStop>) -> Status
 /// Judges the capture that the source gives by the lists of the keep on a disk, which is given back.
 fn judge<S: Source, K: Sink, D: Disk>(
     alloc: Global,
-    asked: &aoe_words::Audit,
+    asked: &aoe_args::Audit,
     source: &mut S,
     sink: &mut K,
     disk: D,
@@ -69,7 +69,7 @@ fn judge<S: Source, K: Sink, D: Disk>(
 /// Judges the capture that the source gives by the lists of the keep on the only disk.
 pub(crate) fn run_audit<S: Source, K: Sink, D: Disk + Drop>(
     alloc: Global,
-    asked: &aoe_words::Audit,
+    asked: &aoe_args::Audit,
     source: &mut S,
     sink: &mut K,
     disks: &mut [Option<D>],

@@ -1,15 +1,15 @@
 //! A run over two links: its script on the sink.
 ghost use Rattle.std.specs.Prelude.{◌≡◌, ◌≢◌, true};
-ghost use Rattle.aoe_words.specs.Words.{CanLive};
+ghost use Rattle.aoe_args.specs.Words.{CanLive};
 ghost use Rattle.aoe_base.specs.Faults.{Blamed};
 ghost use Rattle.aoe.specs.Live.{AreBlamed, RunsLive, ends, full, is_live_status, live_status};
 
 use crate::status::{Status, What};
+use aoe_args::Live;
 use aoe_base::Failed;
 use aoe_io::{Clock, Link, Sink, give_all};
 use aoe_live::{LiveRefusal, live};
 use aoe_net::MAX_FRAMES;
-use aoe_words::Live;
 use std::alloc::Global;
 
 /// The limit of a network with so many frames that has no room.

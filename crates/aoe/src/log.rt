@@ -2,11 +2,11 @@
 use crate::files::FileDisk;
 use crate::until::Until;
 use crate::wire::Wire;
+use aoe_args::{PortWords, Serve};
 use aoe_base::put_macs;
 use aoe_disk::Disk;
 use aoe_keep::Keep;
 use aoe_wire::WireLink;
-use aoe_words::{PortWords, Serve};
 use std::alloc::AllocError;
 use std::io::Write;
 use std::{env, io};

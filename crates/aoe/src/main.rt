@@ -1,6 +1,6 @@
 //! The program: its commands, from their arguments to their status.
 //!
-//! In order: [`files_of`], [`ports_of`] and [`stop_of`] of `aoe_words` say what to open and what to look
+//! In order: [`files_of`], [`ports_of`] and [`stop_of`] of `aoe_args` say what to open and what to look
 //! for; files are opened and locked, and then sockets and tap files; [`aoe`] runs the command over them,
 //! the standard streams and a clock; the text of its [`Status`] goes to standard error.
 //!
@@ -12,7 +12,7 @@
 
 ghost use Rattle.std.specs.Prelude.{◌≡◌, ◌==◌, All, IfOk, IsSome, length, map, string_bytes};
 ghost use Rattle.std.specs.List.{slice_split};
-ghost use Rattle.aoe_words.specs.Words.{file_names, port_words};
+ghost use Rattle.aoe_args.specs.Words.{file_names, port_words};
 
 mod arguments;
 mod audit;
@@ -33,13 +33,13 @@ mod until;
 mod upkeep;
 mod wire;
 
+use aoe_args::{
+    Command, PortWords, Wrong, files_of, is_told, ports_of, read_words, slip_of, stop_of,
+};
 use aoe_base::{Blob, NoMemory};
 use aoe_tap::{OpenRefusal as TapRefusal, TapMedium};
 use aoe_udp::{OpenRefusal, UdpMedium};
 use aoe_wire::WireLink;
-use aoe_words::{
-    Command, PortWords, Wrong, files_of, is_told, ports_of, read_words, slip_of, stop_of,
-};
 use arguments::words;
 use clock::SystemClock;
 use files::{FileDisk, FileRefusal, KeepDoubt};

@@ -2,15 +2,15 @@
 ghost use Rattle.std.specs.Prelude.{◌≡◌, [], ◌∷◌, All, IsSome, Some, length, true};
 ghost use Rattle.aoe_base.specs.Faults.{Blamed};
 ghost use Rattle.aoe_serve.specs.Exporting.{AtFirst};
-ghost use Rattle.aoe_words.specs.Words.{CanMirror};
+ghost use Rattle.aoe_args.specs.Words.{CanMirror};
 ghost use Rattle.aoe.specs.Mirror.{RunsMirror, four_of, is_mirror_status};
 
-use crate::plan::{mirror_rack, mirrored_as};
+use crate::plan::{mirror_options, mirrored_as};
 use crate::status::Status;
+use aoe_args::Mirror;
 use aoe_disk::Disk;
 use aoe_io::{Link, Sink, Source};
 use aoe_serve::{Format, MirrorDisks, Plan, export_mirror};
-use aoe_words::Mirror;
 use std::alloc::Global;
 
 /// Takes two disks.
@@ -86,10 +86,10 @@ pub(crate) fn run_mirror<S: Source, K: Sink, D: Disk + Drop, L: Link>(
         (S.faults source.new) }
     ensures sink { Blamed (result ≡ Status.SinkFault) (K.faults sink.old) (K.faults sink.new) }
 {
-    let rack = mirror_rack(asked);
+    let options = mirror_options(asked);
     let given = take_four(disks);
     let plan = Plan::Answer(Format::Replies);
-    let (answer, back) = export_mirror(alloc, rack, plan, source, sink, given, links);
+    let (answer, back) = export_mirror(alloc, options, plan, source, sink, given, links);
     put_four(disks, back);
     mirrored_as(answer)
 }

@@ -1,16 +1,18 @@
 //! What each command exports, and the status of a run that ended.
 ghost use Rattle.std.specs.Prelude.{◌≡◌, ◌≤◌, ◌*◌, [], ◌∷◌, IfSome};
-ghost use Rattle.aoe_words.specs.Words.{CanAnswer, CanMirror, CanServe};
+ghost use Rattle.aoe_args.specs.Words.{CanAnswer, CanMirror, CanServe};
 ghost use Rattle.aoe_serve.specs.Exporting.{CanExport};
-ghost use Rattle.aoe.specs.Commands.{answer_plan, format_of, limit, mirror_rack, serve_plan};
+ghost use Rattle.aoe.specs.Commands.{answer_plan, format_of, limit, mirror_options, serve_plan};
 ghost use Rattle.aoe.specs.Ending.{after_syncs, ended_by, excess_of, kept_out, mirrored_as, refused_as, replayed_as, status_of, stopped_by};
 
 use crate::status::{Status, What};
+use aoe_args::{Answer, Mirror, Serve};
 use aoe_base::{Mac, Ports, TargetId};
 use aoe_keep::MountRefusal;
 use aoe_mirror::MirrorRefusal;
-use aoe_serve::{AnswerEnd, Exported, Format, MirrorEnd, MirrorStop, Plan, Rack, RunEnd, ServeEnd};
-use aoe_words::{Answer, Mirror, Serve};
+use aoe_serve::{
+    AnswerEnd, ExportOptions, Exported, Format, MirrorEnd, MirrorStop, Plan, RunEnd, ServeEnd,
+};
 use aoe_world::{ReplayEnd, ReplayLimit};
 
 /// The number of the disk that says which side of a mirror leads, behind the two sides.
@@ -40,19 +42,19 @@ fn format_of(captures: bool) -> Format
 }
 
 /// The slot of `answer` or `capture`, and what is done with it.
-pub(crate) fn answer_plan(answer: Answer) -> (Rack, Plan)
+pub(crate) fn answer_plan(answer: Answer) -> (ExportOptions, Plan)
     requires { CanAnswer answer }
     ensures plan { result ≡ answer_plan answer }
     ensures possible { CanExport result.0 result.1 2 0 }
 {
-    let rack = Rack {
+    let options = ExportOptions {
         first: answer.id,
         ports: one_port(answer.port),
         mtu: answer.mtu,
         cache: answer.cache,
         durable: answer.durable,
     };
-    (rack, Plan::Answer(format_of(answer.captures)))
+    (options, Plan::Answer(format_of(answer.captures)))
 }
 
 /// The number of frames or turns that ends a run; where none does, more than ever come.
@@ -63,12 +65,12 @@ fn limit(number: Option<u32>) -> u64
 }
 
 /// The slots of `serve`, and what is done with them.
-pub(crate) fn serve_plan(serve: Serve) -> (Rack, Plan)
+pub(crate) fn serve_plan(serve: Serve) -> (ExportOptions, Plan)
     requires { CanServe serve }
     ensures plan { result ≡ serve_plan serve }
     ensures possible { CanExport result.0 result.1 (2 * serve.slots) 1 }
 {
-    let rack = Rack {
+    let options = ExportOptions {
         first: TargetId {
             major: serve.shelf,
             minor: 0,
@@ -82,16 +84,16 @@ pub(crate) fn serve_plan(serve: Serve) -> (Rack, Plan)
         frames: limit(serve.frames),
         idle: limit(serve.idle),
     };
-    (rack, plan)
+    (options, plan)
 }
 
 /// The slot of `mirror`.
-pub(crate) fn mirror_rack(mirror: Mirror) -> Rack
+pub(crate) fn mirror_options(mirror: Mirror) -> ExportOptions
     requires { CanMirror mirror }
-    ensures rack { result ≡ mirror_rack mirror }
+    ensures options { result ≡ mirror_options mirror }
     ensures possible { CanExport result (Plan.Answer Format.Replies) 2 0 }
 {
-    Rack {
+    ExportOptions {
         first: mirror.id,
         ports: one_port(mirror.port),
         mtu: mirror.mtu,

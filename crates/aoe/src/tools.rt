@@ -2,12 +2,13 @@
 ghost use Rattle.std.specs.Prelude.{◌≡◌, ◌≢◌, ◌≤◌, ℕ, Err, true, length, option_copied};
 ghost use Rattle.aoe_tools.specs.One.{edits_by};
 ghost use Rattle.aoe_tools.specs.Runs.{told};
-ghost use Rattle.aoe_words.specs.Tools.{CanGet};
+ghost use Rattle.aoe_args.specs.Tools.{CanGet};
 ghost use Rattle.aoe_base.specs.Faults.{Blamed};
 ghost use Rattle.aoe_lists.specs.Settings.{max_directives};
 ghost use Rattle.aoe.specs.Tools.{CanAsk, CopiesAll, CopiesAllIn, CopiesIn, CopiesInAgain, CopiesOut, RunsTool, Says, SaysConfig, SaysFlush, SaysFound, SaysMasks, SaysReserves, SaysStat, ask_of, copy_status, dirs_of, is_copy_status, is_tool_status, said, tool_status};
 
 use crate::status::{Status, What};
+use aoe_args::{Asking, Cfg, Discover, Flush, Get, LongGet, Mask, Put, Reserve, Stat, Tool};
 use aoe_base::{Blob, Failed, NoMemory};
 use aoe_copy::Watch;
 use aoe_io::{Clock, Link, Sink, Source, give_all};
@@ -16,7 +17,6 @@ use aoe_tools::{
     Ask, CopyRefusal, ToolRefusal, cfg, discover, flush, get, mask, print_config, print_found,
     print_masks, print_reserves, print_stat, put, reserve, stat,
 };
-use aoe_words::{Asking, Cfg, Discover, Flush, Get, LongGet, Mask, Put, Reserve, Stat, Tool};
 use std::alloc::Global;
 
 /// The most sectors of a command of a long `get`: as many as a frame has room for.

@@ -8,18 +8,18 @@ ghost use Rattle.aoe_world.specs.Replay.{IsFaultless};
 ghost use Rattle.aoe_script.specs.Lines.{refusal, script_of};
 ghost use Rattle.aoe_soak.specs.Soak.{soaked};
 ghost use Rattle.aoe_tools.specs.Runs.{told};
-ghost use Rattle.aoe_words.specs.Words.{CanSoak, IsInRange, command, file_count, file_names, is_word, link_count, port_words};
-ghost use Rattle.aoe_words.specs.declared.command.Answer.{Answer as Answers};
-ghost use Rattle.aoe_words.specs.declared.command.Audit.{Audit as Audits};
-ghost use Rattle.aoe_words.specs.declared.command.Serve.{Serve as Serves};
-ghost use Rattle.aoe_words.specs.declared.command.Get.{Get as Gets};
-ghost use Rattle.aoe_words.specs.declared.command.LongGet.{LongGet as LongGets};
-ghost use Rattle.aoe_words.specs.declared.command.KeepAction.{KeepAction};
-ghost use Rattle.aoe_words.specs.declared.command.Live.{Live as Lives};
-ghost use Rattle.aoe_words.specs.declared.command.Mirror.{Mirror as Mirrors};
-ghost use Rattle.aoe_words.specs.declared.command.Put.{Put as Puts};
-ghost use Rattle.aoe_words.specs.declared.command.Soak.{Soak as Soaks};
-ghost use Rattle.aoe_words.specs.declared.command.Tool.{Tool};
+ghost use Rattle.aoe_args.specs.Words.{CanSoak, IsInRange, command, file_count, file_names, is_word, link_count, port_words};
+ghost use Rattle.aoe_args.specs.declared.command.Answer.{Answer as Answers};
+ghost use Rattle.aoe_args.specs.declared.command.Audit.{Audit as Audits};
+ghost use Rattle.aoe_args.specs.declared.command.Serve.{Serve as Serves};
+ghost use Rattle.aoe_args.specs.declared.command.Get.{Get as Gets};
+ghost use Rattle.aoe_args.specs.declared.command.LongGet.{LongGet as LongGets};
+ghost use Rattle.aoe_args.specs.declared.command.KeepAction.{KeepAction};
+ghost use Rattle.aoe_args.specs.declared.command.Live.{Live as Lives};
+ghost use Rattle.aoe_args.specs.declared.command.Mirror.{Mirror as Mirrors};
+ghost use Rattle.aoe_args.specs.declared.command.Put.{Put as Puts};
+ghost use Rattle.aoe_args.specs.declared.command.Soak.{Soak as Soaks};
+ghost use Rattle.aoe_args.specs.declared.command.Tool.{Tool};
 ghost use Rattle.aoe_base.specs.Faults.{Blamed, Rose};
 ghost use Rattle.aoe.specs.Auditing.{RunsAudit};
 ghost use Rattle.aoe.specs.Commands.{exports, is_live, is_long_get, is_mirror, is_over_keep, reads_input, uses_clock};
@@ -37,28 +37,28 @@ use crate::status::Status;
 use crate::switch::run_switch;
 use crate::tools::{run_get, run_long_get, run_put, run_tool};
 use crate::upkeep::run_keep;
+use aoe_args::{Command, Soak, read_words};
 use aoe_base::NoMemory;
 use aoe_copy::Watch;
 use aoe_disk::Disk;
 use aoe_io::{Clock, Link, Sink, Source};
-use aoe_serve::{ExportRefusal, Plan, Rack, export};
-use aoe_words::{Command, Soak, read_words};
+use aoe_serve::{ExportOptions, ExportRefusal, Plan, export};
 use aoe_world::{replay, soak};
 use std::alloc::Global;
 
 /// Runs a plan over files and links.
 fn run_files<S: Source, K: Sink, D: Disk + Drop, L: Link>(
     alloc: Global,
-    rack: Rack,
+    options: ExportOptions,
     plan: Plan,
     source: &mut S,
     sink: &mut K,
     disks: &mut [Option<D>],
     links: &mut [L],
 ) -> Status
-    requires possible { CanExport rack plan (length disks.old) (length links.old) }
+    requires possible { CanExport options plan (length disks.old) (length links.old) }
     requires there { All IsSome disks.old }
-    ensures run { refused_slot result ≡ None → result ≢ Status.NoMemory → RanFiles D.state rack plan
+    ensures run { refused_slot result ≡ None → result ≢ Status.NoMemory → RanFiles D.state options plan
         record { left = S.left; held = K.held; turns = L.turns; given = L.given; taken = L.taken } result
         record { source = source.old; sink = sink.old; links = links.old } record { source = source.new; sink = sink.new; links = links.new }
         disks.old disks.new }
@@ -77,7 +77,7 @@ fn run_files<S: Source, K: Sink, D: Disk + Drop, L: Link>(
         (L.faults b)) links.old links.new }
     ensures alone { (link : ℕ) → result ≡ Status.LinkFault link → link ≡ 0 }
 {
-    match export(alloc, rack, plan, source, sink, disks, links) {
+    match export(alloc, options, plan, source, sink, disks, links) {
         Ok(exported) => status_of(exported),
         Err(ExportRefusal::NoMemory) => Status::NoMemory,
         Err(ExportRefusal::Keep { slot, refusal }) => refused_as(slot, refusal),
@@ -179,12 +179,12 @@ fn run_command<S: Source, K: Sink, D: Disk + Drop, L: Link, C: Clock, W: Watch>(
 {
     match command {
         Command::Answer(answer) => {
-            let (rack, plan) = answer_plan(answer);
-            run_files(alloc, rack, plan, source, sink, disks, links)
+            let (options, plan) = answer_plan(answer);
+            run_files(alloc, options, plan, source, sink, disks, links)
         }
         Command::Serve(serve) => {
-            let (rack, plan) = serve_plan(serve);
-            run_files(alloc, rack, plan, source, sink, disks, links)
+            let (options, plan) = serve_plan(serve);
+            run_files(alloc, options, plan, source, sink, disks, links)
         }
         Command::Mirror(asked) => run_mirror(alloc, asked, source, sink, disks, links),
         Command::Replay => run_script(alloc, source, sink),

@@ -6,11 +6,11 @@ ghost use Rattle.aoe.specs.Ending.{refused_slot};
 ghost use Rattle.aoe.specs.Keeping.{Acts, RunsKeep, refused_alone, upkept_as};
 
 use crate::status::Status;
+use aoe_args::KeepAction;
 use aoe_disk::Disk;
 use aoe_io::Sink;
 use aoe_keep::MountRefusal;
 use aoe_upkeep::{UpkeepStop, mark, show, upgrade};
-use aoe_words::KeepAction;
 use std::alloc::Global;
 
 /// The number of the keep, which is the only disk.

@@ -2,14 +2,14 @@ mod accepted;
 mod refused;
 mod slips;
 
-use aoe_base::{Blob, Mac, NoMemory, Ports, TargetId};
-use aoe_lists::Dir;
-use aoe_vlan::PortKind;
-use aoe_words::{
+use aoe_args::{
     Answer, Asking, Audit, Cfg, Command, Discover, Flush, Get, Live, LongGet, Mask, PortKinds,
     PortWords, Put, Reserve, Serve, Soak, Stat, Switch, Tool, files_of, is_told, ports_of,
     read_words, slip_of, stop_of,
 };
+use aoe_base::{Blob, Mac, NoMemory, Ports, TargetId};
+use aoe_lists::Dir;
+use aoe_vlan::PortKind;
 use arrayvec::ArrayVec;
 use std::alloc::{AllocError, Global};
 use std::process::Abort;

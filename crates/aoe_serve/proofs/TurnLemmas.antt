@@ -8,7 +8,7 @@ use Rattle.std.specs.Option.{option_map}
 use Rattle.std.specs.Prelude.{slice_get}
 use Rattle.aoe_disk.specs.Calls.{IsRun}
 use Rattle.aoe_disk.specs.State.{DiskState}
-use Rattle.aoe_shelf.specs.Shelf.{Rack}
+use Rattle.aoe_shelf.specs.Shelf.{ShelfTable}
 use Rattle.aoe_shelf.specs.Slot.{ChangesAt}
 use Rattle.aoe_target.specs.History.{is_cut, keep_failed, store_failed}
 use Rattle.aoe_target.specs.Mounted.{Mounted}
@@ -108,9 +108,9 @@ module _ {S D : Type 0} (lasts : Bool) (store : S → DiskState) (keep : D → D
   }
 
 -- the targets of a shelf change, and nothing else of it
-pub rest_then : {S D : Type 0} (a b c : Rack S D) → b ≡ record a { targets = b.targets } → c ≡ record b { targets = c.targets }
+pub rest_then : {S D : Type 0} (a b c : ShelfTable S D) → b ≡ record a { targets = b.targets } → c ≡ record b { targets = c.targets }
     → c ≡ record a { targets = c.targets }
-rest_then a b c one two = two ∙ ap (λ (x : Rack _ _). record x { targets = c.targets }) one
+rest_then a b c one two = two ∙ ap (λ (x : ShelfTable _ _). record x { targets = c.targets }) one
 
 pub count_slots : {S D : Type 0} (lasts : Bool) (store : S → DiskState) (keep : D → DiskState) (targets : List (Mounted S D))
     → length (slots_of lasts store keep targets) ≡ length targets

@@ -15,7 +15,7 @@ use Rattle.aoe_serve.specs.declared.over_stream.AnswerEnd.{AnswerEnd}
 use Rattle.aoe_serve.specs.declared.over_stream.Format.{Format}
 use Rattle.aoe_serve.specs.Ending.{EndsAfter}
 use Rattle.aoe_serve.specs.Files.{OverFiles}
-use Rattle.aoe_serve.specs.declared.over_files.Rack.{Rack}
+use Rattle.aoe_serve.specs.declared.over_files.ExportOptions.{ExportOptions}
 use Rattle.aoe_serve.specs.declared.plan.ExportRefusal.{ExportRefusal}
 use Rattle.aoe_serve.specs.declared.plan.Exported.{Exported}
 use Rattle.aoe_serve.specs.declared.plan.Plan.{Plan}
@@ -43,14 +43,14 @@ is_served (plan.Answer format) = false
 is_served (plan.Serve frames idle) = true
 
 -- so many files can be exported so, with so many links
-pub record CanExport (rack : Rack) (p : Plan) (files links : ℕ) : Type 0 where
-  pub major : rack.first.major < 65535
-  pub ports : 1 ≤ length rack.ports.items
-  pub mtu : (1500 ≤ rack.mtu) × (rack.mtu ≤ 9000)
-  pub cache : rack.cache ≤ 65536
+pub record CanExport (options : ExportOptions) (p : Plan) (files links : ℕ) : Type 0 where
+  pub major : options.first.major < 65535
+  pub ports : 1 ≤ length options.ports.items
+  pub mtu : (1500 ≤ options.mtu) × (options.mtu ≤ 9000)
+  pub cache : options.cache ≤ 65536
   pub pairs : files % 2 ≡ 0
   pub room : files ≤ 32
-  pub minors : rack.first.minor + files / 2 ≤ 255
+  pub minors : options.first.minor + files / 2 ≤ 255
   pub link : is_served p ≡ true → 0 < links
 
 -- files were exported, and their frames ended so

@@ -2,14 +2,14 @@
 use Rattle.std.specs.Prelude.{ℕ, ◌≡◌, List, [], ◌∷◌, ◌++◌, take}
 use Rattle.aoe_io.specs.declared.links.Got.{Got}
 use Rattle.aoe_io.specs.declared.links.Got.TheVariants as got
-use Rattle.aoe_shelf.specs.Shelf.{Rack}
+use Rattle.aoe_shelf.specs.Shelf.{ShelfTable}
 use Rattle.aoe_target.specs.Law.{Fate}
 use Rattle.aoe_serve.specs.Arrivals.{MeetAll, replies_of}
 use Rattle.aoe_serve.specs.Slots.{Slot}
 
 -- the shelf, the replies that wait, the first of them to be given first, and how many turns there were
 pub record Linked (S D : Type 0) : Type 0 where
-  pub shelf : Rack S D
+  pub shelf : ShelfTable S D
   pub waiting : List (List ℕ)
   pub turns : ℕ
 

@@ -6,7 +6,7 @@
 //!   their replies in place of the stream of the replies.
 //! - [`export`] makes a shelf of files for the time of one such run: it takes the memory of all
 //!   stores, mounts all keeps, runs the [`Plan`], syncs every store, and gives every disk back. A
-//!   store writes through, or holds back as many sectors as the [`Rack`] says (`aoe_cache`).
+//!   store writes through, or holds back as many sectors as the [`ExportOptions`] says (`aoe_cache`).
 //! - [`run_slots`] is the middle of `export`: it runs a plan over the slots of a shelf that is there,
 //!   whatever their stores are, and syncs each store.
 //! - [`export_mirror`] is as `export` for one slot over two files, a mark disk and a keep
@@ -31,7 +31,7 @@ mod rounds;
 mod run;
 mod shelf_link;
 
-pub use over_files::{Rack, export};
+pub use over_files::{ExportOptions, export};
 pub use over_link::{ServeEnd, serve};
 pub use over_mirror::{MirrorDisks, MirrorEnd, MirrorStop, export_mirror};
 pub use over_stream::{AnswerEnd, Format, answer, capture};

@@ -18,7 +18,7 @@ use std::alloc::Global;
 use std::marker::Brand;
 
 /// What the slots have in common.
-pub struct Rack {
+pub struct ExportOptions {
     /// The name of the first slot. Those of the others have the same major, and count up its minor.
     pub first: TargetId,
     pub ports: Ports,
@@ -46,16 +46,16 @@ pub struct Rack {
 /// holds back at most. A host that flushes what it must not lose is as safe as without.
 pub fn export<D: Disk + Drop, S: Source, K: Sink, L: Link>(
     alloc: Global,
-    rack: Rack,
+    options: ExportOptions,
     plan: Plan,
     source: &mut S,
     sink: &mut K,
     disks: &mut [Option<D>],
     links: &mut [L],
 ) -> Result<Exported, ExportRefusal>
-    requires possible { CanExport rack plan (length disks.old) (length links.old) }
+    requires possible { CanExport options plan (length disks.old) (length links.old) }
     requires there { All IsSome disks.old }
-    ensures ran { IfOk result (λ e. IsExported D.state (held_back rack.durable rack.cache) (named rack.first.major rack.ports.items rack.mtu) rack.first.minor
+    ensures ran { IfOk result (λ e. IsExported D.state (held_back options.durable options.cache) (named options.first.major options.ports.items options.mtu) options.first.minor
         record { left = S.left; held = K.held; turns = L.turns; given = L.given; taken = L.taken } plan e
         record { source = source.old; sink = sink.old; links = links.old } record { source = source.new; sink = sink.new; links = links.new }
         disks.old disks.new) }
@@ -80,23 +80,23 @@ pub fn export<D: Disk + Drop, S: Source, K: Sink, L: Link>(
     ensures link_blame { AtFirst (λ a b. Blamed (EndsAs result (RunEnd.Served ServeEnd.LinkFault))
         (L.faults a) (L.faults b)) links.old links.new }
 {
-    export_at::<Brand, D, S, K, L>(alloc, rack, plan, source, sink, disks, links)
+    export_at::<Brand, D, S, K, L>(alloc, options, plan, source, sink, disks, links)
 }
 
 /// The same, where `M` says how many sectors a store holds back at most.
 fn export_at<M: Most, D: Disk + Drop, S: Source, K: Sink, L: Link>(
     alloc: Global,
-    rack: Rack,
+    options: ExportOptions,
     plan: Plan,
     source: &mut S,
     sink: &mut K,
     disks: &mut [Option<D>],
     links: &mut [L],
 ) -> Result<Exported, ExportRefusal>
-    requires most { held_back rack.durable rack.cache ≡ M.most }
-    requires possible { CanExport rack plan (length disks.old) (length links.old) }
+    requires most { held_back options.durable options.cache ≡ M.most }
+    requires possible { CanExport options plan (length disks.old) (length links.old) }
     requires there { All IsSome disks.old }
-    ensures ran { IfOk result (λ e. IsExported D.state (held_back rack.durable rack.cache) (named rack.first.major rack.ports.items rack.mtu) rack.first.minor
+    ensures ran { IfOk result (λ e. IsExported D.state (held_back options.durable options.cache) (named options.first.major options.ports.items options.mtu) options.first.minor
         record { left = S.left; held = K.held; turns = L.turns; given = L.given; taken = L.taken } plan e
         record { source = source.old; sink = sink.old; links = links.old } record { source = source.new; sink = sink.new; links = links.new }
         disks.old disks.new) }
@@ -117,13 +117,13 @@ fn export_at<M: Most, D: Disk + Drop, S: Source, K: Sink, L: Link>(
     ensures link_blame { AtFirst (λ a b. Blamed (EndsAs result (RunEnd.Served ServeEnd.LinkFault))
         (L.faults a) (L.faults b)) links.old links.new }
 {
-    let Rack {
+    let ExportOptions {
         first,
         ports,
         mtu,
         cache,
         durable,
-    } = rack;
+    } = options;
     let mut shelf: Shelf<Backing<D, M>, D> = match Shelf::new(alloc, first.major, ports, mtu) {
         Ok(shelf) => shelf,
         Err(NoMemory) => return Err(ExportRefusal::NoMemory),

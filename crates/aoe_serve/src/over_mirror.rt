@@ -8,7 +8,7 @@ ghost use Rattle.aoe_serve.specs.Files.{named};
 ghost use Rattle.aoe_serve.specs.Mirroring.{CopiesAll, EndedAs, EndsMirror, IsBegun, IsMirrored, IsSince, LeavesAlone, RanMirror, Stops, faults_of, has_ended};
 
 use crate::run::run;
-use crate::{AnswerEnd, Plan, Rack, RunEnd, ServeEnd};
+use crate::{AnswerEnd, ExportOptions, Plan, RunEnd, ServeEnd};
 use aoe_base::{Failed, NoMemory};
 use aoe_disk::Disk;
 use aoe_io::{Link, Sink, Source};
@@ -300,21 +300,21 @@ fn run_over<D: Disk + Drop, G: Given, S: Source, K: Sink, L: Link>(
 /// is run over the slot, and the mirror is synced, however the run ended. Where that and the run went
 /// well, what is stale then is copied, too. Each disk is given back, also where nothing was run.
 ///
-/// A mirror holds nothing back and syncs for a flush alone, so `rack.cache` is 0 and `rack.durable`
+/// A mirror holds nothing back and syncs for a flush alone, so `options.cache` is 0 and `options.durable`
 /// isn't set.
 pub fn export_mirror<D: Disk + Drop, S: Source, K: Sink, L: Link>(
     alloc: Global,
-    rack: Rack,
+    options: ExportOptions,
     plan: Plan,
     source: &mut S,
     sink: &mut K,
     disks: MirrorDisks<D>,
     links: &mut [L],
 ) -> (Result<MirrorEnd, MirrorStop>, MirrorDisks<D>)
-    requires possible { CanExport rack plan 2 (length links.old) }
-    requires through { rack.cache ≡ 0 }
-    requires plain { rack.durable ≡ false }
-    ensures ran { IfOk result.0 (λ e. IsMirrored D.state (named rack.first.major rack.ports.items rack.mtu rack.first.minor)
+    requires possible { CanExport options plan 2 (length links.old) }
+    requires through { options.cache ≡ 0 }
+    requires plain { options.durable ≡ false }
+    ensures ran { IfOk result.0 (λ e. IsMirrored D.state (named options.first.major options.ports.items options.mtu options.first.minor)
         record { left = S.left; held = K.held; turns = L.turns; given = L.given; taken = L.taken } plan e
         record { source = source.old; sink = sink.old; links = links.old } record { source = source.new; sink = sink.new; links = links.new }
         disks result.1) }
@@ -332,13 +332,13 @@ pub fn export_mirror<D: Disk + Drop, S: Source, K: Sink, L: Link>(
     ensures link_blame { AtFirst (λ a b. Blamed (EndedAs result.0 (RunEnd.Served ServeEnd.LinkFault))
         (L.faults a) (L.faults b)) links.old links.new }
 {
-    mirror_at::<Brand, D, S, K, L>(alloc, rack, plan, source, sink, disks, links)
+    mirror_at::<Brand, D, S, K, L>(alloc, options, plan, source, sink, disks, links)
 }
 
 /// The same, where `G` says how many faults the disks had.
 fn mirror_at<G: Given, D: Disk + Drop, S: Source, K: Sink, L: Link>(
     alloc: Global,
-    rack: Rack,
+    options: ExportOptions,
     plan: Plan,
     source: &mut S,
     sink: &mut K,
@@ -346,8 +346,8 @@ fn mirror_at<G: Given, D: Disk + Drop, S: Source, K: Sink, L: Link>(
     links: &mut [L],
 ) -> (Result<MirrorEnd, MirrorStop>, MirrorDisks<D>)
     requires faults { G.faults ≡ faults_of D.state disks }
-    requires possible { CanExport rack plan 2 (length links.old) }
-    ensures ran { IfOk result.0 (λ e. IsMirrored D.state (named rack.first.major rack.ports.items rack.mtu rack.first.minor)
+    requires possible { CanExport options plan 2 (length links.old) }
+    ensures ran { IfOk result.0 (λ e. IsMirrored D.state (named options.first.major options.ports.items options.mtu options.first.minor)
         record { left = S.left; held = K.held; turns = L.turns; given = L.given; taken = L.taken } plan e
         record { source = source.old; sink = sink.old; links = links.old } record { source = source.new; sink = sink.new; links = links.new }
         disks result.1) }
@@ -365,13 +365,13 @@ fn mirror_at<G: Given, D: Disk + Drop, S: Source, K: Sink, L: Link>(
     ensures link_blame { AtFirst (λ a b. Blamed (EndedAs result.0 (RunEnd.Served ServeEnd.LinkFault))
         (L.faults a) (L.faults b)) links.old links.new }
 {
-    let Rack {
+    let ExportOptions {
         first,
         ports,
         mtu,
         cache: _,
         durable: _,
-    } = rack;
+    } = options;
     let mut shelf: Shelf<Counted<D, G>, D> = match Shelf::new(alloc, first.major, ports, mtu) {
         Ok(shelf) => shelf,
         Err(NoMemory) => return (Err(MirrorStop::NoMemory), disks),

@@ -7,7 +7,7 @@ use Rattle.aoe_shelf.specs.declared.refusal.ShelfRefusal.{ShelfRefusal}
 use Rattle.aoe_shelf.specs.declared.refusal.ShelfRefusal.TheVariants.{Full, Repeated}
 
 -- its number (AoEr11, "Major"), its ports, how many bytes a frame carries, and its targets in the order of adding
-pub record Rack (S D : Type 0) : Type 0 where
+pub record ShelfTable (S D : Type 0) : Type 0 where
   pub major : ℕ
   pub ports : List Mac
   pub mtu : ℕ

@@ -35,9 +35,9 @@ pub struct Shelf<S: Store, D: Disk> {
 
 impl<S: Store, D: Disk> Model for Shelf<S, D> {
     ghost use Rattle.std.specs.Prelude.{length, vec_capacity};
-    ghost use Rattle.aoe_shelf.specs.Shelf.{Rack, IsShelf};
+    ghost use Rattle.aoe_shelf.specs.Shelf.{ShelfTable, IsShelf};
 
-    ghost Value = { Rack S D };
+    ghost Value = { ShelfTable S D };
 
     ghost view = { λ s. record { major = s.major; ports = s.ports.items; mtu = s.mtu; targets = s.targets.items } };
 

@@ -17,7 +17,7 @@ use Rattle.aoe_history.specs.Commands.{commands_of, devices_of, host_after, subm
 use Rattle.aoe_history.specs.Frames.{clock}
 use Rattle.aoe_history.specs.Lawful.{IsLawful}
 use Rattle.aoe_history.specs.Setup.{device_no, host_called, is_called, HostSetup, Setup}
-use Rattle.aoe_sim_hosts.specs.Host.{is_apart, IsHost, NamedHost}
+use Rattle.aoe_sim_hosts.specs.Host.{is_apart, IsHost, SimHost}
 use Rattle.aoe_sim_hosts.proofs.Called.{named}
 use Rattle.aoe_sim_hosts.proofs.HostAlike.{about, abouts-of, both-about}
 use Rattle.aoe_sim_hosts.proofs.Leaves.{leaves}
@@ -45,7 +45,7 @@ pub about-after : (s : Setup) (host : HostSetup) (h : List Entry) (n : ℕ) → 
 about-after s host h n =
     rw (← slice_get-map (λ (d : Device). d.about) (host_after s host h).devices n, abouts-of host.ports s.life.requests.0 (clock h) 0 (commands_of host h) host.devices)
 
-pub about-kept : (s : Setup) (host : HostSetup) (x : NamedHost) (n : ℕ) → IsHost s host x → about (slice_get x.core.devices n) ≡ slice_get host.devices n
+pub about-kept : (s : Setup) (host : HostSetup) (x : SimHost) (n : ℕ) → IsHost s host x → about (slice_get x.core.devices n) ≡ slice_get host.devices n
 about-kept s host x n is = rw (← slice_get-map (λ (d : Device). d.about) x.core.devices n, is.devices)
 
 -- how many commands wait there for their first send, by the history
@@ -71,7 +71,7 @@ answer-same a b c f ports devices =
     simp same
 
 -- what a frame answers by what the host keeps, and by the history
-pub answer-after : (s : Setup) (host : HostSetup) (h : List Entry) (x : NamedHost) (c : HostCommand) (f : List ℕ) → IsHost s host x
+pub answer-after : (s : Setup) (host : HostSetup) (h : List Entry) (x : SimHost) (c : HostCommand) (f : List ℕ) → IsHost s host x
     → answer_to x.core c f ≡ answer_to (host_after s host h) c f
 answer-after s host h x c f is =
     answer-same x.core (host_after s host h) c f is.ports (about-kept s host x c.device.0 is ∙ sym (about-after s host h c.device.0))

@@ -20,7 +20,7 @@ use Rattle.aoe_history.specs.declared.entry.Entry.{Entry}
 use Rattle.aoe_history.specs.Commands.{commands_of, devices_of, host_after}
 use Rattle.aoe_history.specs.Frames.{clock}
 use Rattle.aoe_history.specs.Setup.{HostSetup, Setup}
-use Rattle.aoe_sim_hosts.specs.Host.{IsHost, NamedHost}
+use Rattle.aoe_sim_hosts.specs.Host.{IsHost, SimHost}
 
 pub record IsAlike (a b : Host) : Type 0 where
   pub ports : a.ports ≡ b.ports
@@ -94,7 +94,7 @@ pub abouts-of : (ports : List Mac) (life now n : ℕ) (cs : List HostCommand) (d
 abouts-of ports life now n cs [] = refl
 abouts-of ports life now n cs (d ∷ ds) = rw (abouts-of ports life now (n + 1) cs ds)
 
-pub alike : (s : Setup) (host : HostSetup) (h : List Entry) (x : NamedHost) → IsHost s host x → x.core.clock ≡ clock h → IsAlike x.core (host_after s host h)
+pub alike : (s : Setup) (host : HostSetup) (h : List Entry) (x : SimHost) → IsHost s host x → x.core.clock ≡ clock h → IsAlike x.core (host_after s host h)
 alike s host h x is time = record {
   ports = is.ports;
   life = is.life;

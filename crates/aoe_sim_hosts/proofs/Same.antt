@@ -4,7 +4,7 @@ use Rattle.aoe_history.specs.declared.entry.Entry.{Entry}
 use Rattle.aoe_history.specs.Commands.{log_of, tickets}
 use Rattle.aoe_history.specs.Frames.{clock}
 use Rattle.aoe_history.specs.Setup.{host_called, HostSetup, Setup}
-use Rattle.aoe_sim_hosts.specs.Host.{IsHost, IsSettled, NamedHost, TellsSame}
+use Rattle.aoe_sim_hosts.specs.Host.{IsHost, IsSettled, SimHost, TellsSame}
 use Rattle.aoe_initiator.specs.Host.{unfinished, Host, IsSame, Matches}
 use Rattle.aoe_initiator.specs.HostLog.{clock as log_clock, Event}
 use Rattle.aoe_initiator.specs.HostLog.Event.{Advances}
@@ -30,7 +30,7 @@ matches-same a b host same m = record {
 }
 
 -- a step keeps what never changes of a host
-pub host-same : (s : Setup) (host : HostSetup) (x y : NamedHost) → y.name ≡ x.name → IsSame x.core y.core → IsHost s host x → IsHost s host y
+pub host-same : (s : Setup) (host : HostSetup) (x y : SimHost) → y.name ≡ x.name → IsSame x.core y.core → IsHost s host x → IsHost s host y
 host-same s host x y name same is = record {
   called = ap (λ n. host_called s n) name ∙ is.called;
   ports = same.ports ∙ is.ports;
@@ -48,7 +48,7 @@ host-same s host x y name same is = record {
 abbrev pub Stays : Host → Host → Type 0
 Stays a b = IsSame a b × (b.clock ≡ a.clock) × (b.last_ticket ≡ a.last_ticket) × (b.waiting ≡ a.waiting)
 
-pub settled-same : (s : Setup) (host : HostSetup) (h n : List Entry) (x y : NamedHost) → y.name ≡ x.name → Stays x.core y.core
+pub settled-same : (s : Setup) (host : HostSetup) (h n : List Entry) (x y : SimHost) → y.name ≡ x.name → Stays x.core y.core
     → tickets host n ≡ tickets host h → clock n ≡ clock h → Matches (log_of host n) y.core → IsSettled s host h x → IsSettled s host n y
 settled-same s host h n x y name same count time matches settled = record {
   is = host-same s host x y name same.0 settled.is;

@@ -34,7 +34,7 @@ use Rattle.aoe_history.specs.Groups.SendsSome.{sends_one}
 use Rattle.aoe_history.specs.HostLaw.{IsSent}
 use Rattle.aoe_history.specs.Lawful.{IsLawful, MayCome}
 use Rattle.aoe_history.specs.Setup.{HostSetup, Setup}
-use Rattle.aoe_sim_hosts.specs.Host.{AreAddresses, IsHost, IsSettled, NamedHost}
+use Rattle.aoe_sim_hosts.specs.Host.{AreAddresses, IsHost, IsSettled, SimHost}
 use Rattle.aoe_sim_hosts.specs.Turns.{HasSent}
 use Rattle.aoe_sim_hosts.proofs.HostAlike.{about, alike, frame-alike, next-alike, path-alike, quiet-alike}
 use Rattle.aoe_sim_hosts.proofs.PathNo.{path-given}
@@ -77,7 +77,7 @@ pub record IsRequest (host : HostSetup) (op : Op) (device : DeviceNo) (path : Pa
   pub joined : pair_at host.ports about.remotes.items path.0 ≡ Some (local, remote)
   pub is : request op about.id remote local tag ≡ f
 
-module _ (s : Setup) (host : HostSetup) (h : List Entry) (x : NamedHost) (settled : IsSettled s host h x) (lawful : IsLawful s h)
+module _ (s : Setup) (host : HostSetup) (h : List Entry) (x : SimHost) (settled : IsSettled s host h x) (lawful : IsLawful s h)
     (sent : step.Sent) (f : List ℕ) (frame : IsFrameOf x.core (commands_of host h) sent f) (small : sent.tag < 4294967296) where
   abbrev is : IsHost s host x
   is = settled.is
@@ -131,7 +131,7 @@ pub record Pulled (old : Host) (sent : step.Sent) (f : List ℕ) (new : Host) : 
   pub same : Stays old new
   pub small : sent.tag < 4294967296
 
-module _ {s : Setup} {host : HostSetup} {name : ArrayVec ℕ} {h m : List Entry} {x : NamedHost} {sent : step.Sent} {f : List ℕ} {new : Host}
+module _ {s : Setup} {host : HostSetup} {name : ArrayVec ℕ} {h m : List Entry} {x : SimHost} {sent : step.Sent} {f : List ℕ} {new : Host}
     (is_name : x.name ≡ name) (pulled : Pulled x.core sent f new) (before : HasSent s name h m × IsSettled s host m x) where
   abbrev entry : Entry
   entry = Sent x.name sent.ticket.0 (next_number m) f
@@ -169,7 +169,7 @@ module _ {s : Setup} {host : HostSetup} {name : ArrayVec ℕ} {h m : List Entry}
   sends-full life full = record { entry = entry; called_for = sends; may_come = may-come; bytes = f; brings = refl; full = full }
 
 -- nothing more may be sent
-pub settled-quiet : (s : Setup) (host : HostSetup) (h : List Entry) (x : NamedHost) (new : Host) → IsSettled s host h x
+pub settled-quiet : (s : Setup) (host : HostSetup) (h : List Entry) (x : SimHost) (new : Host) → IsSettled s host h x
     → ((log : List Event) → Matches log x.core → IsQuiet x.core (commands log))
     → ((log : List Event) → Matches log x.core → Matches log new) → Stays x.core new
     → IsSettled s host h (record { name = x.name; core = new }) × IsQuiet (host_after s host h) (commands_of host h)

@@ -15,7 +15,7 @@ use Rattle.aoe_history.specs.Commands.{host_after, log_of, tickets}
 use Rattle.aoe_history.specs.Groups.{submit_entry, submitted_as}
 use Rattle.aoe_history.specs.Lawful.{IsLawful}
 use Rattle.aoe_history.specs.Setup.{device_place, is_called, HostSetup, Setup}
-use Rattle.aoe_sim_hosts.specs.Host.{Awaits, IsSettled, NamedHost}
+use Rattle.aoe_sim_hosts.specs.Host.{Awaits, IsSettled, SimHost}
 use Rattle.aoe_sim_hosts.proofs.Apart.{awaits-settled, settled-apart}
 use Rattle.aoe_sim_hosts.proofs.Called.{is-called}
 use Rattle.aoe_sim_hosts.proofs.Commands.{about-after, about-kept, unsent-after}
@@ -41,7 +41,7 @@ abbrev pub HasTaken : Host → Host → Ticket → Type 0
 HasTaken x z t = IsSame x z × (z.clock ≡ x.clock) × (z.last_ticket ≡ t.0) × (z.waiting ≡ x.waiting)
 
 -- a host refuses what the history says
-pub refusal-after : (s : Setup) (host : HostSetup) (h : List Entry) (x : NamedHost) (n : ℕ) (op : Op) → IsHeldLaw → IsSettled s host h x
+pub refusal-after : (s : Setup) (host : HostSetup) (h : List Entry) (x : SimHost) (n : ℕ) (op : Op) → IsHeldLaw → IsSettled s host h x
     → n < length x.core.devices → submit_refusal (host_after s host h) n op ≡ submit_refusal x.core n op
 refusal-after s host h x n op law y inside =
     let long = simp length-map at (ap length y.is.devices) in
@@ -53,10 +53,10 @@ refusal-after s host h x n op law y inside =
 -- ---- what is taken down
 
 -- an entry of what is submitted, behind which the host is settled
-abbrev pub IsEntered : Setup → HostSetup → List Entry → NamedHost → NamedHost → TargetId → Op → Entry → Type 0
+abbrev pub IsEntered : Setup → HostSetup → List Entry → SimHost → SimHost → TargetId → Op → Entry → Type 0
 IsEntered s host h x z dev op entry = (entry ≡ submitted_as s host h x.name dev op) × IsLawful s (entry ∷ h) × IsSettled s host (entry ∷ h) z
 
-abbrev pub IsEntry : NamedHost → NamedHost → TargetId → Op → Entry → Type 0
+abbrev pub IsEntry : SimHost → SimHost → TargetId → Op → Entry → Type 0
 IsEntry x z dev op entry = (s : Setup) (host : HostSetup) (h : List Entry) → IsSettled s host h x → IsLawful s h → IsEntered s host h x z dev op entry
 
 -- ---- what the core answers
@@ -73,10 +73,10 @@ pub record Answers (x z : Host) (device : DeviceNo) (op : Op) (answer : Answer) 
   pub same : IfOk answer (λ t. HasTaken x z t)
   pub unchanged : OnErr answer (z ≡ x)
 
-same-host : (a b : NamedHost) → a.name ≡ b.name → a.core ≡ b.core → a ≡ b
+same-host : (a b : SimHost) → a.name ≡ b.name → a.core ≡ b.core → a ≡ b
 same-host a b name core =
-    ap (λ (k : Host). let n : NamedHost = record { name = a.name; core = k } in n) core
-    ∙ ap (λ (l : ArrayVec ℕ). let n : NamedHost = record { name = l; core = b.core } in n) name
+    ap (λ (k : Host). let n : SimHost = record { name = a.name; core = k } in n) core
+    ∙ ap (λ (l : ArrayVec ℕ). let n : SimHost = record { name = l; core = b.core } in n) name
 
 not-refused : (o : Option SubmitRefusal) (t : Ticket) (op : Op) → IfSome o (λ r. let a : Answer = Ok t in a ≡ Err (r, op)) → o ≡ None
 not-refused None t op e = refl
@@ -93,7 +93,7 @@ refused-as (Some q) r p op some none other =
 
 -- ---- a command of a host
 
-module _ (x : NamedHost) (dev : TargetId) (device : DeviceNo) (op : Op) (law : IsHeldLaw) (can : CanSubmit op)
+module _ (x : SimHost) (dev : TargetId) (device : DeviceNo) (op : Op) (law : IsHeldLaw) (can : CanSubmit op)
     (place : position (λ (d : Device). same_id d.about.id dev) x.core.devices ≡ Some device.0) (inside : device.0 < length x.core.devices) where
   module _ (s : Setup) (host : HostSetup) (h : List Entry) (y : IsSettled s host h x) (lawful : IsLawful s h) where
     at : device_place host dev ≡ Some device.0
@@ -106,7 +106,7 @@ module _ (x : NamedHost) (dev : TargetId) (device : DeviceNo) (op : Op) (law : I
     entry-is o e = rw (at, answer o e)
 
     -- a command is taken
-    taken : (z : NamedHost) (ticket : Ticket) → submit_refusal x.core device.0 op ≡ None → z.name ≡ x.name → HasTaken x.core z.core ticket
+    taken : (z : SimHost) (ticket : Ticket) → submit_refusal x.core device.0 op ≡ None → z.name ≡ x.name → HasTaken x.core z.core ticket
         → ticket.0 ≡ x.core.last_ticket + 1 → ((log : List Event) → Matches log x.core → Matches (Submits ticket device op ∷ log) z.core)
         → IsEntered s host h x z dev op (Submitted x.name ticket.0 dev op)
     taken z ticket fine name same next matches = (
@@ -136,7 +136,7 @@ module _ (x : NamedHost) (dev : TargetId) (device : DeviceNo) (op : Op) (law : I
     )
 
   -- what is taken down of an operation, by what the core answers
-  pub entered : (z : NamedHost) (copy : Op) (n : ArrayVec ℕ) → copy ≡ op → n ≡ x.name → z.name ≡ x.name → (answer : Answer)
+  pub entered : (z : SimHost) (copy : Op) (n : ArrayVec ℕ) → copy ≡ op → n ≡ x.name → z.name ≡ x.name → (answer : Answer)
       → Answers x.core z.core device op answer → (result : Result Entry NoMemory) → IfOk result (λ entry. IfOk answer (λ t. entry ≡ Submitted n t.0 dev copy))
       → IfOk result (λ entry. IfErr answer (λ e. (entry ≡ Refused n e.0) × (e.0 ≢ NoRoom))) → IfOk result (IsEntry x z dev op)
   entered z copy n copied named name (Ok t) a (Ok entry) is other = λ s host h y lawful.
@@ -152,6 +152,6 @@ devices-stay x z (Ok t) same unchanged = same.0.devices
 devices-stay x z (Err e) same unchanged = rw unchanged
 
 -- what an event line submits is taken down, and the host awaits its turn
-pub submitted-with : (s : Setup) (host : HostSetup) (h m : List Entry) (x z : NamedHost) (dev : TargetId) (op : Op) (entry : Entry) → m ≡ entry ∷ h
+pub submitted-with : (s : Setup) (host : HostSetup) (h m : List Entry) (x z : SimHost) (dev : TargetId) (op : Op) (entry : Entry) → m ≡ entry ∷ h
     → IsEntered s host h x z dev op entry → (m ≡ submitted_as s host h x.name dev op ∷ h) × IsLawful s m × Awaits s host None m z
 submitted-with s host h m x z dev op entry is t = rw is (rw t.0, t.1, awaits-settled s host (entry ∷ h) z t.2)

@@ -18,7 +18,7 @@ use Rattle.aoe_history.specs.Groups.{Got, Takes}
 use Rattle.aoe_history.specs.HostLaw.{IsResponse, IsStale}
 use Rattle.aoe_history.specs.Lawful.{IsLawful}
 use Rattle.aoe_history.specs.Setup.{HostSetup, Setup}
-use Rattle.aoe_sim_hosts.specs.Host.{is_told, Awaits, IsHost, IsSettled, NamedHost}
+use Rattle.aoe_sim_hosts.specs.Host.{is_told, Awaits, IsHost, IsSettled, SimHost}
 use Rattle.aoe_sim_hosts.proofs.Apart.{awaits-settled}
 use Rattle.aoe_sim_hosts.proofs.Called.{is-called}
 use Rattle.aoe_sim_hosts.proofs.Commands.{about-kept, answer-after, submitted-of}
@@ -42,7 +42,7 @@ use Rattle.aoe_initiator.proofs.ListLemmas.{Contains-get}
 
 -- ---- the path of a response
 
-came-back : (s : Setup) (host : HostSetup) (h : List Entry) (x : NamedHost) (c : HostCommand) (f : List ℕ) (path : PathNo) → IsHost s host x → IsLawful s h
+came-back : (s : Setup) (host : HostSetup) (h : List Entry) (x : SimHost) (c : HostCommand) (f : List ℕ) (path : PathNo) → IsHost s host x → IsLawful s h
     → Contains (commands_of host h) c → CameOn x.core c f path → path_back host (submission host h c.ticket.0) f ≡ path
 came-back s host h x c f path is lawful there came =
     let read = (cond_some _ (fields f) came.header came.read).1 in
@@ -62,7 +62,7 @@ ended-by host h t _ args = refl
 -- ---- the steps
 
 -- what is said of a frame that came to a host
-abbrev pub IsHeard : Setup → HostSetup → List Entry → NamedHost → NamedHost → ℕ → List ℕ → Bool → Type 0
+abbrev pub IsHeard : Setup → HostSetup → List Entry → SimHost → SimHost → ℕ → List ℕ → Bool → Type 0
 IsHeard s host h x z number f stale =
     let now = Took x.name number stale ∷ h in
     (got : Option Got) × Takes s host x.name number f h got now × IsLawful s now × Awaits s host got now z
@@ -71,7 +71,7 @@ IsHeard s host h x z number f stale =
 abbrev pub Kept : Host → Host → Type 0
 Kept a b = IsSame a b × (b.clock ≡ a.clock) × (b.last_ticket ≡ a.last_ticket)
 
-module _ (x z : NamedHost) (f : List ℕ) (name : z.name ≡ x.name) (same : Kept x.core z.core) (s : Setup) (host : HostSetup) (h : List Entry) (number : ℕ)
+module _ (x z : SimHost) (f : List ℕ) (name : z.name ≡ x.name) (same : Kept x.core z.core) (s : Setup) (host : HostSetup) (h : List Entry) (number : ℕ)
     (y : IsSettled s host h x) (lawful : IsLawful s h) (fresh : arriving s.life h number ≡ Some f) where
   -- a response ends a command
   finished : (t : Ticket) → core.Takes x.core f (log_of host h) (Finished t) z.core → IsHeard s host h x z number f false
@@ -116,12 +116,12 @@ abbrev pub is_stale : Taken → Bool
 is_stale (Finished t) = false
 is_stale Stale = true
 
-abbrev pub Heard : NamedHost → NamedHost → List ℕ → Bool → Type 0
+abbrev pub Heard : SimHost → SimHost → List ℕ → Bool → Type 0
 Heard x z f stale = (s : Setup) (host : HostSetup) (h : List Entry) (number : ℕ) → IsSettled s host h x → IsLawful s h → arriving s.life h number ≡ Some f
     → IsHeard s host h x z number f stale
 
 -- what a frame does, by what the core says of it
-pub heard : (x z : NamedHost) (f : List ℕ) (taken : Taken) → z.name ≡ x.name → Kept x.core z.core
+pub heard : (x z : SimHost) (f : List ℕ) (taken : Taken) → z.name ≡ x.name → Kept x.core z.core
     → ((log : List Event) → Matches log x.core → core.Takes x.core f log taken z.core) → Heard x z f (is_stale taken)
 heard x z f (Finished t) name same takes s host h number y lawful fresh =
     finished x z f name same s host h number y lawful fresh t (takes (log_of host h) y.matches)

@@ -20,7 +20,7 @@ use Rattle.aoe_history.specs.Groups.GivesUp.{gives_none, gives_one}
 use Rattle.aoe_history.specs.HostLaw.{IsAnswered, IsDone}
 use Rattle.aoe_history.specs.Lawful.{IsLawful}
 use Rattle.aoe_history.specs.Setup.{host_called, is_called, HostSetup, Setup}
-use Rattle.aoe_sim_hosts.specs.Host.{is_told, log_with, told_of, Awaits, NamedHost, TellsSame}
+use Rattle.aoe_sim_hosts.specs.Host.{is_told, log_with, told_of, Awaits, SimHost, TellsSame}
 use Rattle.aoe_sim_hosts.specs.Turns.{noted, HasBegun, HasTold, Notes}
 use Rattle.aoe_sim_hosts.proofs.Called.{is-called}
 use Rattle.aoe_sim_hosts.proofs.Same.{host-same, matches-same}
@@ -115,7 +115,7 @@ turned told given dones rest few same = sym (rw (one-reversed told few) at (simp
 -- WHAT IS TOLD
 
 -- the core of a host after its clock went on: some commands were given up
-pub record Advanced (x : NamedHost) (h : List Entry) (core : Host) : Type 0 where
+pub record Advanced (x : SimHost) (h : List Entry) (core : Host) : Type 0 where
   pub now : Millis
   pub at : now.0 ≡ clock h
   pub time : core.clock ≡ max x.core.clock now.0
@@ -128,7 +128,7 @@ pub record Advanced (x : NamedHost) (h : List Entry) (core : Host) : Type 0 wher
   pub same : IsSame x.core core
   pub last : core.last_ticket ≡ x.core.last_ticket
 
-module _ (s : Setup) (host : HostSetup) (got : Option Got) (h : List Entry) (x : NamedHost) (a : Awaits s host got h x)
+module _ (s : Setup) (host : HostSetup) (got : Option Got) (h : List Entry) (x : SimHost) (a : Awaits s host got h x)
     (lawful : IsLawful s h) (core : Host) (went : Advanced x h core) where
   abbrev mid : List Entry
   mid = told x.name host got h
@@ -169,7 +169,7 @@ module _ (s : Setup) (host : HostSetup) (got : Option Got) (h : List Entry) (x :
   ]
 
   -- all outcomes were told
-  pub told-all : (m : List Entry) (y : NamedHost) → Notes x.name core.waiting [] h m → y ≡ record { name = x.name; core = record core { waiting = [] } }
+  pub told-all : (m : List Entry) (y : SimHost) → Notes x.name core.waiting [] h m → y ≡ record { name = x.name; core = record core { waiting = [] } }
       → HasTold s host got h m y
   told-all m y notes is_y =
       let (gives, n) = noted-some [] went.dones refl in
@@ -202,9 +202,9 @@ noted-more name waiting left rest d h m n notes is more = record {
 }
 
 -- and nothing else changes
-pub told-same : (before x : NamedHost) (name : ArrayVec ℕ) (core new : Host) → (let z : NamedHost = record { name = name; core = core } in z) ≡ x
+pub told-same : (before x : SimHost) (name : ArrayVec ℕ) (core new : Host) → (let z : SimHost = record { name = name; core = core } in z) ≡ x
     → x ≡ record before { core = record before.core { waiting = x.core.waiting } } → new ≡ record core { waiting = new.waiting }
-    → (let z : NamedHost = record { name = name; core = new } in z) ≡ record before { core = record before.core { waiting = new.waiting } }
+    → (let z : SimHost = record { name = name; core = new } in z) ≡ record before { core = record before.core { waiting = new.waiting } }
 told-same before x name core new is same step =
-    ap (λ (c : Host). let z : NamedHost = record { name = name; core = c } in z) step
-    ∙ ap (λ (v : NamedHost). let z : NamedHost = record { name = v.name; core = record v.core { waiting = new.waiting } } in z) (is ∙ same)
+    ap (λ (c : Host). let z : SimHost = record { name = name; core = c } in z) step
+    ∙ ap (λ (v : SimHost). let z : SimHost = record { name = v.name; core = record v.core { waiting = new.waiting } } in z) (is ∙ same)

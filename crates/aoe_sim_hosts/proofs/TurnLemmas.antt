@@ -7,13 +7,13 @@ use Rattle.aoe_history.specs.Commands.{commands_of, host_after}
 use Rattle.aoe_history.specs.Groups.{Got, SendsSome, Turn, TurnSome}
 use Rattle.aoe_history.specs.Lawful.{IsLawful}
 use Rattle.aoe_history.specs.Setup.{is_called, HostSetup, Setup}
-use Rattle.aoe_sim_hosts.specs.Host.{Awaits, NamedHost}
+use Rattle.aoe_sim_hosts.specs.Host.{Awaits, SimHost}
 use Rattle.aoe_sim_hosts.specs.Turns.{HasBegun, HasSent, HasTold}
 use Rattle.aoe_sim_hosts.proofs.Called.{is-called}
 use Rattle.aoe_history.specs.Run.{MeetsFull}
 use Rattle.aoe_history.proofs.FullLemmas.{full-more}
 
-module _ {s : Setup} {host : HostSetup} {got : Option Got} {h mid : List Entry} {x : NamedHost} (tells : HasTold s host got h mid x) where
+module _ {s : Setup} {host : HostSetup} {got : Option Got} {h mid : List Entry} {x : SimHost} (tells : HasTold s host got h mid x) where
   called : is_called host x.name ≡ true
   called = is-called s x.name host tells.settled.is.called
 
@@ -39,7 +39,7 @@ module _ {s : Setup} {host : HostSetup} {got : Option Got} {h mid : List Entry} 
       full-more s (SendsSome x.name mid) (TurnSome host got h) m (λ n sends. (x.name, called, inr (inr (mid, tells.gives_up, tells.none_late, sends)))) full
 
 -- something was told
-pub turn-tells : {s : Setup} {host : HostSetup} {got : Option Got} {h m : List Entry} {x : NamedHost} → Awaits s host got h x → HasBegun s host got x.name h m
+pub turn-tells : {s : Setup} {host : HostSetup} {got : Option Got} {h m : List Entry} {x : SimHost} → Awaits s host got h x → HasBegun s host got x.name h m
     → TurnSome host got h m × IsLawful s m
 turn-tells {s} {host} {x = x} waits tells = (
   (

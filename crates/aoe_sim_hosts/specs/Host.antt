@@ -19,7 +19,7 @@ use Rattle.aoe_history.specs.HostLaw.{IsAnswered}
 use Rattle.aoe_history.specs.Setup.{host_called, is_called, HostSetup, Setup}
 
 -- a host: its name, and what its core keeps
-pub record NamedHost : Type 0 where
+pub record SimHost : Type 0 where
   pub name : ArrayVec ℕ
   pub core : Host
 
@@ -28,7 +28,7 @@ abbrev pub AreAddresses : List Mac → Type 0
 AreAddresses ports = All (λ (a : Mac). length a.0 ≡ 6) ports
 
 -- what never changes of a host is as the setup says
-pub record IsHost (s : Setup) (host : HostSetup) (x : NamedHost) : Type 0 where
+pub record IsHost (s : Setup) (host : HostSetup) (x : SimHost) : Type 0 where
   pub called : host_called s x.name ≡ Some host
   pub ports : x.core.ports ≡ host.ports
   pub life : x.core.life ≡ s.life
@@ -41,7 +41,7 @@ pub record IsHost (s : Setup) (host : HostSetup) (x : NamedHost) : Type 0 where
   pub remote_addresses : All (λ (d : Attached). AreAddresses d.remotes.items) host.devices
 
 -- after its turn a host keeps what the history says of it, and has nothing more to tell
-pub record IsSettled (s : Setup) (host : HostSetup) (h : List Entry) (x : NamedHost) : Type 0 where
+pub record IsSettled (s : Setup) (host : HostSetup) (h : List Entry) (x : SimHost) : Type 0 where
   pub is : IsHost s host x
   pub last : x.core.last_ticket ≡ tickets host h
   pub time : x.core.clock ≡ clock h
@@ -71,7 +71,7 @@ pub record TellsSame (a b : List Event) : Type 0 where
 
 -- before its turn: once a host's clock goes on to the time of the history, it keeps what the history says of it, but for the outcome
 -- of its response, which waits to be told
-pub record Awaits (s : Setup) (host : HostSetup) (got : Option Got) (h : List Entry) (x : NamedHost) : Type 0 where
+pub record Awaits (s : Setup) (host : HostSetup) (got : Option Got) (h : List Entry) (x : SimHost) : Type 0 where
   pub is : IsHost s host x
   pub last : x.core.last_ticket ≡ tickets host h
   pub past : x.core.clock ≤ clock h

@@ -11,7 +11,7 @@ use Rattle.aoe_history.specs.Frames.{clock}
 use Rattle.aoe_history.specs.Groups.{told, GivesUp, Got, SendsSome}
 use Rattle.aoe_history.specs.Lawful.{IsLawful}
 use Rattle.aoe_history.specs.Setup.{HostSetup, Setup}
-use Rattle.aoe_sim_hosts.specs.Host.{IsSettled, NamedHost}
+use Rattle.aoe_sim_hosts.specs.Host.{IsSettled, SimHost}
 
 -- outcomes are taken down one after another; the latest stands first
 abbrev pub noted : ArrayVec ℕ → List Done → List Entry → List Entry
@@ -25,7 +25,7 @@ pub record Notes (name : ArrayVec ℕ) (waiting rest : List Done) (h m : List En
   pub is : m ≡ noted name dones h
 
 -- a host told all that it had to tell, and waits for no command for too long
-pub record HasTold (s : Setup) (host : HostSetup) (got : Option Got) (h m : List Entry) (x : NamedHost) : Type 0 where
+pub record HasTold (s : Setup) (host : HostSetup) (got : Option Got) (h m : List Entry) (x : SimHost) : Type 0 where
   pub gives_up : GivesUp x.name (told x.name host got h) m
   pub none_late : All (λ o. is_expired host.dead (clock m) o ≡ false) (sent_of (commands_of host m))
   pub lawful : IsLawful s m

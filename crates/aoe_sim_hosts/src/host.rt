@@ -25,7 +25,7 @@ use std::marker::Model;
 /// A host in a run. Each step is true of every setup and history in which the host keeps what the
 /// history says of it, and says which entries come to it.
 #[derive(Drop)]
-pub struct NamedHost {
+pub struct SimHost {
     pub(crate) alloc: Global,
     pub(crate) name: Name,
 
@@ -35,8 +35,8 @@ pub struct NamedHost {
     pub(crate) core: Initiator,
 }
 
-impl Model for NamedHost {
-    ghost use Rattle.aoe_sim_hosts.specs.Host.{NamedHost as Seen};
+impl Model for SimHost {
+    ghost use Rattle.aoe_sim_hosts.specs.Host.{SimHost as Seen};
     ghost use Rattle.aoe_sim_hosts.specs.Ids.{AreIds};
 
     ghost Value = { Seen };
@@ -81,7 +81,7 @@ fn entry_of(
     }
 }
 
-impl NamedHost {
+impl SimHost {
     /// A host with these ports, attached to no device. A frame can arrive as long after it was sent
     /// as `life` has it for its kind, at most `room` commands fly or rest, and a command is given up
     /// after `dead`.
@@ -92,7 +92,7 @@ impl NamedHost {
         life: Lifetimes,
         room: u32,
         dead: Millis,
-    ) -> Result<NamedHost, NoMemory>
+    ) -> Result<SimHost, NoMemory>
         requires port { 0 < length ports.now.items }
         requires differ { IsDistinct ports.now.items }
         requires requests { life.requests.0 ≤ 600000 }
@@ -105,7 +105,7 @@ impl NamedHost {
         ensures matches { IfOk result (λ x. Matches [] x.core) }
     {
         let core = Initiator::new(alloc, ports, life, room, dead)?;
-        Ok(NamedHost {
+        Ok(SimHost {
             alloc,
             name,
             ids: Vec::new(alloc),

@@ -11,14 +11,14 @@ ghost use Rattle.aoe_sim_hosts.specs.Host.{Awaits, IsSettled};
 ghost use Rattle.aoe_sim_hosts.specs.Turns.{HasBegun, HasSent, HasTold, Notes};
 ghost use Rattle.aoe_history.specs.Run.{with_entry, MeetsFull};
 
-use crate::host::NamedHost;
+use crate::host::SimHost;
 use aoe_base::{NoMemory, copy_of};
 use aoe_frame::Frame;
 use aoe_history::{Boxed, Entry, Run};
 use aoe_initiator::Done;
 use aoe_net::NetRefusal;
 
-impl NamedHost {
+impl SimHost {
     /// Records the outcome of a command.
     fn tell(&self, run: &mut Run, done: Done) -> Result<(), NoMemory>
         ensures ok { OnOk result (run.new ≡ with_entry run.old

@@ -15,7 +15,7 @@ use Rattle.aoe_target.specs.Law.{after_ata, cut, replied, AllowsAta, Fate}
 use Rattle.aoe_target.specs.Reply.{data_of}
 use Rattle.aoe_target.specs.Sectors.{in_span, spoils, value_in, Agrees, Sectors, Tells}
 use Rattle.aoe_target.proofs.SectorLemmas.{known_same}
-use Rattle.aoe_sim_shelves.specs.Rack.{AgreesWithin, SameWithin}
+use Rattle.aoe_sim_shelves.specs.Shelf.{AgreesWithin, SameWithin}
 use Rattle.aoe_sim_shelves.proofs.WithinLemmas.{ata_exact, ata_within, same_then}
 
 -- VALUES

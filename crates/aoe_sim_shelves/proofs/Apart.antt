@@ -17,8 +17,8 @@ use Rattle.aoe_history.specs.ShelfLaw.{stretch}
 use Rattle.aoe_history.specs.Slots.{slot_after, state_after}
 use Rattle.aoe_script.specs.declared.event.Which.{Which}
 use Rattle.aoe_script.specs.declared.event.Which.TheVariants.{Store, Keep}
-use Rattle.aoe_sim_shelves.specs.declared.rack.Stops.{Stops}
-use Rattle.aoe_sim_shelves.specs.Rack.{is_apart, IsServing, IsStanding, MemoryRack, Serves, Stands}
+use Rattle.aoe_sim_shelves.specs.declared.shelf.Stops.{Stops}
+use Rattle.aoe_sim_shelves.specs.Shelf.{is_apart, IsServing, IsStanding, SimShelf, Serves, Stands}
 use Rattle.aoe_sim_shelves.proofs.Words.{Target}
 use Rattle.aoe_initiator.proofs.ListLemmas.{get-there as there}
 
@@ -66,14 +66,14 @@ says-apart slots h i slot at (Crashed dev lists how) p = says-crashed slot h dev
 says-apart slots h i slot at _ p = record { known = refl; stretches = λ which. refl }
 
 -- the disks of a shelf are what the history says after an entry that says nothing of its slots
-pub serves-apart : (slots : List SlotSetup) (e : Entry) (h : List Entry) (x : MemoryRack) → is_apart slots e ≡ true → Serves slots h x → Serves slots (e ∷ h) x
+pub serves-apart : (slots : List SlotSetup) (e : Entry) (h : List Entry) (x : SimShelf) → is_apart slots e ≡ true → Serves slots h x → Serves slots (e ∷ h) x
 serves-apart slots e h x p k = record {
   count = k.count;
   stops = k.stops;
   each = λ i slot t stops a b c. serves-still (says-apart slots h i slot a e p) (k.each i slot t stops a b c);
 }
 
-pub serves-stands : (slots : List SlotSetup) (h : List Entry) (x : MemoryRack) → Serves slots h x → Stands slots h x
+pub serves-stands : (slots : List SlotSetup) (h : List Entry) (x : SimShelf) → Serves slots h x → Stands slots h x
 serves-stands slots h x k = record {
   count = k.count;
   stops = k.stops;
@@ -92,7 +92,7 @@ changed-or {X} {i} {Change} {xs} {ys} c j y at =
     let either : (j ≡ i) ⊎ (j ≢ i) = grind arith in
     elim either [ inl e ↦ inl (e, cc) | inr ne ↦ inr (ne, sym (get-other i Change xs ys c j ne) ∙ at) ]
 
-module _ {slots : List SlotSetup} {h : List Entry} {i : ℕ} {slot : SlotSetup} {e : Entry} {x y : MemoryRack}
+module _ {slots : List SlotSetup} {h : List Entry} {i : ℕ} {slot : SlotSetup} {e : Entry} {x y : SimShelf}
     (apart : AreApart slots) (found : slice_get slots i ≡ Some slot)
     (says : (other : SlotSetup) → is_slot other slot.station.id ≡ false → SaysSame other h (e ∷ h))
     {Change : Target → Target → Type 0} (c : ChangesAt i Change x.shelf.targets y.shelf.targets) where

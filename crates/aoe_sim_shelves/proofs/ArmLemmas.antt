@@ -24,11 +24,11 @@ use Rattle.aoe_history.specs.ShelfLaw.{Stretch}
 use Rattle.aoe_history.specs.Slots.{slot_after, state_after}
 use Rattle.aoe_script.specs.declared.event.Which.{Which}
 use Rattle.aoe_script.specs.declared.event.Which.TheVariants.{Store, Keep}
-use Rattle.aoe_sim_shelves.specs.declared.rack.Stops.{Stops}
+use Rattle.aoe_sim_shelves.specs.declared.shelf.Stops.{Stops}
 use Rattle.aoe_sim_shelves.specs.Arming.{arm_of, with_stop, ArmsDisk}
-use Rattle.aoe_sim_shelves.specs.Rack.{IsDue, IsRack, IsServing, IsStoreDue, Serves}
+use Rattle.aoe_sim_shelves.specs.Shelf.{IsDue, IsSimShelf, IsServing, IsStoreDue, Serves}
 use Rattle.aoe_sim_shelves.proofs.Apart.{says-armed, serves-on}
-use Rattle.aoe_sim_shelves.proofs.RackLemmas.{rack-kept, IsSameTarget}
+use Rattle.aoe_sim_shelves.proofs.ShelfLemmas.{shelf-kept, IsSameTarget}
 use Rattle.aoe_sim_shelves.proofs.SlotLemmas.{same-self}
 use Rattle.aoe_sim_shelves.proofs.UnderLemmas.{armed-under, settled-self, under-wrote}
 use Rattle.aoe_sim_shelves.proofs.Words.{Shelf, Target}
@@ -106,9 +106,9 @@ module _ {i : ℕ} {which : Which} {k : ℕ} {mode : Option Loss} {a b : Shelf} 
   refilled : refill (length items) items (slice_set items i new) ≡ slice_set items i new
   refilled = items-with_items (record { items = items }) (slice_set items i new) (length-set items i new)
 
-  pub arming-kept : {major : ℕ} → IsRack major a items → IsRack major b (refill (length items) items (slice_set items i new))
+  pub arming-kept : {major : ℕ} → IsSimShelf major a items → IsSimShelf major b (refill (length items) items (slice_set items i new))
   arming-kept r = rw refilled
-      (rack-kept r.targets z.change z.rest (armed-same which (arm_of k mode) z.change.change) (slice_set items i new) r (length-set items i new))
+      (shelf-kept r.targets z.change z.rest (armed-same which (arm_of k mode) z.change.change) (slice_set items i new) r (length-set items i new))
 
   -- the disks of the shelf are then what the history says, of which the arming is the latest entry
   pub arming-serves : {slots : List SlotSetup} {h : List Entry} → AreApart slots → Serves slots h (record { shelf = a; stops = items })

@@ -24,9 +24,9 @@ use Rattle.aoe_history.specs.Run.{MeetsFull}
 use Rattle.aoe_history.proofs.FrameLemmas.{bytes-arriving, numbered-later}
 use Rattle.aoe_history.proofs.FullLemmas.{full-more}
 use Rattle.aoe_history.proofs.LogicLemmas.{some-then}
-use Rattle.aoe_sim_shelves.specs.declared.rack.Stops.{Stops}
+use Rattle.aoe_sim_shelves.specs.declared.shelf.Stops.{Stops}
 use Rattle.aoe_sim_shelves.specs.Arrival.{noted, stop_at, ComesToSlot, GoesOn, IsCut, IsReached, IsReplyFull}
-use Rattle.aoe_sim_shelves.specs.Rack.{IsServing, MemoryRack}
+use Rattle.aoe_sim_shelves.specs.Shelf.{IsServing, SimShelf}
 use Rattle.aoe_sim_shelves.proofs.Apart.{says-arrived, serves-on, serves-stands, serving-stands, stands-on}
 use Rattle.aoe_sim_shelves.proofs.FateLemmas.{noted-uncut, runs-on}
 use Rattle.aoe_sim_shelves.proofs.SlotLemmas.{breaks, continues, follows, takes, Breaks, Continues, Meets, Takes}
@@ -56,14 +56,14 @@ some-here number f shelf (slot ∷ slots) m = inl refl
 -- ONE SLOT
 
 -- what the code knows of one arrival: how the targets changed, and the stop by what was read of the stops
-pub record IsTurn (i : ℕ) (f : List ℕ) (w : Heard) (out : List ℕ) (x y : MemoryRack) (d : Stops) (dev : TargetId) (stop : Option Loss) : Type 0 where
+pub record IsTurn (i : ℕ) (f : List ℕ) (w : Heard) (out : List ℕ) (x y : SimShelf) (d : Stops) (dev : TargetId) (stop : Option Loss) : Type 0 where
   pub change : ChangesAt i (Meets f w out) x.shelf.targets y.shelf.targets
   pub same : y.stops ≡ x.stops
   pub name : IsSomeAnd (slice_get x.shelf.targets i) (λ t. dev ≡ t.station.id)
   pub count : length x.stops ≡ length x.shelf.targets
   pub is : stop ≡ stop_at (get_or x.stops i d) w
 
-module _ {i : ℕ} {f : List ℕ} {w : Heard} {out : List ℕ} {x y : MemoryRack} {d : Stops} {dev : TargetId} {stop : Option Loss}
+module _ {i : ℕ} {f : List ℕ} {w : Heard} {out : List ℕ} {x y : SimShelf} {d : Stops} {dev : TargetId} {stop : Option Loss}
     (z : IsTurn i f w out x y d dev stop)
     {s : Setup} {slots : List SlotSetup} {number : ℕ} {h : List Entry} (r : IsReached s slots number f h x) where
   abbrev armed : Stops
@@ -158,13 +158,13 @@ module _ {i : ℕ} {f : List ℕ} {w : Heard} {out : List ℕ} {x y : MemoryRack
 -- ONE SLOT AFTER THE OTHER
 
 -- a frame came to the first slots of a shelf
-pub record Passes (s : Setup) (slots : List SlotSetup) (i number : ℕ) (f : List ℕ) (h m : List Entry) (x : MemoryRack) : Type 0 where
+pub record Passes (s : Setup) (slots : List SlotSetup) (i number : ℕ) (f : List ℕ) (h m : List Entry) (x : SimShelf) : Type 0 where
   pub reached : IsReached s slots number f m x
   pub each : (n : List Entry) → ArriveAtEach number f slots (drop i slots) m n → ArriveAtEach number f slots slots h n
   pub some : (n : List Entry) → ArriveAtSome number f slots (drop i slots) m n → ArriveAtSome number f slots slots h n
 
-module _ {s : Setup} {slots : List SlotSetup} {i number : ℕ} {f : List ℕ} {h m : List Entry} {x : MemoryRack} (p : Passes s slots i number f h m x) where
-  pub passes-on : {n : List Entry} {y : MemoryRack} (j : ℕ) → j ≡ suc i → GoesOn s slots i number f m n y → Passes s slots j number f h n y
+module _ {s : Setup} {slots : List SlotSetup} {i number : ℕ} {f : List ℕ} {h m : List Entry} {x : SimShelf} (p : Passes s slots i number f h m x) where
+  pub passes-on : {n : List Entry} {y : SimShelf} (j : ℕ) → j ≡ suc i → GoesOn s slots i number f m n y → Passes s slots j number f h n y
   passes-on j next g = record {
     reached = g.reached;
     each = λ l q. p.each l (rw (drop-at slots i g.slot g.found) (inl (g.fate, g.uncut, rw (next, g.entry) at q)));
@@ -182,7 +182,7 @@ module _ {s : Setup} {slots : List SlotSetup} {i number : ℕ} {f : List ℕ} {h
   passes-some = p.some m (some-here number f slots (drop i slots) m)
 
   -- the power was lost at a slot
-  module _ {how : Loss} {n : List Entry} {y : MemoryRack} (g : IsCut s slots i number f how m n y) (l : List Entry) where
+  module _ {how : Loss} {n : List Entry} {y : SimShelf} (g : IsCut s slots i number f how m n y) (l : List Entry) where
     pub crashed-each : CrashEach how slots n l → ArriveAtEach number f slots slots h l
     crashed-each q = p.each l (rw (drop-at slots i g.slot g.found) (inr (how, g.stop, rw g.entry at q)))
 

@@ -29,7 +29,7 @@ use Rattle.aoe_target.proofs.DeviceLemmas.{first_state}
 use Rattle.aoe_history.specs.Setup.{SlotSetup}
 use Rattle.aoe_history.specs.Slots.{after_crash, all_settled, is_cached_whole, left_known, left_sectors, Slot, Unsettled}
 use Rattle.aoe_sim_shelves.specs.Crash.{Loses, LosesCache, LosesStore, Restarts}
-use Rattle.aoe_sim_shelves.specs.Rack.{AgreesWithin, HoldsWithin, IsBelow, IsStoreDue, IsTargetOf, HasCache, SameWithin}
+use Rattle.aoe_sim_shelves.specs.Shelf.{AgreesWithin, HoldsWithin, IsBelow, IsStoreDue, IsTargetOf, HasCache, SameWithin}
 use Rattle.aoe_sim_shelves.proofs.AgreeLemmas.{same_agrees}
 use Rattle.aoe_sim_shelves.proofs.Words.{device, Target}
 

@@ -14,7 +14,7 @@ use Rattle.aoe_history.specs.ShelfLaw.{one_more, IsStrike, IsStruckInTurn, IsStr
 use Rattle.aoe_history.specs.Slots.{is_struck, Slot}
 use Rattle.aoe_script.specs.declared.event.Which.{Which}
 use Rattle.aoe_script.specs.declared.event.Which.TheVariants.{Store}
-use Rattle.aoe_sim_shelves.specs.Rack.{calls_per, stop_in, IsDue, IsStoreDue, HasCache}
+use Rattle.aoe_sim_shelves.specs.Shelf.{calls_per, stop_in, IsDue, IsStoreDue, HasCache}
 
 -- where a call failed, the power was lost in it just where the disk is armed for that
 abbrev pub Strikes : Bool → Option Stretch → Fate → Type 0

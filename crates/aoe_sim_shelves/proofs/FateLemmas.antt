@@ -9,7 +9,7 @@ use Rattle.aoe_target.specs.Law.{after, cut, Allows}
 use Rattle.aoe_target.specs.Receive.{calls_store, edits, fate_of, is_faulty, is_unkept}
 use Rattle.aoe_history.specs.declared.entry.Fate.TheVariants.{Cut}
 use Rattle.aoe_history.specs.Slots.{fate_at, is_struck}
-use Rattle.aoe_sim_shelves.specs.declared.rack.Stops.{Stops}
+use Rattle.aoe_sim_shelves.specs.declared.shelf.Stops.{Stops}
 use Rattle.aoe_history.specs.ShelfLaw.{IsStrike, Stretch}
 use Rattle.aoe_sim_shelves.specs.Arrival.{noted, stop_at}
 

@@ -7,7 +7,7 @@ use Rattle.std.proofs.lemmas.Option.{gets, slice_get_within}
 use Rattle.aoe_disk.specs.declared.loss.Loss.{Loss}
 use Rattle.aoe_shelf.specs.Shelf.{has_minor}
 use Rattle.aoe_sim_shelves.specs.Crash.{RestartEach, Restarts}
-use Rattle.aoe_sim_shelves.specs.Rack.{AreTargets, IsTargetOf}
+use Rattle.aoe_sim_shelves.specs.Shelf.{AreTargets, IsTargetOf}
 use Rattle.aoe_sim_shelves.proofs.CrashLemmas.{restarted_target}
 use Rattle.aoe_sim_shelves.proofs.Words.{stations, Shelf, Target}
 use Rattle.aoe_initiator.proofs.ListLemmas.{get-there as there}

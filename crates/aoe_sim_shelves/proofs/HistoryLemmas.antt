@@ -17,9 +17,9 @@ use Rattle.aoe_history.specs.Slots.{after_crash, slot_after, state_after}
 use Rattle.aoe_history.specs.Run.{with_entry, Recorded}
 use Rattle.aoe_script.specs.declared.event.Which.{Which}
 use Rattle.aoe_script.specs.declared.event.Which.TheVariants.{Store, Keep}
-use Rattle.aoe_sim_shelves.specs.declared.rack.Stops.{Stops}
+use Rattle.aoe_sim_shelves.specs.declared.shelf.Stops.{Stops}
 use Rattle.aoe_sim_shelves.specs.Crash.{with_crashes, RestartEach}
-use Rattle.aoe_sim_shelves.specs.Rack.{IsServing, MemoryRack, Serves, Stands}
+use Rattle.aoe_sim_shelves.specs.Shelf.{IsServing, SimShelf, Serves, Stands}
 use Rattle.aoe_sim_shelves.proofs.Apart.{says-crashed, SaysSame}
 use Rattle.aoe_sim_shelves.proofs.CrashLemmas.{keep_unarmed, restarted, restarted_lists, store_unarmed}
 use Rattle.aoe_sim_shelves.proofs.FrontLemmas.{get_replicate, get_take, was}
@@ -104,7 +104,7 @@ module _ (s : Setup) (how : Loss) where
 
 -- THE SHELF
 
-module _ {slots : List SlotSetup} {h : List Entry} {how : Loss} {x : MemoryRack} {ys : List Target}
+module _ {slots : List SlotSetup} {h : List Entry} {how : Loss} {x : SimShelf} {ys : List Target}
     (k : Stands slots h x) (r : RestartEach how x.shelf.targets ys) where
   may_restart : MayRestart slots h ys
   may_restart = record {
@@ -157,10 +157,10 @@ crash_noted how ts i first old new so_far p = go (slice_get ts i) refl p
     go None at p = absurd p
     go (Some t) at p = rw (p, so_far, more t at, with_crashes_more how (take i ts) t first.entries)
 
-module _ {s : Setup} {slots : List SlotSetup} {h : List Entry} {how : Loss} {x : MemoryRack} {ys : List Target}
+module _ {s : Setup} {slots : List SlotSetup} {h : List Entry} {how : Loss} {x : SimShelf} {ys : List Target}
     (are : AreSlots s slots) (k : Stands slots h x) (lawful : IsLawful s h) (r : RestartEach how x.shelf.targets ys) where
   -- the disks of the shelf are then what the history says
-  pub all_noted : (y : MemoryRack) (n : ℕ) (m : List Entry) → y.shelf.targets ≡ ys → y.stops ≡ replicate n (record { store = None; keep = None })
+  pub all_noted : (y : SimShelf) (n : ℕ) (m : List Entry) → y.shelf.targets ≡ ys → y.stops ≡ replicate n (record { store = None; keep = None })
       → length y.stops ≡ length ys → m ≡ with_crashes how ys h → CrashEach how slots h m × IsLawful s m × Serves slots m y
   all_noted y n m targets stops count is =
       let size : length ys ≡ length slots = r.count ∙ k.count in

@@ -7,7 +7,7 @@ mod DueLemmas
 mod FateLemmas
 mod FrontLemmas
 mod HistoryLemmas
-mod RackLemmas
+mod ShelfLemmas
 mod SeatLemmas
 mod SlotLemmas
 mod StepLemmas

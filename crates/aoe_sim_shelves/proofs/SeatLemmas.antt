@@ -35,7 +35,7 @@ use Rattle.aoe_history.specs.Setup.{slot_over, SlotSetup}
 use Rattle.aoe_history.specs.Slots.{all_settled, new_slot, zero_sector}
 use Rattle.aoe_sim_shelves.specs.Crash.{Loses, LosesStore, Restarts}
 use Rattle.aoe_sim_shelves.specs.NewKeep.{IsNewKeep}
-use Rattle.aoe_sim_shelves.specs.Rack.{AgreesWithin, IsBelow, IsServing, IsStoreDue, IsTargetOf, HasCache, MemoryRack, SameWithin, Serves}
+use Rattle.aoe_sim_shelves.specs.Shelf.{AgreesWithin, IsBelow, IsServing, IsStoreDue, IsTargetOf, HasCache, SimShelf, SameWithin, Serves}
 use Rattle.aoe_sim_shelves.proofs.AgreeLemmas.{same_agrees}
 use Rattle.aoe_sim_shelves.proofs.CrashLemmas.{lost_sectors, mounted_unarmed, opened_free}
 use Rattle.aoe_sim_shelves.proofs.FrontLemmas.{front_of, get_last, get_split, last_of, length_last}
@@ -198,7 +198,7 @@ module _ (major : ℕ) (ports : List Mac) (mtu minor : ℕ) (cache : Option ℕ)
   }
 
   -- the shelf serves the new slot too
-  pub new_serves : {slots : List SlotSetup} {x y : MemoryRack} → y.shelf.targets ≡ x.shelf.targets ++ new_target ∷ []
+  pub new_serves : {slots : List SlotSetup} {x y : SimShelf} → y.shelf.targets ≡ x.shelf.targets ++ new_target ∷ []
       → y.stops ≡ x.stops ++ record { store = None; keep = None } ∷ [] → Serves slots [] x → Serves (slots ++ new_setup ∷ []) [] y
   new_serves {slots} {x} {y} targets stops s = record {
     count = rw (targets, length_last x.shelf.targets new_target, length_last slots new_setup, s.count);

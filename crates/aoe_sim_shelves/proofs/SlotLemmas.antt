@@ -28,9 +28,9 @@ use Rattle.aoe_history.specs.ShelfLaw.{calls, one_more, stretch, IsStruckBy, Kee
 use Rattle.aoe_history.specs.Slots.{after_frame, is_struck, slot_after, state_after, verdict_after}
 use Rattle.aoe_script.specs.declared.event.Which.{Which}
 use Rattle.aoe_script.specs.declared.event.Which.TheVariants.{Store, Keep}
-use Rattle.aoe_sim_shelves.specs.declared.rack.Stops.{Stops}
+use Rattle.aoe_sim_shelves.specs.declared.shelf.Stops.{Stops}
 use Rattle.aoe_sim_shelves.specs.Arrival.{noted, stop_at}
-use Rattle.aoe_sim_shelves.specs.Rack.{stop_in, HoldsWithin, IsDue, IsServing, IsStanding, IsStoreDue, HasCache}
+use Rattle.aoe_sim_shelves.specs.Shelf.{stop_in, HoldsWithin, IsDue, IsServing, IsStanding, IsStoreDue, HasCache}
 use Rattle.aoe_sim_shelves.proofs.DueLemmas.{due-store-then, due-then, struck-in-turn, struck-store, Strikes}
 use Rattle.aoe_sim_shelves.proofs.FateLemmas.{called-kept, edited-done, faulty-calls, loss-of, noted-fate, noted-faulty, noted-strike, noted-unkept, one-disk, stop-of, unkept-calls, Runs}
 use Rattle.aoe_sim_shelves.proofs.StepLemmas.{held, known_in, stepped, StepsWithin}

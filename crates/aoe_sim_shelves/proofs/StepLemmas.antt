@@ -18,7 +18,7 @@ use Rattle.aoe_target.specs.Device.{Holds, State}
 use Rattle.aoe_target.specs.Law.{after, after_step, step_of, Allows, AllowsAta, Fate, IsStep}
 use Rattle.aoe_target.specs.Sectors.{sectors_of, Sectors, Tells}
 use Rattle.aoe_target.specs.Verdict as judge
-use Rattle.aoe_sim_shelves.specs.Rack.{AgreesWithin, HoldsWithin}
+use Rattle.aoe_sim_shelves.specs.Shelf.{AgreesWithin, HoldsWithin}
 use Rattle.aoe_sim_shelves.proofs.AgreeLemmas.{both_ata, both_then, pass, told_exact}
 use Rattle.aoe_sim_shelves.proofs.WithinLemmas.{verdict_end, InEnd, Ranged}
 use Rattle.aoe_target.proofs.LawLemmas.{both_self}

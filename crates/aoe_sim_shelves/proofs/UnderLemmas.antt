@@ -29,7 +29,7 @@ use Rattle.aoe_history.specs.declared.entry.Fate.TheVariants.{Replied}
 use Rattle.aoe_history.specs.Setup.{SlotSetup}
 use Rattle.aoe_history.specs.Slots.{after_call, after_frame, fate_at, is_cached_whole, is_struck, Slot, Unsettled}
 use Rattle.aoe_sim_shelves.specs.Arrival.{noted}
-use Rattle.aoe_sim_shelves.specs.Rack.{AgreesWithin, IsBelow, HasCache}
+use Rattle.aoe_sim_shelves.specs.Shelf.{AgreesWithin, IsBelow, HasCache}
 use Rattle.aoe_history.proofs.LogicLemmas.{not-both}
 use Rattle.aoe_sim_shelves.proofs.StepLemmas.{step_sectors}
 

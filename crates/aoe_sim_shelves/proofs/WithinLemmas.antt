@@ -17,7 +17,7 @@ use Rattle.aoe_target.specs.Law.{after_ata, cut, replied, Fate}
 use Rattle.aoe_target.specs.Sectors.{spoils, Same, Sectors}
 use Rattle.aoe_target.specs.Verdict.{as_marked, ata_verdict, decided, is_heard, judged}
 use Rattle.aoe_target.specs.Verdict as judge
-use Rattle.aoe_sim_shelves.specs.Rack.{SameWithin}
+use Rattle.aoe_sim_shelves.specs.Shelf.{SameWithin}
 
 -- SECTORS
 

@@ -12,7 +12,7 @@ use Rattle.aoe_store.specs.Under.{ArmsUnder}
 use Rattle.aoe_target.specs.Mounted.{Mounted}
 use Rattle.aoe_script.specs.declared.event.Which.{Which}
 use Rattle.aoe_script.specs.declared.event.Which.TheVariants.{Store, Keep}
-use Rattle.aoe_sim_shelves.specs.declared.rack.Stops.{Stops}
+use Rattle.aoe_sim_shelves.specs.declared.shelf.Stops.{Stops}
 
 -- a disk is armed for its k-th call: the call fails, or the power is lost in it
 abbrev pub arm_of : ℕ → Option Loss → Arm

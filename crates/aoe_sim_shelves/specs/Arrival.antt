@@ -13,8 +13,8 @@ use Rattle.aoe_history.specs.Frames.{arriving}
 use Rattle.aoe_history.specs.Groups.{IsStop}
 use Rattle.aoe_history.specs.Lawful.{IsLawful}
 use Rattle.aoe_history.specs.Setup.{AreSlots, Setup, SlotSetup}
-use Rattle.aoe_sim_shelves.specs.declared.rack.Stops.{Stops}
-use Rattle.aoe_sim_shelves.specs.Rack.{MemoryRack, Serves, Stands}
+use Rattle.aoe_sim_shelves.specs.declared.shelf.Stops.{Stops}
+use Rattle.aoe_sim_shelves.specs.Shelf.{SimShelf, Serves, Stands}
 
 -- what is left of the disks of a shelf of which one failed in a stop
 abbrev pub stop_at : Stops → Heard → Option Loss
@@ -36,14 +36,14 @@ IsReplyFull None heard.Silent net out = ⊥
 IsReplyFull (Some how) h net out = ⊥
 
 -- a frame that can be handed over comes to a shelf
-pub record IsReached (s : Setup) (slots : List SlotSetup) (number : ℕ) (f : List ℕ) (h : List Entry) (x : MemoryRack) : Type 0 where
+pub record IsReached (s : Setup) (slots : List SlotSetup) (number : ℕ) (f : List ℕ) (h : List Entry) (x : SimShelf) : Type 0 where
   pub shelf : AreSlots s slots
   pub serves : Serves slots h x
   pub lawful : IsLawful s h
   pub fresh : arriving s.life h number ≡ Some f
 
 -- it came to the slot, and may come to the next one
-pub record GoesOn (s : Setup) (slots : List SlotSetup) (i number : ℕ) (f : List ℕ) (h m : List Entry) (x : MemoryRack) : Type 0 where
+pub record GoesOn (s : Setup) (slots : List SlotSetup) (i number : ℕ) (f : List ℕ) (h m : List Entry) (x : SimShelf) : Type 0 where
   pub slot : SlotSetup
   pub found : slice_get slots i ≡ Some slot
   pub fate : Fate
@@ -52,7 +52,7 @@ pub record GoesOn (s : Setup) (slots : List SlotSetup) (i number : ℕ) (f : Lis
   pub reached : IsReached s slots number f m x
 
 -- it came to the slot, and made it call a disk in which the power is lost
-pub record IsCut (s : Setup) (slots : List SlotSetup) (i number : ℕ) (f : List ℕ) (how : Loss) (h m : List Entry) (x : MemoryRack) : Type 0 where
+pub record IsCut (s : Setup) (slots : List SlotSetup) (i number : ℕ) (f : List ℕ) (how : Loss) (h m : List Entry) (x : SimShelf) : Type 0 where
   pub slot : SlotSetup
   pub found : slice_get slots i ≡ Some slot
   pub stop : IsStop slot h f how
@@ -61,6 +61,6 @@ pub record IsCut (s : Setup) (slots : List SlotSetup) (i number : ℕ) (f : List
   pub lawful : IsLawful s m
 
 -- which of the two it was
-abbrev pub ComesToSlot : Setup → List SlotSetup → ℕ → ℕ → List ℕ → Option Loss → List Entry → List Entry → MemoryRack → Type 0
+abbrev pub ComesToSlot : Setup → List SlotSetup → ℕ → ℕ → List ℕ → Option Loss → List Entry → List Entry → SimShelf → Type 0
 ComesToSlot s slots i number f None h m x = GoesOn s slots i number f h m x
 ComesToSlot s slots i number f (Some how) h m x = IsCut s slots i number f how h m x

@@ -1,4 +1,4 @@
-pub mod Rack
+pub mod Shelf
 pub mod Arming
 pub mod Arrival
 pub mod Crash

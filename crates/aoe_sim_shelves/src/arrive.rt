@@ -6,10 +6,10 @@ ghost use Rattle.aoe_history.specs.Groups.{ArriveAtEach, ArriveAtSome};
 ghost use Rattle.aoe_history.specs.Lawful.{IsLawful};
 ghost use Rattle.aoe_history.specs.Setup.{AreSlots, Setup, SlotSetup};
 ghost use Rattle.aoe_sim_shelves.specs.Arrival.{noted, stop_at, ComesToSlot, IsReached, IsReplyFull};
-ghost use Rattle.aoe_sim_shelves.specs.Rack.{Serves};
+ghost use Rattle.aoe_sim_shelves.specs.Shelf.{Serves};
 ghost use Rattle.aoe_history.specs.Run.{is_plain, network_of, with_entry, MeetsFull};
 
-use crate::{MemoryRack, Stops};
+use crate::{SimShelf, Stops};
 use aoe_base::{FrameNo, NoMemory, TargetId};
 use aoe_disk::Loss;
 use aoe_frame::Frame;
@@ -72,7 +72,7 @@ fn take_down(
     }
 }
 
-impl MemoryRack {
+impl SimShelf {
     /// A frame comes to the target at the slot. Where a disk fails in a stop, this is what is left.
     fn arrive_at(
         &mut self,

@@ -5,11 +5,11 @@ ghost use Rattle.aoe_history.specs.Groups.{CrashEach, CrashSome};
 ghost use Rattle.aoe_history.specs.Lawful.{IsLawful};
 ghost use Rattle.aoe_history.specs.Setup.{AreSlots, Setup, SlotSetup};
 ghost use Rattle.aoe_sim_shelves.specs.Crash.{with_crashes, Loses, LosesStore, RestartEach};
-ghost use Rattle.aoe_sim_shelves.specs.Rack.{AreTargets, Serves, Stands};
+ghost use Rattle.aoe_sim_shelves.specs.Shelf.{AreTargets, Serves, Stands};
 ghost use Rattle.aoe_history.specs.Run.{with_entry};
 
 use crate::seat::{MemShelf, mount, seat};
-use crate::{MemoryRack, Stops};
+use crate::{SimShelf, Stops};
 use aoe_base::NoMemory;
 use aoe_cache::AnyStore;
 use aoe_disk::{Disk, Loss, MemDisk};
@@ -95,7 +95,7 @@ fn no_stops(count: usize) -> ArrayVec<Stops, MAX_TARGETS>
     stops
 }
 
-impl MemoryRack {
+impl SimShelf {
     /// Each target in turn loses its power, and is mounted again with what `how` leaves.
     pub fn crash(&mut self, run: &mut Run, how: Loss) -> Result<(), NoMemory>
         ensures life { run.new.life ≡ run.old.life }

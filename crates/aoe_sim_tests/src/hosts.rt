@@ -10,7 +10,7 @@ use aoe_history::{Entry, History, Run};
 use aoe_initiator::{DEAD, LIFETIMES, Op, Outcome, SubmitRefusal};
 use aoe_net::NetRefusal;
 use aoe_script::Name;
-use aoe_sim_hosts::NamedHost;
+use aoe_sim_hosts::SimHost;
 use std::alloc::Global;
 use std::test::Fail;
 
@@ -44,18 +44,18 @@ fn one(port: Mac) -> Ports
 }
 
 /// The host, attached to the device.
-fn attached(alloc: Global) -> Result<NamedHost, NoMemory>
+fn attached(alloc: Global) -> Result<SimHost, NoMemory>
     ensures device { IfOk result (λ x. is_some
         (position (λ d. same_id d.about.id DEVICE) x.core.devices) ≡ true) }
     ensures tickets { IfOk result (λ x. x.core.last_ticket ≡ 0) }
 {
-    let mut host = NamedHost::new(alloc, name(), &one(A), LIFETIMES, 4, DEAD)?;
+    let mut host = SimHost::new(alloc, name(), &one(A), LIFETIMES, 4, DEAD)?;
     host.attach(DEVICE, &one(SHELF), 16, 2)?;
     Ok(host)
 }
 
 /// Submits the host's first command.
-fn submit(host: &mut NamedHost, run: &mut Run, op: Op) -> Result<(), NoMemory>
+fn submit(host: &mut SimHost, run: &mut Run, op: Op) -> Result<(), NoMemory>
     requires can { CanSubmit op }
     requires device { is_some (position (λ d. same_id d.about.id DEVICE) host.old.core.devices)
         ≡ true }
@@ -64,12 +64,12 @@ fn submit(host: &mut NamedHost, run: &mut Run, op: Op) -> Result<(), NoMemory>
     host.submit(run, DEVICE, op)
 }
 
-fn turn(host: &mut NamedHost, run: &mut Run) -> Result<(), NetRefusal> {
+fn turn(host: &mut SimHost, run: &mut Run) -> Result<(), NetRefusal> {
     let mut out = Frame::new();
     host.turn(run, &mut out)
 }
 
-fn take(host: &mut NamedHost, run: &mut Run) -> Result<(), NoMemory> {
+fn take(host: &mut SimHost, run: &mut Run) -> Result<(), NoMemory> {
     host.take(run, FrameNo(2), &FLUSHED)
 }
 
@@ -106,7 +106,7 @@ fn is_flushed(entry: &Entry) -> bool {
 }
 
 /// The host asks for a flush, and gets its response twice.
-fn flush(host: &mut NamedHost, run: &mut Run) -> Result<(), Fail>
+fn flush(host: &mut SimHost, run: &mut Run) -> Result<(), Fail>
     requires device { is_some (position (λ d. same_id d.about.id DEVICE) host.old.core.devices)
         ≡ true }
     requires tickets { host.old.core.last_ticket ≡ 0 }
@@ -131,7 +131,7 @@ fn has_one_end(history: &History) -> bool {
 }
 
 /// Whether two responses to a flush end it once.
-fn ends_once(host: &mut NamedHost, run: &mut Run) -> Result<bool, Fail>
+fn ends_once(host: &mut SimHost, run: &mut Run) -> Result<bool, Fail>
     requires device { is_some (position (λ d. same_id d.about.id DEVICE) host.old.core.devices)
         ≡ true }
     requires tickets { host.old.core.last_ticket ≡ 0 }
@@ -148,7 +148,7 @@ fn has_empty(history: &History) -> bool {
 }
 
 /// Whether an empty read is refused.
-fn refuses_empty(host: &mut NamedHost, run: &mut Run) -> Result<bool, Fail>
+fn refuses_empty(host: &mut SimHost, run: &mut Run) -> Result<bool, Fail>
     requires device { is_some (position (λ d. same_id d.about.id DEVICE) host.old.core.devices)
         ≡ true }
     requires tickets { host.old.core.last_ticket ≡ 0 }

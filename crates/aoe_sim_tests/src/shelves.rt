@@ -6,7 +6,7 @@ use aoe_frame::Frame;
 use aoe_history::{Entry, Fate, History, Run};
 use aoe_initiator::LIFETIMES;
 use aoe_script::Which;
-use aoe_sim_shelves::MemoryRack;
+use aoe_sim_shelves::SimShelf;
 use aoe_target::Effect;
 use std::alloc::Global;
 use std::test::Fail;
@@ -27,33 +27,33 @@ fn set_all() -> Frame {
 }
 
 /// The shelf 1 with the targets 1.7 and 1.3, of 16 sectors each. The second has a cache.
-fn shelf_of_two(alloc: Global) -> Result<MemoryRack, Fail>
+fn shelf_of_two(alloc: Global) -> Result<SimShelf, Fail>
     ensures { IfOk result (λ x. length x.shelf.targets ≡ 2) }
 {
     let mut ports = Ports::new();
     ports.push(PORT);
-    let mut rack = MemoryRack::new(alloc, 1, ports, 1500)?;
-    rack.add(alloc, 7, 16, None, false)?;
-    rack.add(alloc, 3, 16, Some(4), false)?;
-    Ok(rack)
+    let mut shelf = SimShelf::new(alloc, 1, ports, 1500)?;
+    shelf.add(alloc, 7, 16, None, false)?;
+    shelf.add(alloc, 3, 16, Some(4), false)?;
+    Ok(shelf)
 }
 
 /// Hands over the frame of this number.
 fn arrive(
-    rack: &mut MemoryRack,
+    shelf: &mut SimShelf,
     run: &mut Run,
     number: FrameNo,
     frame: &Frame,
 ) -> Result<Frame, Fail> {
     let mut out = Frame::new();
-    rack.arrive(run, number, frame.as_slice(), &mut out)?;
+    shelf.arrive(run, number, frame.as_slice(), &mut out)?;
     Ok(out)
 }
 
 /// Hands a new frame over, and gives the last reply.
-fn asked(rack: &mut MemoryRack, run: &mut Run, frame: &Frame) -> Result<Frame, Fail> {
+fn asked(shelf: &mut SimShelf, run: &mut Run, frame: &Frame) -> Result<Frame, Fail> {
     run.inject(frame.as_slice())?;
-    arrive(rack, run, FrameNo(run.frames()), frame)
+    arrive(shelf, run, FrameNo(run.frames()), frame)
 }
 
 /// All that happened is so many things, of which so many are frames.
@@ -84,18 +84,18 @@ fn has_answers(history: &History) -> bool {
 }
 
 /// Whether both targets of the shelf answer a frame.
-fn answers(rack: &mut MemoryRack, run: &mut Run) -> Result<bool, Fail> {
-    asked(rack, run, &set_all())?;
+fn answers(shelf: &mut SimShelf, run: &mut Run) -> Result<bool, Fail> {
+    asked(shelf, run, &set_all())?;
     let answered = has(run, 3, 3) && has_answers(run.history());
-    Ok(answered && rack.count() == 2 && rack.major() == 1)
+    Ok(answered && shelf.count() == 2 && shelf.major() == 1)
 }
 
 /// Arms the keeps of both targets: the power is lost in an edit of the first.
-fn arm_both(rack: &mut MemoryRack, run: &mut Run) -> Result<(), NoMemory>
-    requires { length rack.old.shelf.targets ≡ 2 }
+fn arm_both(shelf: &mut SimShelf, run: &mut Run) -> Result<(), NoMemory>
+    requires { length shelf.old.shelf.targets ≡ 2 }
 {
-    rack.arm(run, 0, Which::Keep, 6, Some(Loss::Old))?;
-    rack.arm(run, 1, Which::Keep, 1, None)
+    shelf.arm(run, 0, Which::Keep, 6, Some(Loss::Old))?;
+    shelf.arm(run, 1, Which::Keep, 1, None)
 }
 
 fn is_cut(entry: &Entry) -> bool {
@@ -127,14 +127,14 @@ fn has_stop(history: &History) -> bool {
 
 /// Whether a stop in an edit of the target 1.7 cuts a frame, which both answer when it comes again:
 /// they are mounted again, and 1.3 isn't armed any more.
-fn stops_once(rack: &mut MemoryRack, run: &mut Run) -> Result<bool, Fail>
-    requires { length rack.old.shelf.targets ≡ 2 }
+fn stops_once(shelf: &mut SimShelf, run: &mut Run) -> Result<bool, Fail>
+    requires { length shelf.old.shelf.targets ≡ 2 }
 {
     let frame = set_all();
-    arm_both(rack, run)?;
-    asked(rack, run, &frame)?;
+    arm_both(shelf, run)?;
+    asked(shelf, run, &frame)?;
     let stopped = has(run, 6, 1) && has_stop(run.history());
-    arrive(rack, run, FrameNo(1), &frame)?;
+    arrive(shelf, run, FrameNo(1), &frame)?;
     Ok(stopped && has(run, 8, 3))
 }
 
@@ -147,11 +147,11 @@ enum Course {
 
 /// Whether a new shelf does so.
 fn does(alloc: Global, course: Course) -> Result<bool, Fail> {
-    let mut rack = shelf_of_two(alloc)?;
+    let mut shelf = shelf_of_two(alloc)?;
     let mut run = Run::new(alloc, LIFETIMES);
     match course {
-        Course::Answers => answers(&mut rack, &mut run),
-        Course::StopsOnce => stops_once(&mut rack, &mut run),
+        Course::Answers => answers(&mut shelf, &mut run),
+        Course::StopsOnce => stops_once(&mut shelf, &mut run),
     }
 }
 

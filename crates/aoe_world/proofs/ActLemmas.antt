@@ -20,11 +20,11 @@ use Rattle.aoe_history.specs.Setup.{is_called, is_port, is_slot, shelf_of, HostS
 use Rattle.arrayvec.specs.ArrayVec.{ArrayVec}
 use Rattle.aoe_sim_hosts.proofs.Apart.{awaits-settled, awaits-ticked}
 use Rattle.aoe_sim_hosts.proofs.Called.{is-called}
-use Rattle.aoe_sim_hosts.specs.Host.{is_apart as is_apart_of_host, Awaits, IsSettled, NamedHost}
+use Rattle.aoe_sim_hosts.specs.Host.{is_apart as is_apart_of_host, Awaits, IsSettled, SimHost}
 use Rattle.aoe_net.specs.declared.refusal.NetRefusal.{NetRefusal}
 use Rattle.aoe_net.specs.declared.refusal.NetRefusal.TheVariants.{Full, NoMemory}
 use Rattle.aoe_net.specs.Network.{IsFull}
-use Rattle.aoe_sim_shelves.specs.Rack.{is_apart as is_apart_of_slots, MemoryRack, Serves}
+use Rattle.aoe_sim_shelves.specs.Shelf.{is_apart as is_apart_of_slots, SimShelf, Serves}
 use Rattle.aoe_history.specs.Run.{network_of, with_entry, MeetsFull}
 use Rattle.aoe_history.proofs.FullLemmas.{full-more}
 use Rattle.aoe_world.proofs.AddsLemmas.{adds-entry, Adds, SpeaksOf}
@@ -69,7 +69,7 @@ no-turn : (s : Setup) (hosts : List HostSetup) (got : Option Got) (h : List Entr
 no-turn s [] got h called = refl
 no-turn s (host ∷ hosts) got h called = let c = called 0 host refl in inl (c.0, c.1, inl refl)
 
-hosts-called : {s : Setup} {h : List Entry} {hosts : List NamedHost} → AllSettled s h hosts → (i : ℕ) (host : HostSetup) → slice_get s.hosts i ≡ Some host
+hosts-called : {s : Setup} {h : List Entry} {hosts : List SimHost} → AllSettled s h hosts → (i : ℕ) (host : HostSetup) → slice_get s.hosts i ≡ Some host
     → (name : ArrayVec ℕ) × (is_called host name ≡ true)
 hosts-called {s} {hosts = hosts} k i host there =
     let x = there-is hosts i (omega (arith, slice_get_within s.hosts i host there, k.count)) in
@@ -77,7 +77,7 @@ hosts-called {s} {hosts = hosts} k i host there =
 
 -- THE STATIONS IN AN ACT
 
-pub hosts-wait : {s : Setup} {h m : List Entry} {hosts : List NamedHost} → ((host : HostSetup) (x : NamedHost) → IsSettled s host h x → Awaits s host None m x)
+pub hosts-wait : {s : Setup} {h m : List Entry} {hosts : List SimHost} → ((host : HostSetup) (x : SimHost) → IsSettled s host h x → Awaits s host None m x)
     → AllSettled s h hosts → HadTurns s None m 0 hosts
 hosts-wait wait k = record {
   count = k.count;
@@ -86,7 +86,7 @@ hosts-wait wait k = record {
 }
 
 -- entries that say nothing of the hosts
-pub hosts-after : {s : Setup} {h m : List Entry} {hosts : List NamedHost} → ((host : HostSetup) → Adds (is_apart_of_host host) h m) → AllSettled s h hosts
+pub hosts-after : {s : Setup} {h m : List Entry} {hosts : List SimHost} → ((host : HostSetup) → Adds (is_apart_of_host host) h m) → AllSettled s h hosts
     → HadTurns s None m 0 hosts
 hosts-after {s} {m = m} adds k = hosts-wait (λ host x settled. awaits-settled s host m x (settled-adds (adds host) settled)) k
 
@@ -129,7 +129,7 @@ speaks-apart s a b apart = record {
 }
 
 -- one shelf is what the history says, and what came says nothing of the others
-pub one-shelf : {s : Setup} {majors : List ℕ} {h m : List Entry} (i major : ℕ) (x y : MemoryRack) (shelves : List MemoryRack) → IsNetwork s majors
+pub one-shelf : {s : Setup} {majors : List ℕ} {h m : List Entry} (i major : ℕ) (x y : SimShelf) (shelves : List SimShelf) → IsNetwork s majors
     → slice_get majors i ≡ Some major → slice_get shelves i ≡ Some x → ((other : ℕ) → other ≢ major → Adds (is_apart_of_slots (shelf_of s other)) h m)
     → Serves (shelf_of s major) m y → y.shelf.major ≡ x.shelf.major → AllServe s majors h shelves → AllServe s majors m (slice_set shelves i y)
 one-shelf {s} {majors} {m = m} i major x y shelves net em ex adds serves same k = record {
@@ -138,10 +138,10 @@ one-shelf {s} {majors} {m = m} i major x y shelves net em ex adds serves same k 
   each = λ j n z en ez. (all j n z en ez).1;
 }
   where
-    all : (j n : ℕ) (z : MemoryRack) → slice_get majors j ≡ Some n → slice_get (slice_set shelves i y) j ≡ Some z
+    all : (j n : ℕ) (z : SimShelf) → slice_get majors j ≡ Some n → slice_get (slice_set shelves i y) j ≡ Some z
         → (z.shelf.major ≡ n) × Serves (shelf_of s n) m z
     all =
-        set-each majors shelves i major y (λ j n (z : MemoryRack). (z.shelf.major ≡ n) × Serves (shelf_of s n) m z) em (same ∙ k.number i major x em ex, serves)
+        set-each majors shelves i major y (λ j n (z : SimShelf). (z.shelf.major ≡ n) × Serves (shelf_of s n) m z) em (same ∙ k.number i major x em ex, serves)
         (λ j n z apart en ez. (k.number j n z en ez, serves-adds (adds n (net.majors_differ j i n major en em apart)) (k.each j n z en ez)))
 
 -- ONE ENTRY

@@ -13,7 +13,7 @@ use Rattle.aoe_base.specs.declared.counted.Lifetimes.{Lifetimes}
 use Rattle.aoe_history.specs.Setup.{host_called, HostSetup, IsSetup}
 use Rattle.aoe_sim_hosts.proofs.AddressLemmas.{host-addresses, remote-addresses}
 use Rattle.aoe_sim_hosts.proofs.Apart.{settled-new}
-use Rattle.aoe_sim_hosts.specs.Host.{IsHost, IsSettled, NamedHost}
+use Rattle.aoe_sim_hosts.specs.Host.{IsHost, IsSettled, SimHost}
 use Rattle.aoe_initiator.specs.declared.device.Attached.{Attached}
 use Rattle.aoe_initiator.specs.declared.device.Device.{Device}
 use Rattle.aoe_initiator.specs.Host.{new_host, Matches}
@@ -50,21 +50,21 @@ module _ {script : ScriptLines} (is : IsScript script) where
 
 -- ---- a host with the devices of the first n lines
 
-abbrev pub known_of : NamedHost → List Attached
+abbrev pub known_of : SimHost → List Attached
 known_of x = map (λ (d : Device). d.about) x.core.devices
 
-pub record HostSoFar (lines : List Line) (name : ArrayVec ℕ) (ports : ArrayVec Mac) (life : Lifetimes) (room dead n : ℕ) (x : NamedHost) : Type 0 where
+pub record HostSoFar (lines : List Line) (name : ArrayVec ℕ) (ports : ArrayVec Mac) (life : Lifetimes) (room dead n : ℕ) (x : SimHost) : Type 0 where
   pub rest : x ≡ record { name = name; core = record (new_host ports.items life room dead) { devices = x.core.devices } }
   pub devices : known_of x ≡ filter_map (attached_to lines name) (take n lines)
   pub matches : Matches [] x.core
 
-pub host-begun : {lines : List Line} {name : ArrayVec ℕ} {ports : ArrayVec Mac} {life : Lifetimes} {room dead : ℕ} {x : NamedHost}
+pub host-begun : {lines : List Line} {name : ArrayVec ℕ} {ports : ArrayVec Mac} {life : Lifetimes} {room dead : ℕ} {x : SimHost}
     → x ≡ record { name = name; core = new_host ports.items life room dead } → Matches [] x.core → HostSoFar lines name ports life room dead 0 x
 host-begun e matches = record { rest = rw e; devices = rw e; matches = matches }
 
-module _ {lines : List Line} {name : ArrayVec ℕ} {ports : ArrayVec Mac} {life : Lifetimes} {room dead n : ℕ} {line : Line} {x : NamedHost}
+module _ {lines : List Line} {name : ArrayVec ℕ} {ports : ArrayVec Mac} {life : Lifetimes} {room dead n : ℕ} {line : Line} {x : SimHost}
     (at : slice_get lines n ≡ Some line) (k : HostSoFar lines name ports life room dead n x) where
-  pub host-more : {y : NamedHost} {known : Option Attached} → known ≡ attached_to lines name line → known_of y ≡ known_of x ++ option_to_list known
+  pub host-more : {y : SimHost} {known : Option Attached} → known ≡ attached_to lines name line → known_of y ≡ known_of x ++ option_to_list known
       → y ≡ record x { core = record x.core { devices = y.core.devices } } → ((log : List Event) → Matches log x.core → Matches log y.core)
       → HostSoFar lines name ports life room dead (n + 1) y
   host-more is devices rest matches = record {
@@ -121,12 +121,12 @@ module _ {script : ScriptLines} {name : ArrayVec ℕ} {ports : ArrayVec Mac} {ro
       let p = filtered-at (host_in script.setups) script.setups at (Host name ports room dead) (host_of script.setups name ports.items room dead) there refl in
       (ranges is).hosts p.at _ p.there
 
-  pub host-built : {n : ℕ} {x : NamedHost} → length script.setups ≤ n
+  pub host-built : {n : ℕ} {x : SimHost} → length script.setups ≤ n
       → HostSoFar script.setups name ports (setup_of script.setups).life (unwrap_or room default_room) (unwrap_or dead default_dead) n x
       → IsSettled (setup_of script.setups) (host_of script.setups name ports.items room dead) [] x
   host-built {n} {x} end k =
-      settled-new (setup_of script.setups) host x is-host (ap (λ (z : NamedHost). z.core.clock) k.rest) (ap (λ (z : NamedHost). z.core.last_ticket) k.rest)
-      (ap (λ (z : NamedHost). z.core.waiting) k.rest) k.matches
+      settled-new (setup_of script.setups) host x is-host (ap (λ (z : SimHost). z.core.clock) k.rest) (ap (λ (z : SimHost). z.core.last_ticket) k.rest)
+      (ap (λ (z : SimHost). z.core.waiting) k.rest) k.matches
     where
       host : HostSetup
       host = host_of script.setups name ports.items room dead
@@ -141,12 +141,12 @@ module _ {script : ScriptLines} {name : ArrayVec ℕ} {ports : ArrayVec Mac} {ro
       is-host : IsHost (setup_of script.setups) host x
       is-host = record {
         called =
-            ap (λ (z : NamedHost). host_called (setup_of script.setups) z.name) k.rest
+            ap (λ (z : SimHost). host_called (setup_of script.setups) z.name) k.rest
             ∙ (has-hosts script.setups (are-good script is)).line_called at name ports room dead there;
-        ports = ap (λ (z : NamedHost). z.core.ports) k.rest;
-        life = ap (λ (z : NamedHost). z.core.life) k.rest;
-        room = ap (λ (z : NamedHost). z.core.room) k.rest;
-        dead = ap (λ (z : NamedHost). z.core.dead) k.rest;
+        ports = ap (λ (z : SimHost). z.core.ports) k.rest;
+        life = ap (λ (z : SimHost). z.core.life) k.rest;
+        room = ap (λ (z : SimHost). z.core.room) k.rest;
+        dead = ap (λ (z : SimHost). z.core.dead) k.rest;
         devices = rw (take_all n script.setups end) at k.devices;
         distinct = words-of.ports.distinct;
         remotes = all-at _ host.devices (λ i d e. (words-of.devices i d e).remotes.distinct);
@@ -155,7 +155,7 @@ module _ {script : ScriptLines} {name : ArrayVec ℕ} {ports : ArrayVec Mac} {ro
       }
 
   -- the device of the next line can be attached
-  pub device-can : {n r t : ℕ} {life : Lifetimes} {line : Line} {x : NamedHost} → slice_get script.setups n ≡ Some line → HostSoFar script.setups name ports life r t n x
+  pub device-can : {n r t : ℕ} {life : Lifetimes} {line : Line} {x : SimHost} → slice_get script.setups n ≡ Some line → HostSoFar script.setups name ports life r t n x
       → (known : Option Attached) → known ≡ attached_to script.setups name line → IfSome known (λ d. CanAttach d x.core.devices)
   device-can here k known known-is =
       if-some known (λ d e. host-can here k (host_of script.setups name ports.items room dead) d words-of is.few_setups (sym known-is ∙ e))

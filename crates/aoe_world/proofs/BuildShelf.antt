@@ -13,7 +13,7 @@ use Rattle.aoe_sim_setup.specs.Stations.{IsCache}
 use Rattle.aoe_sim_setup.proofs.GoodLines.{are-good}
 use Rattle.aoe_sim_setup.proofs.RangeLemmas.{is-cache}
 use Rattle.aoe_sim_setup.proofs.SlotLemmas.{has-shelves}
-use Rattle.aoe_sim_shelves.specs.Rack.{MemoryRack, Serves}
+use Rattle.aoe_sim_shelves.specs.Shelf.{SimShelf, Serves}
 use Rattle.aoe_script.specs.declared.setup.Setup.{Setup as Line}
 use Rattle.aoe_script.specs.declared.setup.Setup.TheVariants.{Shelf, Slot}
 use Rattle.aoe_script.specs.Lines.{IsScript, ScriptLines}
@@ -29,17 +29,17 @@ use Rattle.aoe_world.specs.declared.build.NewSlot.{NewSlot}
 abbrev pub stations_of_slots : List SlotSetup → List Station
 stations_of_slots slots = map (λ (s : SlotSetup). s.station) slots
 
-abbrev pub stations_of_shelf : MemoryRack → List Station
+abbrev pub stations_of_shelf : SimShelf → List Station
 stations_of_shelf x = map (λ (t : Mounted (AnyStore Memory) Memory). t.station) x.shelf.targets
 
 -- a shelf with the slots of the first n lines
-pub record ShelfSoFar (lines : List Line) (name : ArrayVec ℕ) (major : ℕ) (ports : ArrayVec Mac) (mtu n : ℕ) (x : MemoryRack) : Type 0 where
+pub record ShelfSoFar (lines : List Line) (name : ArrayVec ℕ) (major : ℕ) (ports : ArrayVec Mac) (mtu n : ℕ) (x : SimShelf) : Type 0 where
   pub words : x.shelf ≡ record { major = major; ports = ports.items; mtu = mtu; targets = x.shelf.targets }
   pub stations : stations_of_shelf x ≡ stations_of_slots (filter_map (slot_of_shelf lines name major ports.items mtu) (take n lines))
   pub serves : Serves (filter_map (slot_of_shelf lines name major ports.items mtu) (take n lines)) [] x
 
 -- the slot that a line declares, as one of this shelf
-abbrev pub slot-given : MemoryRack → Option NewSlot → Option SlotSetup
+abbrev pub slot-given : SimShelf → Option NewSlot → Option SlotSetup
 slot-given x slot = option_map (λ (z : NewSlot). slot_with x.shelf.major x.shelf.ports x.shelf.mtu z.minor z.sectors z.room z.read_only) slot
 
 and-true : (b : Bool) → (b && true) ≡ b
@@ -67,14 +67,14 @@ minors-are all name major ports mtu minor (Slot other number sectors room ∷ li
     go false marked slots more = rw (and-false (number == minor)) more
 minors-are all name major ports mtu minor (line ∷ lines) = minors-are all name major ports mtu minor lines
 
-pub shelf-begun : {lines : List Line} {name : ArrayVec ℕ} {major : ℕ} {ports : ArrayVec Mac} {mtu : ℕ} {x : MemoryRack}
+pub shelf-begun : {lines : List Line} {name : ArrayVec ℕ} {major : ℕ} {ports : ArrayVec Mac} {mtu : ℕ} {x : SimShelf}
     → x ≡ record { shelf = record { major = major; ports = ports.items; mtu = mtu; targets = [] }; stops = [] } → Serves [] [] x
     → ShelfSoFar lines name major ports mtu 0 x
 shelf-begun e serves = record { words = rw e; stations = rw e; serves = serves }
 
-module _ {lines : List Line} {name : ArrayVec ℕ} {major : ℕ} {ports : ArrayVec Mac} {mtu n : ℕ} {line : Line} {x : MemoryRack}
+module _ {lines : List Line} {name : ArrayVec ℕ} {major : ℕ} {ports : ArrayVec Mac} {mtu n : ℕ} {line : Line} {x : SimShelf}
     (at : slice_get lines n ≡ Some line) (k : ShelfSoFar lines name major ports mtu n x) where
-  pub shelf-more : (y : MemoryRack) (given : Option SlotSetup) → slot_of_shelf lines name x.shelf.major x.shelf.ports x.shelf.mtu line ≡ given
+  pub shelf-more : (y : SimShelf) (given : Option SlotSetup) → slot_of_shelf lines name x.shelf.major x.shelf.ports x.shelf.mtu line ≡ given
       → ((before : List SlotSetup) → Serves before [] x → Serves (before ++ option_to_list given) [] y)
       → stations_of_shelf y ≡ stations_of_shelf x ++ stations_of_slots (option_to_list given)
       → y.shelf ≡ record x.shelf { targets = y.shelf.targets } → ShelfSoFar lines name major ports mtu (n + 1) y
@@ -116,7 +116,7 @@ module _ {script : ScriptLines} {name : ArrayVec ℕ} {major : ℕ} {ports : Arr
   shelf-words = let good = (are-good script is).shelf at name major ports mtu there in (good.number, good.ports_are.some, good.least, good.most)
 
   -- the slot of the next line can be added
-  pub slot-can : {n : ℕ} {line : Line} {x : MemoryRack} → slice_get script.setups n ≡ Some line → ShelfSoFar script.setups name major ports mtu n x
+  pub slot-can : {n : ℕ} {line : Line} {x : SimShelf} → slice_get script.setups n ≡ Some line → ShelfSoFar script.setups name major ports mtu n x
       → (slot : Option NewSlot) → IfSome slot (λ z. line ≡ Slot name z.minor z.sectors z.room)
       → slot_of_shelf script.setups name major ports.items mtu line
       ≡ option_map (λ (z : NewSlot). slot_with major ports.items mtu z.minor z.sectors z.room z.read_only) slot
@@ -127,7 +127,7 @@ module _ {script : ScriptLines} {name : ArrayVec ℕ} {major : ℕ} {ports : Arr
       shelf-can here k z.minor z.sectors z.room z.read_only good.number good.most (is-cache z.room good.cache) good.new given
       ((has-shelves script.setups (are-good script is)).few at name major ports mtu there)
 
-  pub shelf-built : {n : ℕ} {x : MemoryRack} → length script.setups ≤ n → ShelfSoFar script.setups name major ports mtu n x
+  pub shelf-built : {n : ℕ} {x : SimShelf} → length script.setups ≤ n → ShelfSoFar script.setups name major ports mtu n x
       → Serves (shelf_of (setup_of script.setups) major) [] x
   shelf-built {n} end k =
       rw ((has-shelves script.setups (are-good script is)).all at name major ports mtu there) (rw (take_all n script.setups end) at k.serves)

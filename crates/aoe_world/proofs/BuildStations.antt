@@ -6,11 +6,11 @@ use Rattle.arrayvec.specs.ArrayVec.{ArrayVec}
 use Rattle.aoe_base.specs.declared.address.Mac.{Mac}
 use Rattle.aoe_history.specs.Groups.{Station as station}
 use Rattle.aoe_history.specs.Setup.{shelf_of, HostSetup, IsSetup}
-use Rattle.aoe_sim_hosts.specs.Host.{IsSettled, NamedHost}
+use Rattle.aoe_sim_hosts.specs.Host.{IsSettled, SimHost}
 use Rattle.aoe_sim_setup.specs.Layout.{host_in, host_of, major_in, majors_of, placed, setup_of, stations_of, Placed}
 use Rattle.aoe_sim_setup.specs.Stations.{HasHosts, HasShelves}
 use Rattle.aoe_sim_setup.proofs.LineLemmas.{same-self}
-use Rattle.aoe_sim_shelves.specs.Rack.{MemoryRack, Serves}
+use Rattle.aoe_sim_shelves.specs.Shelf.{SimShelf, Serves}
 use Rattle.aoe_script.specs.declared.setup.Setup.{Setup as Line}
 use Rattle.aoe_script.specs.declared.setup.Setup.TheVariants.{Life, Shelf, Slot, Host, Attach, Readonly}
 use Rattle.aoe_script.specs.Lines.{IsScript, ScriptLines}
@@ -49,7 +49,7 @@ module _ {lines : List Line} {n : ℕ} {line : Line} {sim : Sim} {places : List 
   built-past (inr (inr (inr (x, y, e)))) = built-on (rw e) (rw e) (rw e)
 
   module _ {later : Sim} {there : List Place} (run : later.run ≡ sim.run) where
-    pub built-shelf : {name : ArrayVec ℕ} {major : ℕ} {ports : ArrayVec Mac} {mtu : ℕ} {x : MemoryRack} → line ≡ Shelf name major ports mtu
+    pub built-shelf : {name : ArrayVec ℕ} {major : ℕ} {ports : ArrayVec Mac} {mtu : ℕ} {x : SimShelf} → line ≡ Shelf name major ports mtu
         → x.shelf.major ≡ major → Serves (shelf_of (setup_of lines) major) [] x
         → later.hosts ≡ sim.hosts → later.shelves.items ≡ sim.shelves.items ++ (x ∷ [])
         → there ≡ places ++ (record { name = name; ports = ports; at = at.Shelf (length sim.shelves.items) } ∷ []) → IsBuilt lines (n + 1) later there
@@ -67,7 +67,7 @@ module _ {lines : List Line} {n : ℕ} {line : Line} {sim : Sim} {places : List 
         stands : slice_get (majors_of lines) (length sim.shelves.items) ≡ Some major
         stands = rw k.shelves_are.count (at-own major_in lines n line major here (rw is))
 
-    pub built-host : {name : ArrayVec ℕ} {ports : ArrayVec Mac} {room dead : Option ℕ} {x : NamedHost} → line ≡ Host name ports room dead
+    pub built-host : {name : ArrayVec ℕ} {ports : ArrayVec Mac} {room dead : Option ℕ} {x : SimHost} → line ≡ Host name ports room dead
         → IsSettled (setup_of lines) (host_of lines name ports.items room dead) [] x
         → later.shelves ≡ sim.shelves → later.hosts.items ≡ sim.hosts.items ++ (x ∷ [])
         → there ≡ places ++ (record { name = name; ports = ports; at = at.Host (length sim.hosts.items) } ∷ []) → IsBuilt lines (n + 1) later there

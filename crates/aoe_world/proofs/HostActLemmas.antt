@@ -17,10 +17,10 @@ use Rattle.aoe_history.specs.Setup.{is_called, HostSetup, Setup, SlotSetup}
 use Rattle.aoe_history.proofs.LogicLemmas.{untrue}
 use Rattle.aoe_sim_hosts.proofs.Apart.{awaits-other, awaits-settled}
 use Rattle.aoe_sim_hosts.proofs.Called.{is-called}
-use Rattle.aoe_sim_hosts.specs.Host.{is_apart as is_apart_of_host, Awaits, IsSettled, NamedHost}
+use Rattle.aoe_sim_hosts.specs.Host.{is_apart as is_apart_of_host, Awaits, IsSettled, SimHost}
 use Rattle.aoe_initiator.specs.declared.op.Op.{Op}
 use Rattle.aoe_initiator.specs.declared.refusal.SubmitRefusal.{SubmitRefusal}
-use Rattle.aoe_sim_shelves.specs.Rack.{is_apart as is_apart_of_slots}
+use Rattle.aoe_sim_shelves.specs.Shelf.{is_apart as is_apart_of_slots}
 use Rattle.aoe_world.proofs.AddsLemmas.{adds-entry, takes-adds, Adds}
 use Rattle.aoe_world.proofs.ListLemmas.{set-each}
 use Rattle.aoe_world.proofs.TurnLemmas.{settled-adds, shelves-after}
@@ -53,12 +53,12 @@ submit-adds s host name dev op None a b is = adds-entry (a _) is
 submit-adds s host name dev op (Some refusal) a b is = adds-entry (b refusal) is
 
 -- a host of this name, before and after it did something
-module _ {s : Setup} {majors : List ℕ} {host : HostSetup} (name : ArrayVec ℕ) (i : ℕ) (x y : NamedHost) (old new : Sim)
+module _ {s : Setup} {majors : List ℕ} {host : HostSetup} (name : ArrayVec ℕ) (i : ℕ) (x y : SimHost) (old new : Sim)
     (net : IsNetwork s majors) (k : IsReady s majors old) (at : slice_get s.hosts i ≡ Some host) (called : is_called host name ≡ true)
     (there : slice_get old.hosts.items i ≡ Some x) (life : new.run.life ≡ old.run.life)
     (hosts : new.hosts.items ≡ slice_set old.hosts.items i y) (shelves : new.shelves ≡ old.shelves) where
   -- what another host waits for is no response of this one
-  others-wait : (got : Option Got) (other : HostSetup) (m : List Entry) (z : NamedHost) → is_called other name ≡ false → IsMine host got → IsSettled s other m z
+  others-wait : (got : Option Got) (other : HostSetup) (m : List Entry) (z : SimHost) → is_called other name ≡ false → IsMine host got → IsSettled s other m z
       → Awaits s other got m z
   others-wait None other m z apart mine settled = awaits-settled s other m z settled
   others-wait (Some got) other m z apart mine settled =
@@ -79,7 +79,7 @@ module _ {s : Setup} {majors : List ℕ} {host : HostSetup} (name : ArrayVec ℕ
     shelves_are = rw shelves (shelves-after of-slots k.shelves_are);
   }
     where
-      waits : (j : ℕ) (other : HostSetup) (z : NamedHost) → slice_get s.hosts j ≡ Some other → slice_get (slice_set old.hosts.items i y) j ≡ Some z
+      waits : (j : ℕ) (other : HostSetup) (z : SimHost) → slice_get s.hosts j ≡ Some other → slice_get (slice_set old.hosts.items i y) j ≡ Some z
           → Awaits s other got new.run.entries z
       waits = set-each s.hosts old.hosts.items i host y (λ j other z. Awaits s other got new.run.entries z) at done
           (λ j other z apart ej ez.

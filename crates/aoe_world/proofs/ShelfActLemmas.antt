@@ -17,7 +17,7 @@ use Rattle.aoe_history.specs.Setup.{shelf_of, AreSlots, HostSetup, Setup, SlotSe
 use Rattle.aoe_net.specs.declared.refusal.NetRefusal.{NetRefusal}
 use Rattle.aoe_net.specs.declared.refusal.NetRefusal.TheVariants.{Full}
 use Rattle.aoe_sim_hosts.specs.Host.{is_apart as is_apart_of_host}
-use Rattle.aoe_sim_shelves.specs.Rack.{is_apart as is_apart_of_slots, MemoryRack, Serves}
+use Rattle.aoe_sim_shelves.specs.Shelf.{is_apart as is_apart_of_slots, SimShelf, Serves}
 use Rattle.aoe_script.specs.declared.event.Which.{Which}
 use Rattle.aoe_target.specs.Mounted.{Mounted}
 use Rattle.aoe_world.proofs.ActLemmas.{apart-slot, hosts-after, left-more, one-shelf, speaks-apart}
@@ -30,12 +30,12 @@ abbrev pub Target : Type 0
 Target = Mounted (AnyStore Memory) Memory
 
 -- what is said of a frame that comes to a shelf, for each history with which it agrees
-abbrev pub OfArrival : ℕ → List ℕ → MemoryRack → List Entry → (Setup → List SlotSetup → Type 0) → Type 0
+abbrev pub OfArrival : ℕ → List ℕ → SimShelf → List Entry → (Setup → List SlotSetup → Type 0) → Type 0
 OfArrival number f x h P =
     (z : Setup) (slots : List SlotSetup) → AreSlots z slots → Serves slots h x → IsLawful z h → arriving z.life h number ≡ Some f → P z slots
 
 -- a target is that of its slot
-pub slot-at : {slots : List SlotSetup} {h : List Entry} {x : MemoryRack} → Serves slots h x → (j : ℕ) (t : Target)
+pub slot-at : {slots : List SlotSetup} {h : List Entry} {x : SimShelf} → Serves slots h x → (j : ℕ) (t : Target)
     → slice_get x.shelf.targets j ≡ Some t → (slot : SlotSetup) × (slice_get slots j ≡ Some slot) × (t.station ≡ slot.station)
 slot-at {slots} {x = x} serves j t e =
     let w = slice_get_within x.shelf.targets j t e in
@@ -44,7 +44,7 @@ slot-at {slots} {x = x} serves j t e =
     (slot.0, slot.1, (serves.each j slot.0 t stops.0 slot.1 e stops.1).station)
 
 -- a shelf before and after something came of it
-module _ {s : Setup} {majors : List ℕ} (i major : ℕ) (x y : MemoryRack) (old new : Sim) (net : IsNetwork s majors) (k : IsReady s majors old)
+module _ {s : Setup} {majors : List ℕ} (i major : ℕ) (x y : SimShelf) (old new : Sim) (net : IsNetwork s majors) (k : IsReady s majors old)
     (em : slice_get majors i ≡ Some major) (ex : slice_get old.shelves.items i ≡ Some x) (life : new.run.life ≡ old.run.life) (hosts : new.hosts ≡ old.hosts)
     (shelves : new.shelves.items ≡ slice_set old.shelves.items i y) (same : y.shelf.major ≡ x.shelf.major) where
   turning-shelf : IsLawful s new.run.entries → Serves (shelf_of s major) new.run.entries y

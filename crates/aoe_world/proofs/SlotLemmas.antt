@@ -9,7 +9,7 @@ use Rattle.aoe_history.specs.Setup.{shelf_of, Setup, SlotSetup}
 use Rattle.aoe_history.proofs.LogicLemmas.{not-both}
 use Rattle.aoe_sim_setup.proofs.ListLemmas.{place-of}
 use Rattle.aoe_script.specs.declared.setup.Setup.{Setup as Line}
-use Rattle.aoe_sim_shelves.specs.Rack.{MemoryRack, Serves}
+use Rattle.aoe_sim_shelves.specs.Shelf.{SimShelf, Serves}
 use Rattle.aoe_sim_setup.specs.Stations.{IsThere}
 use Rattle.aoe_world.specs.declared.sim.Sim.{Sim}
 use Rattle.aoe_world.specs.Acts.{id_at, CanArm}
@@ -19,15 +19,15 @@ use Rattle.aoe_world.proofs.ShelfActLemmas.{slot-at, Target}
 use Rattle.aoe_initiator.proofs.ListLemmas.{get-there as there, not-placed, placed, Contains-get}
 
 -- a shelf has the number of the device
-abbrev pub has_number : TargetId → MemoryRack → Bool
+abbrev pub has_number : TargetId → SimShelf → Bool
 has_number dev x = nat_eq x.shelf.major dev.major
 
 -- none of its targets has the minor of the device
-abbrev pub HasNone : TargetId → MemoryRack → Type 0
+abbrev pub HasNone : TargetId → SimShelf → Type 0
 HasNone dev x = (j : ℕ) → IfSome (slice_get x.shelf.targets j) (λ t. t.station.id.minor ≢ dev.minor)
 
 -- one of the targets that serve the device's slots is the device
-pub one-is : {lines : List Line} {s : Setup} {dev : TargetId} {h : List Entry} {x : MemoryRack} → IsThere lines s dev → Serves (shelf_of s dev.major) h x
+pub one-is : {lines : List Line} {s : Setup} {dev : TargetId} {h : List Entry} {x : SimShelf} → IsThere lines s dev → Serves (shelf_of s dev.major) h x
     → HasNone dev x → ⊥
 one-is {s = s} {dev = dev} {x = x} is serves none =
     let p = place-of (shelf_of s dev.major) is.slot is.inside in
@@ -38,7 +38,7 @@ one-is {s = s} {dev = dev} {x = x} is serves none =
     differ (rw ((serves.each p.at is.slot t.0 stops.0 p.there t.1 stops.1).station, is.called))
 
 -- the target with its minor is the device
-pub is-device : {h : List Entry} {x : MemoryRack} (s : Setup) (dev : TargetId) (j : ℕ) (t : Target)
+pub is-device : {h : List Entry} {x : SimShelf} (s : Setup) (dev : TargetId) (j : ℕ) (t : Target)
     → Serves (shelf_of s dev.major) h x → slice_get x.shelf.targets j ≡ Some t → t.station.id.minor ≡ dev.minor → t.station.id ≡ dev
 is-device s dev j t serves et minor =
     let slot = slot-at serves j t et in
@@ -48,7 +48,7 @@ is-device s dev j t serves et minor =
 
 module _ {s : Setup} {majors : List ℕ} {sim : Sim} (ready : IsReady s majors sim) where
   -- the shelf that is found by the device's number serves its slots
-  pub serves-slots : (dev : TargetId) (i : ℕ) (x : MemoryRack) → position (has_number dev) sim.shelves.items ≡ Some i → slice_get sim.shelves.items i ≡ Some x
+  pub serves-slots : (dev : TargetId) (i : ℕ) (x : SimShelf) → position (has_number dev) sim.shelves.items ≡ Some i → slice_get sim.shelves.items i ≡ Some x
       → Serves (shelf_of s dev.major) sim.run.entries x
   serves-slots dev i x e ex =
       let m = there majors i (omega (arith, slice_get_within sim.shelves.items i x ex, ready.shelves_are.count)) in
@@ -65,7 +65,7 @@ module _ {s : Setup} {majors : List ℕ} {sim : Sim} (ready : IsReady s majors s
       (not-placed (has_number dev) sim.shelves.items x.0 e (Contains-get sim.shelves.items p.at x.0 x.1))
 
   -- the target at a place has the name of its slot
-  pub id-at : (i j : ℕ) (x : MemoryRack) (t : Target) → slice_get sim.shelves.items i ≡ Some x → slice_get x.shelf.targets j ≡ Some t
+  pub id-at : (i j : ℕ) (x : SimShelf) (t : Target) → slice_get sim.shelves.items i ≡ Some x → slice_get x.shelf.targets j ≡ Some t
       → id_at s majors i j ≡ t.station.id
   id-at i j x t ex et =
       let m = there majors i (omega (arith, slice_get_within sim.shelves.items i x ex, ready.shelves_are.count)) in

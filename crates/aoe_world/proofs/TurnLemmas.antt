@@ -9,11 +9,11 @@ use Rattle.aoe_history.specs.Groups.{Got, Turn, Turns, TurnSome, TurnsSome}
 use Rattle.aoe_history.specs.Lawful.{IsLawful}
 use Rattle.aoe_history.specs.Setup.{is_called, shelf_of, HostSetup, Setup, SlotSetup}
 use Rattle.aoe_sim_hosts.proofs.Apart.{awaits-apart, settled-apart}
-use Rattle.aoe_sim_hosts.specs.Host.{is_apart as is_apart_of_host, Awaits, IsSettled, NamedHost}
+use Rattle.aoe_sim_hosts.specs.Host.{is_apart as is_apart_of_host, Awaits, IsSettled, SimHost}
 use Rattle.aoe_net.specs.declared.refusal.NetRefusal.{NetRefusal}
 use Rattle.aoe_net.specs.declared.refusal.NetRefusal.TheVariants.{Full}
 use Rattle.aoe_sim_shelves.proofs.Apart.{serves-apart}
-use Rattle.aoe_sim_shelves.specs.Rack.{is_apart as is_apart_of_slots, MemoryRack, Serves}
+use Rattle.aoe_sim_shelves.specs.Shelf.{is_apart as is_apart_of_slots, SimShelf, Serves}
 use Rattle.aoe_history.specs.Run.{MeetsFull}
 use Rattle.aoe_history.proofs.FullLemmas.{full-more}
 use Rattle.aoe_world.proofs.AddsLemmas.{adds-keep, turn-adds, Adds}
@@ -40,18 +40,18 @@ turns-some s (o ∷ hosts) (suc i) host got h n m e (k, first, rest) turn = inr 
 
 -- WHAT ENTRIES LEAVE THAT SAY NOTHING OF A STATION
 
-pub settled-adds : {s : Setup} {host : HostSetup} {x : NamedHost} {h m : List Entry} → Adds (is_apart_of_host host) h m → IsSettled s host h x
+pub settled-adds : {s : Setup} {host : HostSetup} {x : SimHost} {h m : List Entry} → Adds (is_apart_of_host host) h m → IsSettled s host h x
     → IsSettled s host m x
 settled-adds {s} {host} {x} a k = adds-keep (is_apart_of_host host) (λ n. IsSettled s host n x) (λ e n t z. settled-apart s host e n x t z) _ _ a k
 
-awaits-adds : {s : Setup} {host : HostSetup} {got : Option Got} {x : NamedHost} {h m : List Entry} → Adds (is_apart_of_host host) h m → Awaits s host got h x
+awaits-adds : {s : Setup} {host : HostSetup} {got : Option Got} {x : SimHost} {h m : List Entry} → Adds (is_apart_of_host host) h m → Awaits s host got h x
     → Awaits s host got m x
 awaits-adds {s} {host} {got} {x} a k = adds-keep (is_apart_of_host host) (λ n. Awaits s host got n x) (λ e n t z. awaits-apart s host got e n x t z) _ _ a k
 
-pub serves-adds : {slots : List SlotSetup} {x : MemoryRack} {h m : List Entry} → Adds (is_apart_of_slots slots) h m → Serves slots h x → Serves slots m x
+pub serves-adds : {slots : List SlotSetup} {x : SimShelf} {h m : List Entry} → Adds (is_apart_of_slots slots) h m → Serves slots h x → Serves slots m x
 serves-adds {slots} {x} a k = adds-keep (is_apart_of_slots slots) (λ n. Serves slots n x) (λ e n t z. serves-apart slots e n x t z) _ _ a k
 
-pub shelves-after : {s : Setup} {majors : List ℕ} {h m : List Entry} {shelves : List MemoryRack}
+pub shelves-after : {s : Setup} {majors : List ℕ} {h m : List Entry} {shelves : List SimShelf}
     → ((slots : List SlotSetup) → Adds (is_apart_of_slots slots) h m) → AllServe s majors h shelves → AllServe s majors m shelves
 shelves-after {s} adds k =
     record { count = k.count; number = k.number; each = λ i major x em ex. serves-adds (adds (shelf_of s major)) (k.each i major x em ex) }
@@ -67,7 +67,7 @@ module _ {s : Setup} {majors : List ℕ} {got : Option Got} {h m : List Entry} (
       away name called = rw (net.names i j host other name at ej (λ e. apart (sym e)) called)
 
   -- the i-th host had its turn, and the others are as they were
-  one-more : (x : NamedHost) (hosts : List NamedHost) → IsSettled s host m x → HadTurns s got h i hosts → HadTurns s got m (suc i) (slice_set hosts i x)
+  one-more : (x : SimHost) (hosts : List SimHost) → IsSettled s host m x → HadTurns s got h i hosts → HadTurns s got m (suc i) (slice_set hosts i x)
   one-more x hosts done k = record {
     count = length-set hosts i x ∙ k.count;
     settled = set-each s.hosts hosts i host x (λ j other y. j < suc i → IsSettled s other m y) at (λ below. done)
@@ -87,10 +87,10 @@ pub record Going (old now : Sim) (i end : ℕ) : Type 0 where
       → Turns s (take i s.hosts) got old.run.entries now.run.entries × IsTurning s majors got i now
 
 -- what is said of the turn of a host, for each history with which it agrees
-abbrev pub OfTurn : Sim → NamedHost → (Setup → HostSetup → Option Got → Type 0) → Type 0
+abbrev pub OfTurn : Sim → SimHost → (Setup → HostSetup → Option Got → Type 0) → Type 0
 OfTurn now x P = (s : Setup) (host : HostSetup) (got : Option Got) → Awaits s host got now.run.entries x → IsLawful s now.run.entries → P s host got
 
-module _ {old now : Sim} {i end : ℕ} (x : NamedHost) (g : Going old now i end) (there : slice_get now.hosts.items i ≡ Some x) where
+module _ {old now : Sim} {i end : ℕ} (x : SimHost) (g : Going old now i end) (there : slice_get now.hosts.items i ≡ Some x) where
   -- the host whose turn it is
   its : {s : Setup} {majors : List ℕ} {got : Option Got} → IsTurning s majors got i now
       → (host : HostSetup) × (slice_get s.hosts i ≡ Some host) × Awaits s host got now.run.entries x
@@ -99,7 +99,7 @@ module _ {old now : Sim} {i end : ℕ} (x : NamedHost) (g : Going old now i end)
       (at.0, at.1, k.hosts_are.waiting i at.0 x at.1 there (omega arith))
 
   -- one turn more
-  pub going-on : (new : Sim) (y : NamedHost)
+  pub going-on : (new : Sim) (y : SimHost)
       → OfTurn now x (λ s host got. Turn s host got now.run.entries new.run.entries × IsLawful s new.run.entries × IsSettled s host new.run.entries y)
       → new.run.life ≡ now.run.life → new.shelves.items ≡ now.shelves.items → new.hosts.items ≡ slice_set now.hosts.items i y → new.frame ≡ now.frame
       → Going old new (i + 1) end

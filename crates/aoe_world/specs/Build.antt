@@ -2,14 +2,14 @@
 use Rattle.std.specs.Prelude.{ℕ, ◌≡◌, ◌==◌, ◌-◌, ◌^◌, ◌<◌, ◌≤◌, false, List, [], length, take, slice_get, Option, Some, None}
 use Rattle.std.specs.List.{filter_map, list_any}
 use Rattle.aoe_history.specs.Setup.{shelf_of, HostSetup, Setup}
-use Rattle.aoe_sim_hosts.specs.Host.{IsSettled, NamedHost}
+use Rattle.aoe_sim_hosts.specs.Host.{IsSettled, SimHost}
 use Rattle.aoe_initiator.specs.declared.device.Attached.{Attached}
 use Rattle.aoe_initiator.specs.declared.device.Device.{Device}
 use Rattle.aoe_initiator.specs.HostLaw.{attach_refusal}
 use Rattle.aoe_sim_setup.specs.Layout.{host_in, majors_of, setup_of, stations_of, Placed}
 use Rattle.aoe_sim_setup.specs.Stations.{IsCache}
 use Rattle.aoe_base.specs.Addresses.{IsDistinct}
-use Rattle.aoe_sim_shelves.specs.Rack.{MemoryRack, Serves}
+use Rattle.aoe_sim_shelves.specs.Shelf.{SimShelf, Serves}
 use Rattle.aoe_script.specs.declared.setup.Setup.{Setup as Line}
 use Rattle.aoe_world.specs.declared.place.Place.{Place}
 use Rattle.aoe_world.specs.declared.sim.Sim.{Sim}
@@ -25,7 +25,7 @@ pub record CanAttach (d : Attached) (devices : List Device) : Type 0 where
   pub allowed : attach_refusal d.id d.remotes.items devices ≡ None
 
 -- a shelf has room for a slot of this number, this size and this cache
-pub record CanAdd (minor sectors : ℕ) (room : Option ℕ) (x : MemoryRack) : Type 0 where
+pub record CanAdd (minor sectors : ℕ) (room : Option ℕ) (x : SimShelf) : Type 0 where
   pub number : minor < 255
   pub size : sectors ≤ 2 ^ 40
   pub cache : IsCache room
@@ -38,10 +38,10 @@ pub record Along {X Y : Type 0} (R : X → Y → Type 0) (xs : List X) (ys : Lis
   pub each : (i : ℕ) (x : X) (y : Y) → slice_get xs i ≡ Some x → slice_get ys i ≡ Some y → R x y
 
 -- the shelf with a number, of which nothing was said yet
-abbrev pub IsShelf : Setup → ℕ → MemoryRack → Type 0
+abbrev pub IsShelf : Setup → ℕ → SimShelf → Type 0
 IsShelf s major x = (x.shelf.major ≡ major) × Serves (shelf_of s major) [] x
 
-abbrev pub IsHost : Setup → HostSetup → NamedHost → Type 0
+abbrev pub IsHost : Setup → HostSetup → SimHost → Type 0
 IsHost s host x = IsSettled s host [] x
 
 abbrev pub IsPlace : Setup → List ℕ → Placed → Place → Type 0

@@ -7,9 +7,9 @@ use Rattle.aoe_history.specs.Groups.{Act, Enters, Follows, Got, Group, IsBegun, 
 use Rattle.aoe_history.specs.Groups.Station.{Shelf as ShelfStation, Host as HostStation}
 use Rattle.aoe_history.specs.Lawful.{IsLawful}
 use Rattle.aoe_history.specs.Setup.{host_called, is_called, shelf_of, AreSlots, HostSetup, IsSetup, Setup}
-use Rattle.aoe_sim_hosts.specs.Host.{Awaits, IsSettled, NamedHost}
+use Rattle.aoe_sim_hosts.specs.Host.{Awaits, IsSettled, SimHost}
 use Rattle.aoe_sim_setup.specs.Layout.{Placed}
-use Rattle.aoe_sim_shelves.specs.Rack.{MemoryRack, Serves}
+use Rattle.aoe_sim_shelves.specs.Shelf.{SimShelf, Serves}
 use Rattle.aoe_net.specs.declared.refusal.NetRefusal.{NetRefusal}
 use Rattle.aoe_net.specs.declared.refusal.NetRefusal.TheVariants.{Full}
 use Rattle.aoe_history.specs.Run.{MeetsFull}
@@ -30,21 +30,21 @@ pub record IsNetwork (s : Setup) (majors : List ℕ) : Type 0 where
   pub slots : (i major : ℕ) → slice_get majors i ≡ Some major → AreSlots s (shelf_of s major)
 
 -- each host had its turn
-pub record AllSettled (s : Setup) (h : List Entry) (hosts : List NamedHost) : Type 0 where
+pub record AllSettled (s : Setup) (h : List Entry) (hosts : List SimHost) : Type 0 where
   pub count : length hosts ≡ length s.hosts
-  pub each : (i : ℕ) (host : HostSetup) (x : NamedHost) → slice_get s.hosts i ≡ Some host → slice_get hosts i ≡ Some x → IsSettled s host h x
+  pub each : (i : ℕ) (host : HostSetup) (x : SimHost) → slice_get s.hosts i ≡ Some host → slice_get hosts i ≡ Some x → IsSettled s host h x
 
 -- the hosts before the k-th had their turn, and the others didn't
-pub record HadTurns (s : Setup) (got : Option Got) (h : List Entry) (k : ℕ) (hosts : List NamedHost) : Type 0 where
+pub record HadTurns (s : Setup) (got : Option Got) (h : List Entry) (k : ℕ) (hosts : List SimHost) : Type 0 where
   pub count : length hosts ≡ length s.hosts
-  pub settled : (i : ℕ) (host : HostSetup) (x : NamedHost) → slice_get s.hosts i ≡ Some host → slice_get hosts i ≡ Some x → i < k → IsSettled s host h x
-  pub waiting : (i : ℕ) (host : HostSetup) (x : NamedHost) → slice_get s.hosts i ≡ Some host → slice_get hosts i ≡ Some x → k ≤ i → Awaits s host got h x
+  pub settled : (i : ℕ) (host : HostSetup) (x : SimHost) → slice_get s.hosts i ≡ Some host → slice_get hosts i ≡ Some x → i < k → IsSettled s host h x
+  pub waiting : (i : ℕ) (host : HostSetup) (x : SimHost) → slice_get s.hosts i ≡ Some host → slice_get hosts i ≡ Some x → k ≤ i → Awaits s host got h x
 
 -- each shelf is what the history says of it
-pub record AllServe (s : Setup) (majors : List ℕ) (h : List Entry) (shelves : List MemoryRack) : Type 0 where
+pub record AllServe (s : Setup) (majors : List ℕ) (h : List Entry) (shelves : List SimShelf) : Type 0 where
   pub count : length shelves ≡ length majors
-  pub number : (i major : ℕ) (x : MemoryRack) → slice_get majors i ≡ Some major → slice_get shelves i ≡ Some x → x.shelf.major ≡ major
-  pub each : (i major : ℕ) (x : MemoryRack) → slice_get majors i ≡ Some major → slice_get shelves i ≡ Some x → Serves (shelf_of s major) h x
+  pub number : (i major : ℕ) (x : SimShelf) → slice_get majors i ≡ Some major → slice_get shelves i ≡ Some x → x.shelf.major ≡ major
+  pub each : (i major : ℕ) (x : SimShelf) → slice_get majors i ≡ Some major → slice_get shelves i ≡ Some x → Serves (shelf_of s major) h x
 
 -- a world between two acts
 pub record IsReady (s : Setup) (majors : List ℕ) (sim : Sim) : Type 0 where

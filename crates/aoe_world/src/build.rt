@@ -9,7 +9,7 @@ ghost use Rattle.aoe_initiator.specs.Host.{Matches};
 ghost use Rattle.aoe_initiator.specs.HostLog.{Event as LogEvent};
 ghost use Rattle.aoe_sim_setup.specs.Stations.{IsCache};
 ghost use Rattle.aoe_sim_setup.specs.Layout.{about, attached_to, host_of, life_in, majors_of, setup_of, slot_named, slot_of_shelf, slot_with};
-ghost use Rattle.aoe_sim_shelves.specs.Rack.{Serves};
+ghost use Rattle.aoe_sim_shelves.specs.Shelf.{Serves};
 ghost use Rattle.aoe_script.specs.Rules.{is_shelf_named, is_slot, same};
 ghost use Rattle.aoe_world.specs.Build.{CanAdd, CanAttach, IsBuilt};
 ghost use Rattle.aoe_world.specs.Sim.{IsNetwork, IsReady};
@@ -23,9 +23,9 @@ use aoe_frame::Frame;
 use aoe_history::Run;
 use aoe_initiator::{Attached, DEAD, LIFETIMES, ROOM};
 use aoe_script::{Name, Script, Setup};
-use aoe_sim_hosts::NamedHost;
+use aoe_sim_hosts::SimHost;
 use aoe_sim_setup::layout_law;
-use aoe_sim_shelves::MemoryRack;
+use aoe_sim_shelves::SimShelf;
 use aoe_target::max_sectors;
 use std::alloc::Global;
 
@@ -217,7 +217,7 @@ fn attached_to(script: &Script, host: &Name, line: &Setup) -> Option<Attached>
 }
 
 /// Attaches a host to a device, where there is one.
-fn attach(host: &mut NamedHost, known: Option<Attached>) -> Result<(), NoMemory>
+fn attach(host: &mut SimHost, known: Option<Attached>) -> Result<(), NoMemory>
     requires can { IfSome known (λ d. CanAttach d host.old.core.devices) }
     ensures devices { OnOk result (map (λ d. d.about) host.new.core.devices
         ≡ map (λ d. d.about) host.old.core.devices ++ option_to_list known) }
@@ -243,7 +243,7 @@ fn host_line(name: &Name, ports: &Ports, room: Option<u64>, dead: Option<u64>) -
 }
 
 /// The host of a line, attached to its devices.
-fn build_host(alloc: Global, script: &Script, line: HostLine) -> Result<NamedHost, NoMemory>
+fn build_host(alloc: Global, script: &Script, line: HostLine) -> Result<SimHost, NoMemory>
     requires { (k : ℕ) × (slice_get script.now.setups k
         ≡ Some (Setup.Host line.name line.ports line.room line.dead)) }
     ensures { IfOk result (λ x. IsSettled (setup_of script.now.setups)
@@ -253,7 +253,7 @@ fn build_host(alloc: Global, script: &Script, line: HostLine) -> Result<NamedHos
     let life = life_of(script);
     let room = line.room.unwrap_or(u64::from(ROOM)) as u32;
     let dead = Millis(line.dead.unwrap_or(DEAD.0));
-    let mut host = NamedHost::new(alloc, copy_of(&line.name), &line.ports, life, room, dead)?;
+    let mut host = SimHost::new(alloc, copy_of(&line.name), &line.ports, life, room, dead)?;
     'lines: for i in 0..count {
         attach(&mut host, attached_to(script, &line.name, script.setup(i)))?;
     }
@@ -300,7 +300,7 @@ fn small_room(room: Option<u64>) -> Option<u32>
 }
 
 /// Adds a slot to a shelf, where there is one.
-fn add_slot(shelf: &mut MemoryRack, alloc: Global, slot: Option<NewSlot>) -> Result<(), NoMemory>
+fn add_slot(shelf: &mut SimShelf, alloc: Global, slot: Option<NewSlot>) -> Result<(), NoMemory>
     requires can { IfSome slot (λ x. CanAdd x.minor x.sectors x.room shelf.old) }
     ensures serves { OnOk result ((slots : List SlotSetup) → Serves slots [] shelf.old → Serves (slots
         ++ option_to_list (option_map (λ x. slot_with shelf.old.shelf.major shelf.old.shelf.ports shelf.old.shelf.mtu x.minor x.sectors x.room x.read_only) slot)) [] shelf.new) }
@@ -324,7 +324,7 @@ fn build_shelf(
     script: &Script,
     name: &Name,
     line: ShelfLine,
-) -> Result<MemoryRack, NoMemory>
+) -> Result<SimShelf, NoMemory>
     requires { (k : ℕ) × (slice_get script.now.setups k
         ≡ Some (Setup.Shelf name.now line.major line.ports line.mtu)) }
     ensures number { IfOk result (λ x. x.shelf.major ≡ line.major) }
@@ -333,7 +333,7 @@ fn build_shelf(
 {
     let count = script.setups();
     let ports = copy_of(&line.ports);
-    let mut shelf = MemoryRack::new(alloc, line.major as u16, ports, line.mtu as u32)?;
+    let mut shelf = SimShelf::new(alloc, line.major as u16, ports, line.mtu as u32)?;
     'lines: for i in 0..count {
         add_slot(&mut shelf, alloc, slot_in(script, script.setup(i), name))?;
     }
@@ -367,7 +367,7 @@ impl Builder<'_> {
     }
 
     /// Adds a shelf behind the others.
-    fn add_shelf(&mut self, name: &Name, ports: &Ports, shelf: MemoryRack) -> Result<(), NoMemory>
+    fn add_shelf(&mut self, name: &Name, ports: &Ports, shelf: SimShelf) -> Result<(), NoMemory>
         ensures shelves { OnOk result (self.new.sim.shelves.items ≡ self.old.sim.shelves.items
             ++ shelf ∷ []) }
         ensures places { OnOk result (self.new.places.items ≡ self.old.places.items
@@ -384,7 +384,7 @@ impl Builder<'_> {
     }
 
     /// Adds a host behind the others.
-    fn add_host(&mut self, name: &Name, ports: &Ports, host: NamedHost) -> Result<(), NoMemory>
+    fn add_host(&mut self, name: &Name, ports: &Ports, host: SimHost) -> Result<(), NoMemory>
         ensures hosts { OnOk result (self.new.sim.hosts.items ≡ self.old.sim.hosts.items
             ++ host ∷ []) }
         ensures places { OnOk result (self.new.places.items ≡ self.old.places.items

@@ -20,15 +20,15 @@ use aoe_history::{Entry, Run};
 use aoe_initiator::Op;
 use aoe_net::NetRefusal;
 use aoe_script::Which;
-use aoe_sim_hosts::NamedHost;
-use aoe_sim_shelves::MemoryRack;
+use aoe_sim_hosts::SimHost;
+use aoe_sim_shelves::SimShelf;
 
 /// A run, its shelves and its hosts, each in the order of their lines.
 #[derive(Drop)]
 pub(crate) struct Sim {
     pub(crate) run: Run,
-    pub(crate) shelves: Vec<MemoryRack>,
-    pub(crate) hosts: Vec<NamedHost>,
+    pub(crate) shelves: Vec<SimShelf>,
+    pub(crate) hosts: Vec<SimHost>,
 
     /// The frame that is handed over.
     pub(crate) frame: Frame,
@@ -38,7 +38,7 @@ pub(crate) struct Sim {
 }
 
 /// The slot with a minor.
-fn slot_with(shelf: &MemoryRack, minor: u8) -> Option<usize>
+fn slot_with(shelf: &SimShelf, minor: u8) -> Option<usize>
     ensures found { IfSome result (λ i. IsSomeAnd (slice_get shelf.now.shelf.targets i)
         (λ t. t.station.id.minor ≡ minor)) }
     ensures none { IfNone result ((i : ℕ) → IfSome (slice_get shelf.now.shelf.targets i)

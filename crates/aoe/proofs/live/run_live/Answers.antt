@@ -6,7 +6,7 @@ use Rattle.aoe_live.specs.declared.refusal.LiveRefusal.{LiveRefusal}
 use Rattle.aoe_live.specs.declared.refusal.LiveRefusal.TheVariants as refusal
 use Rattle.aoe_script.specs.Lines.{refusal as text_refusal, script_of}
 use Rattle.aoe_script.specs.declared.event.Event.{Event}
-use Rattle.aoe_words.specs.declared.command.Live.{Live}
+use Rattle.aoe_args.specs.declared.command.Live.{Live}
 use Rattle.aoe.specs.Live.{live_status, ReadsBack, RunsLive, WritesScript}
 use Rattle.aoe.specs.declared.status.Status.{Status}
 use Rattle.aoe.specs.declared.status.Status.TheVariants as status

@@ -6,7 +6,7 @@ pub returns-clause-runs : goal.returns-clause-runs
 returns-clause-runs g c =
     runs-mirror g.D.Disk.state c.args.asked _ _ _ c.mirrored_as.result c.export_mirror-answer.result.0 c.take_four-given.result
     c.export_mirror-answer.result.1 _ _ c.mirrored_as.ensures c.take_four-given.ensures.taken c.put_four.ensures
-    (rw c.mirror_rack-rack.ensures.rack at c.export_mirror-answer.ensures.ran) c.export_mirror-answer.ensures.stopped
+    (rw c.mirror_options-options.ensures.options at c.export_mirror-answer.ensures.ran) c.export_mirror-answer.ensures.stopped
     c.export_mirror-answer.ensures.source c.export_mirror-answer.ensures.sink c.export_mirror-answer.ensures.links
 
 pub returns-clause-status : goal.returns-clause-status

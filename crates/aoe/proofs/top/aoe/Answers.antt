@@ -2,10 +2,10 @@ use Rattle.std.proofs.Common.{◌≡◌, ◌∙◌, ℕ, List, [], length, Optio
 use Rattle.std.proofs.lemmas.Bool.{cases_Bool}
 use Rattle.std.specs.Prelude.{IfSome, map, option_map, string_bytes}
 use Rattle.std.specs.Option.{option_map_or}
-use Rattle.aoe_words.specs.Words.{file_count, files_of, link_count, spelled}
-use Rattle.aoe_words.specs.declared.command.Command.{Command}
-use Rattle.aoe_words.specs.declared.command.Command.TheVariants.{Serve}
-use Rattle.aoe_words.specs.declared.command.Serve.{Serve as Serves}
+use Rattle.aoe_args.specs.Words.{file_count, files_of, link_count, spelled}
+use Rattle.aoe_args.specs.declared.command.Command.{Command}
+use Rattle.aoe_args.specs.declared.command.Command.TheVariants.{Serve}
+use Rattle.aoe_args.specs.declared.command.Serve.{Serve as Serves}
 use Rattle.aoe.specs.Commands.{exports, is_live, is_mirror}
 use Rattle.aoe.proofs.Blame.{at-first}
 use Rattle.aoe.proofs.Complete.{answers, link-fine, no-fault, serves}

@@ -1,6 +1,6 @@
 use Rattle.std.proofs.Common.{ap, arith, length, length-append, subst, sym}
 use Rattle.aoe_cache.specs.declared.any.AnyStore.{AnyStore}
-use Rattle.aoe_shelf.specs.Shelf.{Rack}
+use Rattle.aoe_shelf.specs.Shelf.{ShelfTable}
 use Rattle.aoe_serve.specs.Files.{AreBack, named}
 use Rattle.aoe_serve.proofs.FileLemmas.{all-there, free, given-then, refused-then, seated-then}
 use Rattle.aoe_serve.proofs.mount.+mount.Goals as goal
@@ -20,13 +20,13 @@ pub returns-in-Ok-seat-clause-seated : goal.returns-in-Ok-seat-clause-seated
 returns-in-Ok-seat-clause-seated g t c =
     let D = g.row.D.Denot in
     seated-then _ _ _ _ _ _ _ c.split_at_mut-others.ensures.value c.take_pair-file.ensures _ _ _ _ _ _ _ c.in-Ok.ensures.store (sym c.count-slot.ensures.count)
-    (ap (λ (r : Rack (AnyStore D) D). named r.major r.ports r.mtu) c.in-Ok-mount.ensures.rest) c.in-Ok-mount.ensures.seated c.in-Ok-seat.ensures.seated
+    (ap (λ (r : ShelfTable (AnyStore D) D). named r.major r.ports r.mtu) c.in-Ok-mount.ensures.rest) c.in-Ok-mount.ensures.seated c.in-Ok-seat.ensures.seated
 
 pub returns-in-Err-seat-clause-refused : goal.returns-in-Err-seat-clause-refused
 returns-in-Err-seat-clause-refused g t c =
     let D = g.row.D.Denot in
     let back =
-    subst (λ (r : Rack (AnyStore D) D). AreBack g.D.Disk.state g.M.Most.most c.unmount.new.disks r.targets) c.in-Err-seat.ensures.same c.unmount.ensures.back in
+    subst (λ (r : ShelfTable (AnyStore D) D). AreBack g.D.Disk.state g.M.Most.most c.unmount.new.disks r.targets) c.in-Err-seat.ensures.same c.unmount.ensures.back in
     refused-then _ _ _ _ _ _ _ c.split_at_mut-others.ensures.value c.take_pair-file.ensures _ _ _ _ _ _ _ _ _ _ _ c.in-Ok-mount.ensures.seated back
     (sym c.count-slot.ensures.count)
     c.in-Ok.ensures.store c.in-Err-seat.ensures.store c.close-in-Err-seat.ensures.file c.put_pair-in-Err-seat.ensures c.in-Err-seat.ensures.refused

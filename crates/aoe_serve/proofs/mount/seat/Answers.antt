@@ -1,7 +1,7 @@
 use Rattle.std.proofs.Common.{ap, refl}
 use Rattle.aoe_cache.specs.Any.{any_state}
 use Rattle.aoe_cache.specs.declared.any.AnyStore.{AnyStore}
-use Rattle.aoe_shelf.specs.Shelf.{Rack}
+use Rattle.aoe_shelf.specs.Shelf.{ShelfTable}
 use Rattle.aoe_serve.specs.Files.{named}
 use Rattle.aoe_serve.proofs.mount.seat.Goals as goal
 
@@ -11,7 +11,7 @@ returns-clause-seated g c =
     let shelf = c.args.shelf.now in
     record {
       target = record { station = named shelf.major shelf.ports shelf.mtu c.args.minor (any_state g.D.Disk.state c.args.store).sectors; keep = c.in-Ok.keep; store = c.args.store };
-      added = ap (λ (r : Rack (AnyStore D) D). r.targets) c.in-Ok-add.ensures.added;
+      added = ap (λ (r : ShelfTable (AnyStore D) D). r.targets) c.in-Ok-add.ensures.added;
       seated = record {
         station = refl;
         store_is = refl;

@@ -1,6 +1,6 @@
 use Rattle.std.proofs.Common.{◌≡◌, [], ◌∷◌, ◌++◌, ◌∙◌, ap, length, length-append, refl, arith}
 use Rattle.std.proofs.lemmas.List.{length-map}
-use Rattle.aoe_shelf.specs.Shelf.{Rack}
+use Rattle.aoe_shelf.specs.Shelf.{ShelfTable}
 use Rattle.aoe_serve.specs.Slots.{slot_of, slots_of}
 use Rattle.aoe_serve.proofs.SyncLemmas.{first-more, partly_begun, partly_then, partly_whole, syncs_at}
 use Rattle.aoe_serve.proofs.run.sync_each.Goals as goal
@@ -20,7 +20,7 @@ slots-preserved g c =
         partly_then _ _ _ s.0 r c.slots.slot s.1 s.2 (syncs_at g.S.Store.lasts g.S.Store.state g.D.Disk.state r c.slots.slot _ _ more.syncs),
         first-more s.0 r c.slots.slot c.slots.first c.first_of-first.result s.3 s.1 c.first_of-first.ensures,
       ),
-      more.rest ∙ ap (λ (x : Rack _ _). record x { targets = c.sync_slot-synced.new.self.targets }) i.1,
+      more.rest ∙ ap (λ (x : ShelfTable _ _). record x { targets = c.sync_slot-synced.new.self.targets }) i.1,
       more.count ∙ i.2,
     )
 

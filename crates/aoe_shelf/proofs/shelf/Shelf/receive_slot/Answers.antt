@@ -1,11 +1,11 @@
 use Rattle.std.proofs.Common.{ap}
-use Rattle.aoe_shelf.specs.Shelf.{Rack}
+use Rattle.aoe_shelf.specs.Shelf.{ShelfTable}
 use Rattle.aoe_shelf.proofs.SlotLemmas.{changed}
 use Rattle.aoe_shelf.proofs.shelf.Shelf.receive_slot.Goals as goal
 
 pub returns-clause-receives : goal.returns-clause-receives
 returns-clause-receives g c =
-    changed c.args.slot _ c.self.inside.targets.items _ _ _ (ap (λ (rack : Rack _ _). rack.targets) c.self.view_is) c.requires c.index_mut.ensures.value
+    changed c.args.slot _ c.self.inside.targets.items _ _ _ (ap (λ (shelf : ShelfTable _ _). shelf.targets) c.self.view_is) c.requires c.index_mut.ensures.value
     (record {
       station = c.receive.ensures.station;
       step = c.receive.ensures.step;
@@ -22,8 +22,8 @@ returns-clause-receives g c =
 
 pub returns-clause-under : goal.returns-clause-under
 returns-clause-under g c =
-    changed c.args.slot _ c.self.inside.targets.items _ _ _ (ap (λ (rack : Rack _ _). rack.targets) c.self.view_is) c.requires c.index_mut.ensures.value c.receive.ensures.under
+    changed c.args.slot _ c.self.inside.targets.items _ _ _ (ap (λ (shelf : ShelfTable _ _). shelf.targets) c.self.view_is) c.requires c.index_mut.ensures.value c.receive.ensures.under
 
 pub returns-clause-firm : goal.returns-clause-firm
 returns-clause-firm g c =
-    changed c.args.slot _ c.self.inside.targets.items _ _ _ (ap (λ (rack : Rack _ _). rack.targets) c.self.view_is) c.requires c.index_mut.ensures.value c.receive.ensures.firm
+    changed c.args.slot _ c.self.inside.targets.items _ _ _ (ap (λ (shelf : ShelfTable _ _). shelf.targets) c.self.view_is) c.requires c.index_mut.ensures.value c.receive.ensures.firm

@@ -1,0 +1,8 @@
+-- The getter's answer, by the rows.
+use Rattle.std.proofs.Common.{◌∙◌}
+use Rattle.clap.proofs.WalkLemmas.{raw_values-rows}
+use Rattle.clap.specs.Words.{found_of}
+use Rattle.aoe_args.proofs.values.texts.Goals as goal
+
+pub returns : goal.returns
+returns c = c.get_strs.ensures ∙ raw_values-rows (found_of c.args.found.now) c.args.id.now

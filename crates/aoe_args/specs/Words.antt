@@ -1,0 +1,440 @@
+-- What the words of a command line spell.
+use Rattle.std.specs.Prelude.{ℕ, ◌*◌, ◌/◌, ◌%◌, ◌≡◌, ◌≤◌, Bool, true, false, not, is_some, ◌&&◌, ◌||◌, ◌==◌, List, [], ◌∷◌, length, nat_lt, nat_le, slice_index, Option, Some, None, if◌then◌else◌, option_and_then, option_map, unwrap_or, codes, IfSome}
+use Rattle.std.specs.List.{list_all}
+use Rattle.std.specs.Option.{option_map_or}
+use Rattle.std.specs.Str.{bytes_eq}
+use Rattle.std.specs.Borrow.{Bor}
+use Rattle.clap.specs.Lexer.{long_of}
+use Rattle.clap.specs.Matches.{subcommand_name_of}
+use Rattle.clap.specs.Simple.{subcommand_rows}
+use Rattle.clap.specs.Walk.{is_empty}
+use Rattle.clap.specs.Words.{Row, Text, all_of, fault_of, first_of, found_of, rows_of, subcommand_of}
+use Rattle.clap.specs.declared.parser.matches.ArgMatches.{ArgMatches}
+use Rattle.clap.specs.declared.parser.matches.ArgMatches.TheViews.{out-ArgMatches}
+use Rattle.aoe_base.specs.Decimal.{number_of}
+use Rattle.aoe_base.specs.declared.address.Mac.{Mac}
+use Rattle.aoe_base.specs.declared.address.TargetId.{TargetId}
+use Rattle.aoe_base.specs.Addresses.{all_unique, is_individual}
+use Rattle.aoe_args.specs.Apps.{aoe_app}
+use Rattle.aoe_args.specs.Values.{default_port, given, given_or, is_set, link, number_within, port_of, ports_of, two_ends}
+use Rattle.aoe_args.specs.Switching.{CanSwitch, kinds_of}
+use Rattle.aoe_args.specs.Tools.{CanAsk, CanCfg, CanMask, CanReserve, CanFlush, CanGet, CanGetLong, CanPut, discover_of, stat_of, cfg_of, mask_of, reserve_of, flush_of, long_get_of, put_of, short_get}
+use Rattle.aoe_args.specs.declared.command.LongGet.{LongGet as LongGets}
+use Rattle.aoe_args.specs.declared.command.Answer.{Answer as Answers}
+use Rattle.aoe_args.specs.declared.command.Serve.{Serve as Serves}
+use Rattle.aoe_args.specs.declared.command.Mirror.{Mirror as Mirrors}
+use Rattle.aoe_args.specs.declared.command.Audit.{Audit as Audits}
+use Rattle.aoe_args.specs.declared.command.Soak.{Soak as Soaks}
+use Rattle.aoe_args.specs.declared.command.Live.{Live as Lives}
+use Rattle.aoe_args.specs.declared.command.Switch.{Switch as Switches}
+use Rattle.aoe_args.specs.declared.command.KeepAction.{KeepAction}
+use Rattle.aoe_args.specs.declared.command.KeepAction.TheVariants.{Show, Upgrade, Lock, Unlock}
+use Rattle.aoe_args.specs.declared.command.PortWords.{PortWords}
+use Rattle.aoe_args.specs.declared.command.Command.{Command}
+use Rattle.aoe_args.specs.declared.command.Command.TheVariants.{Answer, Serve, Mirror, Audit, Replay, Soak, Live, Switch, Ask, Get, LongGet, Put, Keep}
+use Rattle.aoe_args.specs.declared.command.Tool.{Tool}
+use Rattle.aoe_args.specs.declared.command.Tool.TheVariants.{Discover, Stat, Cfg, Mask, Reserve, Flush}
+
+-- ---- words
+
+-- a value is nonempty and doesn't begin with a hyphen (45)
+abbrev pub is_value : Text → Bool
+is_value text = nat_lt 0 (length text) && not (slice_index text 0 == 45)
+
+-- what stands behind the first `=` of `--name=value`
+abbrev pub attached : Text → Option Text
+attached word = option_and_then (λ p. p.1) (long_of word)
+
+-- a word has 1 to 4096 bytes, is neither one hyphen nor two, and has a good value behind its `=`
+abbrev pub is_word : Text → Bool
+is_word word =
+    nat_lt 0 (length word) && nat_le (length word) 4096 && not (bytes_eq word (codes "-")) && not (bytes_eq word (codes "--"))
+    && option_map_or is_value (attached word) true
+
+-- the name of the command that is asked for and what is found for it, as they stand in what clap found
+pub record IsFoundIn (found : ArgMatches) (asked : Option (Bor Text × ArgMatches)) : Type 0 where
+  pub name : option_map (λ p. p.0.now) asked ≡ subcommand_name_of found
+  pub rows : option_map (λ p. rows_of (found_of p.1)) asked ≡ option_map (λ p. p.1) (subcommand_rows (out-ArgMatches found).subcommand)
+
+-- the name of the command that is asked for, and what clap finds for it, where every word can stand there and clap finds no fault
+unfoldable pub parsed : List Text → Option (Text × List Row)
+parsed words = if list_all is_word words && is_empty (fault_of aoe_app words) then subcommand_of aoe_app words else None
+
+-- ---- commands
+
+-- the files
+abbrev pub files : List Row → List Text
+files rows = unwrap_or (all_of (codes "files") rows) []
+
+-- the number of a shelf, which isn't the one of all shelves
+abbrev pub shelf_of : List Row → Option ℕ
+shelf_of = given (codes "shelf") (λ text. number_of text 65534)
+
+abbrev pub slot_of : List Row → Option ℕ
+slot_of = given (codes "slot") (λ text. number_of text 254)
+
+abbrev pub mtu_of : List Row → Option ℕ
+mtu_of = given_or (codes "mtu") (number_within 1500 9000) 1500
+
+-- how many sectors a slot buffers
+abbrev pub cache_of : List Row → Option ℕ
+cache_of = given_or (codes "cache") (number_within 0 65536) 0
+
+-- each write is to be synced before it is answered
+abbrev pub is_durable : List Row → Bool
+is_durable = is_set (codes "durable")
+
+-- and so nothing may be held back
+abbrev pub holds_back_durably : List Row → Bool
+holds_back_durably rows = is_durable rows && is_some (first_of (codes "cache") rows)
+
+-- answer SHELF SLOT FILE KEEP, or capture with the same
+unfoldable pub answer_of : Bool → List Row → Option Answers
+answer_of captures rows =
+    if not (length (files rows) == 2) || holds_back_durably rows then None else
+    option_and_then (λ major. option_and_then (λ minor. option_and_then (λ port. option_and_then (λ mtu. option_map (λ cache.
+    record { id = record { major = major; minor = minor }; port = port; mtu = mtu; cache = cache; captures = captures; durable = is_durable rows })
+    (cache_of rows)) (mtu_of rows)) (given_or (codes "port") port_of default_port rows)) (slot_of rows)) (shelf_of rows)
+
+-- two files for each slot: 1 to 16 slots
+abbrev pub has_slots : List Row → Bool
+has_slots rows = length (files rows) % 2 == 0 && nat_le 2 (length (files rows)) && nat_le (length (files rows)) 32
+
+-- how many frames are taken; as many as come where nothing is said of it
+abbrev pub frames_of : List Row → Option (Option ℕ)
+frames_of = given_or (codes "frames") (λ text. option_map Some (number_within 1 4294967295 text)) None
+
+-- how many quiet turns end the run: 3000 where nothing is said of it; where 0 is said none do
+abbrev pub idle_of : List Row → Option (Option ℕ)
+idle_of rows = option_map (λ turns. if turns == 0 then None else Some turns) (given_or (codes "idle") (number_within 0 1000000) 3000 rows)
+
+-- the shelf of serve with its addresses, of so many slots
+unfoldable pub serve_with : ℕ → List Row → Option Serves
+serve_with slots rows =
+    option_and_then (λ shelf. option_and_then (λ ports. option_and_then (λ mtu. option_and_then (λ cache. option_and_then (λ frames. option_map (λ idle.
+    record { shelf = shelf; slots = slots; ports = record { items = ports }; mtu = mtu; cache = cache; durable = is_durable rows; frames = frames; idle = idle })
+    (idle_of rows)) (frames_of rows)) (cache_of rows)) (mtu_of rows)) (given_or (codes "ports") ports_of (default_port ∷ []) rows)) (shelf_of rows)
+
+-- with the ends of its link
+unfoldable pub serve_of : List Row → Option Serves
+serve_of rows =
+    if not (has_slots rows) || holds_back_durably rows then None else
+    option_and_then (λ link. serve_with (length (files rows) / 2) rows) (link rows)
+
+-- mirror SHELF SLOT FILE FILE MARK KEEP
+unfoldable pub mirror_of : List Row → Option Mirrors
+mirror_of rows =
+    if not (length (files rows) == 4) then None else
+    option_and_then (λ major. option_and_then (λ minor. option_and_then (λ port. option_map (λ mtu.
+    record { id = record { major = major; minor = minor }; port = port; mtu = mtu })
+    (mtu_of rows)) (given_or (codes "port") port_of default_port rows)) (slot_of rows)) (shelf_of rows)
+
+-- keep KEEP ACTION and audit SHELF SLOT SECTORS KEEP: the file of the keep
+abbrev pub keep_name : List Row → Option Text
+keep_name = first_of (codes "keep")
+
+-- how many sectors the disk of a captured target has: as many at most as a target can have
+abbrev pub captured_sectors : List Row → Option ℕ
+captured_sectors = given (codes "sectors") (λ text. number_of text 1099511627776)
+
+-- audit SHELF SLOT SECTORS KEEP
+unfoldable pub audit_of : List Row → Option Audits
+audit_of rows =
+    option_and_then (λ name. option_and_then (λ major. option_and_then (λ minor. option_and_then (λ ports. option_and_then (λ mtu. option_map (λ sectors.
+    record { id = record { major = major; minor = minor }; ports = record { items = ports }; mtu = mtu; sectors = sectors })
+    (captured_sectors rows)) (mtu_of rows)) (given_or (codes "ports") ports_of (default_port ∷ []) rows)) (slot_of rows)) (shelf_of rows)) (keep_name rows)
+
+-- soak SEED N
+unfoldable pub soak_of : List Row → Option Soaks
+soak_of rows =
+    option_and_then (λ seed. option_map (λ count. record { seed = seed; count = count })
+    (given (codes "count") (number_within 1 16000) rows)) (given (codes "seed") (λ text. number_of text 65535) rows)
+
+-- live SECTORS N
+unfoldable pub live_of : List Row → Option Lives
+live_of rows =
+    option_and_then (λ ends. option_and_then (λ sectors. option_and_then (λ count. option_map (λ turns.
+    record { sectors = sectors; count = count; turns = turns })
+    (given_or (codes "turns") (number_within 1 1000000) 5000 rows)) (given (codes "count") (number_within 1 10000) rows))
+    (given (codes "sectors") (number_within 1 65536) rows)) (two_ends rows)
+
+-- switch PORT PORT ..
+unfoldable pub switch_of : List Row → Option Switches
+switch_of rows =
+    option_and_then (λ words. option_map (λ kinds. record { ports = record { items = kinds } }) (kinds_of words)) (all_of (codes "ports") rows)
+
+-- keep KEEP ACTION: what is to be done with it
+abbrev pub keep_action : Text → Option KeepAction
+keep_action action =
+    if bytes_eq action (codes "show") then Some Show
+    else if bytes_eq action (codes "upgrade") then Some Upgrade
+    else if bytes_eq action (codes "lock") then Some Lock
+    else if bytes_eq action (codes "unlock") then Some Unlock
+    else None
+
+unfoldable pub keep_of : List Row → Option KeepAction
+keep_of rows = option_and_then (λ name. given (codes "action") keep_action rows) (keep_name rows)
+
+-- the tool of this name, of those that read and edit what a device keeps
+unfoldable pub list_tool_of : Text → List Row → Option Tool
+list_tool_of name rows =
+    if bytes_eq name (codes "cfg") then option_map Cfg (cfg_of rows)
+    else if bytes_eq name (codes "mask") then option_map Mask (mask_of rows)
+    else if bytes_eq name (codes "reserve") then option_map Reserve (reserve_of rows)
+    else None
+
+-- the tool of this name
+unfoldable pub tool_of : Text → List Row → Option Tool
+tool_of name rows =
+    if bytes_eq name (codes "discover") then option_map Discover (discover_of rows)
+    else if bytes_eq name (codes "stat") then option_map Stat (stat_of rows)
+    else if bytes_eq name (codes "flush") then option_map Flush (flush_of rows)
+    else list_tool_of name rows
+
+-- the command that a `get` comes to, by its COUNT
+abbrev pub get_command : LongGets → Command
+get_command g = option_map_or (λ count. if nat_le count 32768 then Get (short_get g count) else LongGet g) g.count (LongGet g)
+
+-- the command of this name, of those that ask a network
+unfoldable pub asked_of : Text → List Row → Option Command
+asked_of name rows =
+    if bytes_eq name (codes "get") then option_map get_command (long_get_of rows)
+    else if bytes_eq name (codes "put") then option_map Put (put_of rows)
+    else option_map Ask (tool_of name rows)
+
+-- the command of this name
+unfoldable pub command_of : Text → List Row → Option Command
+command_of name rows =
+    if bytes_eq name (codes "answer") then option_map Answer (answer_of false rows)
+    else if bytes_eq name (codes "capture") then option_map Answer (answer_of true rows)
+    else if bytes_eq name (codes "serve") then option_map Serve (serve_of rows)
+    else if bytes_eq name (codes "mirror") then option_map Mirror (mirror_of rows)
+    else if bytes_eq name (codes "audit") then option_map Audit (audit_of rows)
+    else if bytes_eq name (codes "replay") then Some Replay
+    else if bytes_eq name (codes "soak") then option_map Soak (soak_of rows)
+    else if bytes_eq name (codes "live") then option_map Live (live_of rows)
+    else if bytes_eq name (codes "switch") then option_map Switch (switch_of rows)
+    else if bytes_eq name (codes "keep") then option_map Keep (keep_of rows)
+    else asked_of name rows
+
+-- the command of this name with what clap found for it, or nothing
+abbrev pub with_rows : Text → List Row → Option (Command × List Row)
+with_rows name rows = option_map (λ c. (c, rows)) (command_of name rows)
+
+-- the command that the words spell with what clap found for it, or nothing
+abbrev pub spelled : List Text → Option (Command × List Row)
+spelled words = option_and_then (λ p. with_rows p.0 p.1) (parsed words)
+
+-- the command that the words spell, or nothing
+abbrev pub command : List Text → Option Command
+command words = option_map (λ p. p.0) (spelled words)
+
+-- the files that it works on, in their order
+abbrev pub files_of : Command → List Row → List Text
+files_of (Answer answer) rows = files rows
+files_of (Serve serve) rows = files rows
+files_of (Mirror mirror) rows = files rows
+files_of (Audit audit) rows = option_map_or (λ name. name ∷ []) (keep_name rows) []
+files_of Replay rows = []
+files_of (Soak soak) rows = []
+files_of (Live live) rows = []
+files_of (Switch asked) rows = []
+files_of (Ask tool) rows = []
+files_of (Get get) rows = []
+files_of (LongGet get) rows = []
+files_of (Put put) rows = []
+files_of (Keep action) rows = option_map_or (λ name. name ∷ []) (keep_name rows) []
+
+abbrev pub file_names : List Text → List Text
+file_names words = option_map_or (λ p. files_of p.0 p.1) (spelled words) []
+
+-- the file whose coming ends the run, where one is named
+abbrev pub stop_in : Command → List Row → Option Text
+stop_in (Answer answer) rows = None
+stop_in (Serve serve) rows = first_of (codes "stop") rows
+stop_in (Mirror asked) rows = None
+stop_in (Audit audit) rows = None
+stop_in Replay rows = None
+stop_in (Soak soak) rows = None
+stop_in (Live live) rows = None
+stop_in (Switch asked) rows = None
+stop_in (Ask tool) rows = None
+stop_in (Get get) rows = None
+stop_in (LongGet get) rows = None
+stop_in (Put put) rows = None
+stop_in (Keep action) rows = None
+
+abbrev pub stop_name : List Text → Option Text
+stop_name words = option_and_then (λ p. stop_in p.0 p.1) (spelled words)
+
+-- how far it has come is told where standard error is no terminal, too
+abbrev pub is_told_in : Command → List Row → Bool
+is_told_in (Answer answer) rows = false
+is_told_in (Serve serve) rows = false
+is_told_in (Mirror asked) rows = false
+is_told_in (Audit audit) rows = false
+is_told_in Replay rows = false
+is_told_in (Soak soak) rows = false
+is_told_in (Live live) rows = false
+is_told_in (Switch asked) rows = false
+is_told_in (Ask tool) rows = false
+is_told_in (Get get) rows = is_set (codes "progress") rows
+is_told_in (LongGet get) rows = is_set (codes "progress") rows
+is_told_in (Put put) rows = is_set (codes "progress") rows
+is_told_in (Keep action) rows = false
+
+abbrev pub is_told : List Text → Bool
+is_told words = option_map_or (λ p. is_told_in p.0 p.1) (spelled words) false
+
+-- what names its links: the one that it has, and two
+abbrev pub one_link : List Row → List PortWords
+one_link rows = option_map_or (λ ends. ends ∷ []) (link rows) []
+
+abbrev pub two_links : List Row → List PortWords
+two_links rows = option_map_or (λ ends. ends.0 ∷ ends.1 ∷ []) (two_ends rows) []
+
+abbrev pub links_of : Command → List Row → List PortWords
+links_of (Answer answer) rows = []
+links_of (Serve serve) rows = one_link rows
+links_of (Mirror mirror) rows = []
+links_of (Audit audit) rows = []
+links_of Replay rows = []
+links_of (Soak soak) rows = []
+links_of (Live live) rows = two_links rows
+links_of (Switch asked) rows = []
+links_of (Ask tool) rows = one_link rows
+links_of (Get get) rows = one_link rows
+links_of (LongGet get) rows = one_link rows
+links_of (Put put) rows = one_link rows
+links_of (Keep action) rows = []
+
+abbrev pub port_words : List Text → List PortWords
+port_words words = option_map_or (λ p. links_of p.0 p.1) (spelled words) []
+
+-- ---- what holds of them
+
+-- the addresses of a station's ports: one to four, each of a single station, none twice
+pub record ArePorts (ports : List Mac) : Type 0 where
+  pub some : 1 ≤ length ports
+  pub few : length ports ≤ 4
+  pub individual : list_all is_individual ports ≡ true
+  pub unique : all_unique ports ≡ true
+
+-- what `answer` or `capture` asks for is possible
+pub record CanAnswer (answer : Answers) : Type 0 where
+  pub shelf : answer.id.major ≤ 65534
+  pub slot : answer.id.minor ≤ 254
+  pub port : is_individual answer.port ≡ true
+  pub mtu : (1500 ≤ answer.mtu) × (answer.mtu ≤ 9000)
+  pub cache : answer.cache ≤ 65536
+
+-- what `serve` asks for is possible
+pub record CanServe (serve : Serves) : Type 0 where
+  pub shelf : serve.shelf ≤ 65534
+  pub slots : (1 ≤ serve.slots) × (serve.slots ≤ 16)
+  pub ports : ArePorts serve.ports.items
+  pub mtu : (1500 ≤ serve.mtu) × (serve.mtu ≤ 9000)
+  pub cache : serve.cache ≤ 65536
+  pub frames : IfSome serve.frames (λ frames. 1 ≤ frames)
+  pub idle : IfSome serve.idle (λ turns. (1 ≤ turns) × (turns ≤ 1000000))
+
+-- what `mirror` asks for is possible
+pub record CanMirror (mirror : Mirrors) : Type 0 where
+  pub shelf : mirror.id.major ≤ 65534
+  pub slot : mirror.id.minor ≤ 254
+  pub port : is_individual mirror.port ≡ true
+  pub mtu : (1500 ≤ mirror.mtu) × (mirror.mtu ≤ 9000)
+
+-- what `audit` asks for is possible
+pub record CanAudit (audit : Audits) : Type 0 where
+  pub shelf : audit.id.major ≤ 65534
+  pub slot : audit.id.minor ≤ 254
+  pub ports : ArePorts audit.ports.items
+  pub mtu : (1500 ≤ audit.mtu) × (audit.mtu ≤ 9000)
+  pub sectors : audit.sectors ≤ 1099511627776
+
+-- what `soak` asks for is possible
+pub record CanSoak (soak : Soaks) : Type 0 where
+  pub seed : soak.seed ≤ 65535
+  pub count : (1 ≤ soak.count) × (soak.count ≤ 16000)
+
+-- what `live` asks for is possible
+pub record CanLive (live : Lives) : Type 0 where
+  pub sectors : (1 ≤ live.sectors) × (live.sectors ≤ 65536)
+  pub count : (1 ≤ live.count) × (live.count ≤ 10000)
+  pub turns : (1 ≤ live.turns) × (live.turns ≤ 1000000)
+
+-- what a tool asks for is possible
+abbrev pub CanRun : Tool → Type 0
+CanRun (Discover discover) = CanAsk discover.asking
+CanRun (Stat stat) = CanAsk stat.asking
+CanRun (Cfg cfg) = CanCfg cfg
+CanRun (Mask mask) = CanMask mask
+CanRun (Reserve reserve) = CanReserve reserve
+CanRun (Flush flush) = CanFlush flush
+
+abbrev pub IsInRange : Command → Type 0
+IsInRange (Answer answer) = CanAnswer answer
+IsInRange (Serve serve) = CanServe serve
+IsInRange (Mirror mirror) = CanMirror mirror
+IsInRange (Audit audit) = CanAudit audit
+IsInRange Replay = Unit
+IsInRange (Soak soak) = CanSoak soak
+IsInRange (Live live) = CanLive live
+IsInRange (Switch asked) = CanSwitch asked
+IsInRange (Ask tool) = CanRun tool
+IsInRange (Get get) = CanGet get
+IsInRange (LongGet get) = CanGetLong get
+IsInRange (Put put) = CanPut put
+IsInRange (Keep action) = Unit
+
+-- how many files and links a command has
+abbrev pub file_count : Command → ℕ
+file_count (Answer answer) = 2
+file_count (Serve serve) = 2 * serve.slots
+file_count (Mirror mirror) = 4
+file_count (Audit audit) = 1
+file_count Replay = 0
+file_count (Soak soak) = 0
+file_count (Live live) = 0
+file_count (Switch asked) = 0
+file_count (Ask tool) = 0
+file_count (Get get) = 0
+file_count (LongGet get) = 0
+file_count (Put put) = 0
+file_count (Keep action) = 1
+
+abbrev pub link_count : Command → ℕ
+link_count (Answer answer) = 0
+link_count (Serve serve) = 1
+link_count (Mirror mirror) = 0
+link_count (Audit audit) = 0
+link_count Replay = 0
+link_count (Soak soak) = 0
+link_count (Live live) = 2
+link_count (Switch asked) = 0
+link_count (Ask tool) = 1
+link_count (Get get) = 1
+link_count (LongGet get) = 1
+link_count (Put put) = 1
+link_count (Keep action) = 0
+
+-- what holds of a command with what clap found for it: it is possible, and has its files and its links
+pub record Fits (rows : List Row) (c : Command) : Type 0 where
+  pub range : IsInRange c
+  pub files : length (files_of c rows) ≡ file_count c
+  pub links : length (links_of c rows) ≡ link_count c
+
+-- ---- words without options
+
+-- a word that is no option: 1 to 4096 bytes, of which the first is no hyphen
+abbrev pub is_plain : Text → Bool
+is_plain word = nat_lt 0 (length word) && nat_le (length word) 4096 && not (slice_index word 0 == 45)
+
+-- what `answer` asks for where no option is given, and over which files
+abbrev pub plain_answer : TargetId → Command
+plain_answer id = Answer (record { id = id; port = default_port; mtu = 1500; cache = 0; captures = false; durable = false })
+
+abbrev pub plain_files : Option TargetId → Text → Text → List Text
+plain_files None file keep = []
+plain_files (Some id) file keep = file ∷ keep ∷ []

@@ -1,0 +1,531 @@
+//! What arguments spell.
+ghost use Rattle.std.specs.Prelude.{◌≡◌, ◌≢◌, ◌≤◌, length, false, map, option_map, string_bytes, IfErr, IfOk, IfSome, IsErr, IsOkAnd, IsSome, None, Ok};
+ghost use Rattle.std.specs.List.{list_all};
+ghost use Rattle.clap.specs.Values.{kind_of};
+ghost use Rattle.clap.specs.Words.{found_of, rows_of};
+ghost use Rattle.aoe_args.specs.Words.{CanRun, CanServe, Fits, IsFoundIn, IsInRange, answer_of, asked_of, audit_of, command, command_of, file_count, file_names, files_of, holds_back_durably, idle_of, is_durable, is_told, is_told_in, is_word, keep_action, keep_name, keep_of, link_count, links_of, list_tool_of, live_of, mirror_of, parsed, port_words, serve_of, serve_with, soak_of, spelled, stop_in, stop_name, switch_of, tool_of, with_rows};
+ghost use Rattle.aoe_args.specs.Values.{link};
+
+use crate::app::matches;
+use crate::bounds::{
+    CACHE, FRAMES, IDLE, LAST_SEED, LIVE_COMMANDS, LIVE_SECTORS, MOST_CAPTURED_SECTORS, MTU,
+    SOAK_COMMANDS, TURNS,
+};
+use crate::link::{all_links, link, two_ends};
+use crate::switch::read_kinds;
+use crate::tools::{cfg_of, discover_of, flush_of, get_of, mask_of, put_of, reserve_of, stat_of};
+use crate::values::{
+    DEFAULT_PORT, is_set, number, number_from, number_if_given, number_or, port_or_default,
+    ports_or_default, text, texts,
+};
+use crate::word::is_word;
+use crate::{
+    Answer, Audit, Command, KeepAction, Live, Mirror, PortWords, Serve, Soak, Switch, Tool,
+};
+use aoe_base::{LAST_MAJOR, LAST_MINOR, NoMemory, TargetId};
+use clap::ArgMatches;
+use clap::error::{Error, ErrorKind};
+use std::alloc::Global;
+
+/// How many files `answer` and `capture` work on.
+const ANSWER_FILES: usize = 2;
+
+/// How many files `mirror` works on: two sides, what says which of them leads, and a keep.
+const MIRROR_FILES: usize = 4;
+
+/// The most files that `serve` works on.
+const MOST_FILES: usize = 32;
+
+/// What an Ethernet frame carries where nothing is said of it.
+const DEFAULT_MTU: u32 = 1500;
+
+/// How many sectors a slot buffers where nothing is said of it.
+const DEFAULT_CACHE: u32 = 0;
+
+/// How many turns without a frame end `serve` where nothing is said of it.
+const DEFAULT_IDLE: u32 = 3000;
+
+/// How many turns that end no command end `live` where nothing is said of it.
+const LIVE_TURNS: u32 = 5000;
+
+/// A command that arguments spell, with what clap found for it.
+#[derive(Drop)]
+struct Found<'a> {
+    command: Command,
+    matches: ArgMatches<'a>,
+}
+
+/// Whether every word can stand on a command line.
+fn are_words(words: &[String]) -> bool
+    ensures { result ≡ list_all is_word (map string_bytes words.now) }
+{
+    words.iter().all(|word| is_word(word.as_bytes()))
+}
+
+/// What a refusal of clap's says: nothing where the words are at fault, and whatever else it refuses
+/// is its want of memory.
+fn refused<'a>(error: &Error) -> Result<Option<(&'a str, ArgMatches<'a>)>, NoMemory>
+    ensures memory { kind_of error.now ≡ ErrorKind.OutOfMemory → IsErr result }
+    ensures words { kind_of error.now ≢ ErrorKind.OutOfMemory → result ≡ Ok None }
+{
+    if error.kind() == ErrorKind::OutOfMemory {
+        return Err(NoMemory);
+    }
+    Ok(None)
+}
+
+/// What an answer of clap's says: the name of the command that is asked for, and what it finds for
+/// it; nothing where it finds a fault in the words.
+fn asked<'a>(
+    answer: Result<ArgMatches<'a>, Error>,
+) -> Result<Option<(&'a str, ArgMatches<'a>)>, NoMemory>
+    ensures memory { IfErr answer.entry
+        (λ error. kind_of error ≡ ErrorKind.OutOfMemory → IsErr result) }
+    ensures words { IfErr answer.entry
+        (λ error. kind_of error ≢ ErrorKind.OutOfMemory → result ≡ Ok None) }
+    ensures found { IfOk answer.entry (λ found. IsOkAnd result (IsFoundIn found)) }
+{
+    match answer {
+        Ok(mut found) => Ok(found.remove_subcommand()),
+        Err(error) => refused(&error),
+    }
+}
+
+/// The name of the command that is asked for and what clap finds for it, where every word can stand
+/// there and clap finds no fault.
+fn parsed<'a>(
+    alloc: Global,
+    words: &'a [String],
+) -> Result<Option<(&'a str, ArgMatches<'a>)>, NoMemory>
+    ensures value { IfOk result (λ r. option_map (λ p. (p.0.now, rows_of (found_of p.1))) r
+        ≡ parsed (map string_bytes words.entry.now)) }
+    ensures words { list_all is_word (map string_bytes words.entry.now) ≡ false → result ≡ Ok None }
+{
+    if !are_words(words) {
+        return Ok(None);
+    }
+    asked(matches(alloc, words))
+}
+
+/// Whether each write is to be synced before it is answered.
+fn is_durable(found: &ArgMatches) -> bool
+    ensures { result ≡ is_durable (rows_of (found_of found.now)) }
+{
+    is_set(found, "durable")
+}
+
+/// Whether that is asked for beside a number of sectors to hold back.
+fn holds_back_durably(found: &ArgMatches) -> bool
+    ensures { result ≡ holds_back_durably (rows_of (found_of found.now)) }
+{
+    is_durable(found) && text(found, "cache").is_some()
+}
+
+/// What the arguments of `answer` ask for, or those of `capture`.
+#[tactic(auto, unfolding(crate::specs::Words::answer_of))]
+fn answer_of(found: &ArgMatches, captures: bool) -> Option<Command>
+    ensures value { result ≡ option_map Command.Answer (answer_of captures (rows_of (found_of found.now))) }
+    ensures fits { IfSome result (Fits (rows_of (found_of found.now))) }
+{
+    if texts(found, "files")?.len() != ANSWER_FILES || holds_back_durably(found) {
+        return None;
+    }
+    Some(Command::Answer(Answer {
+        id: TargetId {
+            major: number(found, "shelf", LAST_MAJOR)? as u16,
+            minor: number(found, "slot", LAST_MINOR)? as u8,
+        },
+        port: port_or_default(found, "port", DEFAULT_PORT)?,
+        mtu: number_or(found, "mtu", MTU, DEFAULT_MTU)?,
+        cache: number_or(found, "cache", CACHE, DEFAULT_CACHE)?,
+        captures,
+        durable: is_durable(found),
+    }))
+}
+
+/// How many turns without a frame end `serve`.
+fn idle_of(found: &ArgMatches) -> Option<Option<u32>>
+    ensures value { result ≡ idle_of (rows_of (found_of found.now)) }
+    ensures bounds { IfSome result (λ idle. IfSome idle (λ n. (1 ≤ n) × (n ≤ 1000000))) }
+{
+    let turns = number_or(found, "idle", IDLE, DEFAULT_IDLE)?;
+    Some(if turns == 0 { None } else { Some(turns) })
+}
+
+/// What the arguments of `serve` ask for, of so many slots.
+#[tactic(auto, unfolding(crate::specs::Words::serve_with))]
+fn serve_with(found: &ArgMatches, slots: u8) -> Option<Serve>
+    requires { (1 ≤ slots) × (slots ≤ 16) }
+    ensures value { result ≡ serve_with slots (rows_of (found_of found.now)) }
+    ensures range { IfSome result CanServe }
+    ensures slots { IfSome result (λ serve. serve.slots ≡ slots) }
+{
+    Some(Serve {
+        shelf: number(found, "shelf", LAST_MAJOR)? as u16,
+        slots,
+        ports: ports_or_default(found, "ports")?,
+        mtu: number_or(found, "mtu", MTU, DEFAULT_MTU)?,
+        cache: number_or(found, "cache", CACHE, DEFAULT_CACHE)?,
+        durable: is_durable(found),
+        frames: number_if_given(found, "frames", FRAMES)?,
+        idle: idle_of(found)?,
+    })
+}
+
+/// What the arguments of `serve` ask for.
+#[tactic(auto, unfolding(crate::specs::Words::serve_of))]
+fn serve_of(found: &ArgMatches) -> Option<Command>
+    ensures value { result ≡ option_map Command.Serve (serve_of (rows_of (found_of found.now))) }
+    ensures fits { IfSome result (Fits (rows_of (found_of found.now))) }
+{
+    let files = texts(found, "files")?.len();
+    if files % 2 != 0 || files < 2 || files > MOST_FILES || holds_back_durably(found) {
+        return None;
+    }
+    let _link = link(found)?;
+    Some(Command::Serve(serve_with(found, (files / 2) as u8)?))
+}
+
+/// What the arguments of `mirror` ask for.
+#[tactic(auto, unfolding(crate::specs::Words::mirror_of))]
+fn mirror_of(found: &ArgMatches) -> Option<Command>
+    ensures value { result ≡ option_map Command.Mirror (mirror_of (rows_of (found_of found.now))) }
+    ensures fits { IfSome result (Fits (rows_of (found_of found.now))) }
+{
+    if texts(found, "files")?.len() != MIRROR_FILES {
+        return None;
+    }
+    Some(Command::Mirror(Mirror {
+        id: TargetId {
+            major: number(found, "shelf", LAST_MAJOR)? as u16,
+            minor: number(found, "slot", LAST_MINOR)? as u8,
+        },
+        port: port_or_default(found, "port", DEFAULT_PORT)?,
+        mtu: number_or(found, "mtu", MTU, DEFAULT_MTU)?,
+    }))
+}
+
+/// The name of a keep's file.
+fn keep_name<'a>(found: &ArgMatches<'a>) -> Option<&'a str>
+    ensures { option_map (λ name. name.now) result ≡ keep_name (rows_of (found_of found.now)) }
+{
+    text(found, "keep")
+}
+
+/// What the arguments of `audit` ask for.
+#[tactic(auto, unfolding(crate::specs::Words::audit_of))]
+fn audit_of(found: &ArgMatches) -> Option<Command>
+    ensures value { result ≡ option_map Command.Audit (audit_of (rows_of (found_of found.now))) }
+    ensures fits { IfSome result (Fits (rows_of (found_of found.now))) }
+{
+    let _name = keep_name(found)?;
+    Some(Command::Audit(Audit {
+        id: TargetId {
+            major: number(found, "shelf", LAST_MAJOR)? as u16,
+            minor: number(found, "slot", LAST_MINOR)? as u8,
+        },
+        ports: ports_or_default(found, "ports")?,
+        mtu: number_or(found, "mtu", MTU, DEFAULT_MTU)?,
+        sectors: number(found, "sectors", MOST_CAPTURED_SECTORS)?,
+    }))
+}
+
+/// What the arguments of `soak` ask for.
+#[tactic(auto, unfolding(crate::specs::Words::soak_of))]
+fn soak_of(found: &ArgMatches) -> Option<Command>
+    ensures value { result ≡ option_map Command.Soak (soak_of (rows_of (found_of found.now))) }
+    ensures fits { IfSome result (Fits (rows_of (found_of found.now))) }
+{
+    Some(Command::Soak(Soak {
+        seed: number(found, "seed", LAST_SEED)? as u16,
+        count: number_from(found, "count", SOAK_COMMANDS)?,
+    }))
+}
+
+/// What the arguments of `switch` ask for.
+#[tactic(auto, unfolding(crate::specs::Words::switch_of))]
+fn switch_of(found: &ArgMatches) -> Option<Command>
+    ensures value { result ≡ option_map Command.Switch (switch_of (rows_of (found_of found.now))) }
+    ensures fits { IfSome result (Fits (rows_of (found_of found.now))) }
+{
+    Some(Command::Switch(Switch {
+        ports: read_kinds(texts(found, "ports")?)?,
+    }))
+}
+
+/// What the arguments of `live` ask for.
+#[tactic(auto, unfolding(crate::specs::Words::live_of))]
+fn live_of(found: &ArgMatches) -> Option<Command>
+    ensures value { result ≡ option_map Command.Live (live_of (rows_of (found_of found.now))) }
+    ensures fits { IfSome result (Fits (rows_of (found_of found.now))) }
+{
+    let _ends = two_ends(found)?;
+    Some(Command::Live(Live {
+        sectors: number_from(found, "sectors", LIVE_SECTORS)?,
+        count: number_from(found, "count", LIVE_COMMANDS)?,
+        turns: number_or(found, "turns", TURNS, LIVE_TURNS)?,
+    }))
+}
+
+/// What is to be done with a keep.
+fn keep_action(action: &str) -> Option<KeepAction>
+    ensures { result ≡ keep_action action.now }
+{
+    match action {
+        "show" => Some(KeepAction::Show),
+        "upgrade" => Some(KeepAction::Upgrade),
+        "lock" => Some(KeepAction::Lock),
+        "unlock" => Some(KeepAction::Unlock),
+        _ => None,
+    }
+}
+
+/// What the arguments of `keep` ask for.
+#[tactic(auto, unfolding(crate::specs::Words::keep_of))]
+fn keep_of(found: &ArgMatches) -> Option<Command>
+    ensures value { result ≡ option_map Command.Keep (keep_of (rows_of (found_of found.now))) }
+    ensures fits { IfSome result (Fits (rows_of (found_of found.now))) }
+{
+    let _name = keep_name(found)?;
+    Some(Command::Keep(keep_action(text(found, "action")?)?))
+}
+
+/// What the arguments of the tool of this name ask for, of those that read and edit what a device
+/// keeps.
+#[tactic(auto, unfolding(crate::specs::Words::list_tool_of))]
+fn list_tool_of(name: &str, found: &ArgMatches) -> Option<Tool>
+    ensures value { result ≡ list_tool_of name.now (rows_of (found_of found.now)) }
+    ensures range { IfSome result CanRun }
+    ensures link { IfSome result (λ tool. IsSome (link (rows_of (found_of found.now)))) }
+{
+    match name {
+        "cfg" => cfg_of(found),
+        "mask" => mask_of(found),
+        "reserve" => reserve_of(found),
+        _ => None,
+    }
+}
+
+/// What the arguments of the tool of this name ask for.
+#[tactic(auto, unfolding(crate::specs::Words::tool_of))]
+fn tool_of(name: &str, found: &ArgMatches) -> Option<Tool>
+    ensures value { result ≡ tool_of name.now (rows_of (found_of found.now)) }
+    ensures range { IfSome result CanRun }
+    ensures link { IfSome result (λ tool. IsSome (link (rows_of (found_of found.now)))) }
+{
+    match name {
+        "discover" => discover_of(found),
+        "stat" => stat_of(found),
+        "flush" => flush_of(found),
+        _ => list_tool_of(name, found),
+    }
+}
+
+/// What the arguments of the command of this name ask for, of those that ask a network.
+#[tactic(auto, unfolding(crate::specs::Words::asked_of))]
+fn asked_of(name: &str, found: &ArgMatches) -> Option<Command>
+    ensures value { result ≡ asked_of name.now (rows_of (found_of found.now)) }
+    ensures fits { IfSome result (Fits (rows_of (found_of found.now))) }
+{
+    let command = match name {
+        "get" => get_of(found)?,
+        "put" => Command::Put(put_of(found)?),
+        _ => Command::Ask(tool_of(name, found)?),
+    };
+    Some(command)
+}
+
+/// What the arguments of the command of this name ask for.
+#[tactic(auto, unfolding(crate::specs::Words::command_of))]
+fn command_of(name: &str, found: &ArgMatches) -> Option<Command>
+    ensures value { result ≡ command_of name.now (rows_of (found_of found.now)) }
+    ensures fits { IfSome result (Fits (rows_of (found_of found.now))) }
+{
+    match name {
+        "answer" => answer_of(found, false),
+        "capture" => answer_of(found, true),
+        "serve" => serve_of(found),
+        "mirror" => mirror_of(found),
+        "audit" => audit_of(found),
+        "replay" => Some(Command::Replay),
+        "soak" => soak_of(found),
+        "live" => live_of(found),
+        "switch" => switch_of(found),
+        "keep" => keep_of(found),
+        _ => asked_of(name, found),
+    }
+}
+
+/// The command that these arguments of it spell, with what clap found for it.
+fn with_command<'a>(name: &'a str, matches: ArgMatches<'a>) -> Option<Found<'a>>
+    ensures value { option_map (λ s. (s.command, rows_of (found_of s.matches))) result
+        ≡ with_rows name.entry.now (rows_of (found_of matches.entry)) }
+    ensures fits { IfSome result (λ s. Fits (rows_of (found_of s.matches)) s.command) }
+{
+    let command = command_of(name, &matches)?;
+    Some(Found { command, matches })
+}
+
+/// The command that the arguments spell, with what clap found for it.
+fn spelled<'a>(alloc: Global, words: &'a [String]) -> Result<Option<Found<'a>>, NoMemory>
+    ensures value { IfOk result (λ r. option_map (λ s. (s.command, rows_of (found_of s.matches))) r
+        ≡ spelled (map string_bytes words.entry.now)) }
+    ensures fits { IfOk result (λ r. IfSome r (λ s. Fits
+        (rows_of (found_of s.matches)) s.command)) }
+    ensures words { list_all is_word (map string_bytes words.entry.now) ≡ false → result ≡ Ok None }
+{
+    match parsed(alloc, words)? {
+        Some((name, matches)) => Ok(with_command(name, matches)),
+        None => Ok(None),
+    }
+}
+
+/// The command that the arguments behind the program's name spell, or `None` where they spell none.
+/// Memory is asked for once each argument can stand on a command line.
+pub fn read_words(alloc: Global, words: &[String]) -> Result<Option<Command>, NoMemory>
+    ensures command { IfOk result (λ r. r ≡ command (map string_bytes words.now)) }
+    ensures range { IfOk result (λ r. IfSome r IsInRange) }
+    ensures files { IfOk result (λ r. IfSome r
+        (λ c. length (file_names (map string_bytes words.now)) ≡ file_count c)) }
+    ensures links { IfOk result (λ r. IfSome r
+        (λ c. length (port_words (map string_bytes words.now)) ≡ link_count c)) }
+    ensures words { list_all is_word (map string_bytes words.now) ≡ false → result ≡ Ok None }
+{
+    match spelled(alloc, words)? {
+        Some(found) => Ok(Some(found.command)),
+        None => Ok(None),
+    }
+}
+
+/// Copies of texts.
+fn copies(alloc: Global, texts: &[&str]) -> Result<Vec<String>, NoMemory>
+    ensures { IfOk result (λ names. map string_bytes names.items
+        ≡ map (λ text. text.now) texts.now) }
+{
+    let mut names = Vec::new(alloc);
+    'texts: for text in texts {
+        names.push(String::from_str(alloc, text)?)?;
+    }
+    Ok(names)
+}
+
+/// The names of the files that a command works on.
+fn files_in(alloc: Global, found: &Found) -> Result<Vec<String>, NoMemory>
+    ensures { IfOk result (λ names. map string_bytes names.items
+        ≡ files_of found.now.command (rows_of (found_of found.now.matches))) }
+{
+    match found.command {
+        Command::Answer(_) | Command::Serve(_) | Command::Mirror(_) => match texts(
+            &found.matches,
+            "files",
+        ) {
+            Some(texts) => copies(alloc, texts),
+            None => Ok(Vec::new(alloc)),
+        },
+        Command::Audit(_) | Command::Keep(_) => match keep_name(&found.matches) {
+            Some(name) => copies(alloc, &[name]),
+            None => Ok(Vec::new(alloc)),
+        },
+        _ => Ok(Vec::new(alloc)),
+    }
+}
+
+/// The names of the files that `answer`, `capture`, `serve`, `mirror`, `audit` or `keep` works on, in
+/// their order; none for the other commands and where the arguments spell no command.
+pub fn files_of(alloc: Global, words: &[String]) -> Result<Vec<String>, NoMemory>
+    ensures { IfOk result (λ names. map string_bytes names.items
+        ≡ file_names (map string_bytes words.now)) }
+{
+    match spelled(alloc, words)? {
+        Some(found) => files_in(alloc, &found),
+        None => Ok(Vec::new(alloc)),
+    }
+}
+
+/// What names the links that a command works on.
+fn links_in(alloc: Global, found: &Found) -> Result<Vec<PortWords>, NoMemory>
+    ensures { IfOk result (λ links. links.items
+        ≡ links_of found.now.command (rows_of (found_of found.now.matches))) }
+{
+    match found.command {
+        Command::Answer(_)
+        | Command::Mirror(_)
+        | Command::Audit(_)
+        | Command::Replay
+        | Command::Soak(_)
+        | Command::Switch(_)
+        | Command::Keep(_) => Ok(Vec::new(alloc)),
+        Command::Live(_) => match two_ends(&found.matches) {
+            Some((one, two)) => all_links(alloc, &[one, two]),
+            None => Ok(Vec::new(alloc)),
+        },
+        Command::Serve(_)
+        | Command::Ask(_)
+        | Command::Get(_)
+        | Command::LongGet(_)
+        | Command::Put(_) => match link(&found.matches) {
+            Some(link) => all_links(alloc, &[link]),
+            None => Ok(Vec::new(alloc)),
+        },
+    }
+}
+
+/// The name of the file whose coming ends the run of a command.
+fn stop_in<'a>(found: &Found<'a>) -> Option<&'a str>
+    ensures { option_map (λ name. name.now) result
+        ≡ stop_in found.now.command (rows_of (found_of found.now.matches)) }
+{
+    match found.command {
+        Command::Serve(_) => text(&found.matches, "stop"),
+        _ => None,
+    }
+}
+
+/// The name of the file whose coming ends the run: what `--stop` of `serve` gives, where it stands;
+/// none for the other commands and where the arguments spell no command.
+pub fn stop_of(alloc: Global, words: &[String]) -> Result<Option<String>, NoMemory>
+    ensures { IfOk result (λ name. option_map string_bytes name
+        ≡ stop_name (map string_bytes words.now)) }
+{
+    let Some(found) = spelled(alloc, words)? else {
+        return Ok(None);
+    };
+    match stop_in(&found) {
+        Some(name) => Ok(Some(String::from_str(alloc, name)?)),
+        None => Ok(None),
+    }
+}
+
+/// Whether it is told how far a command has come where standard error is no terminal, too.
+fn is_told_in(found: &Found) -> bool
+    ensures { result ≡ is_told_in found.now.command (rows_of (found_of found.now.matches)) }
+{
+    match found.command {
+        Command::Get(_) | Command::LongGet(_) | Command::Put(_) => {
+            is_set(&found.matches, "progress")
+        }
+        _ => false,
+    }
+}
+
+/// Whether it is told how far a copy has come where standard error is no terminal, too: `--progress`
+/// of `get` and `put`.
+pub fn is_told(alloc: Global, words: &[String]) -> Result<bool, NoMemory>
+    ensures { IfOk result (λ told. told ≡ is_told (map string_bytes words.now)) }
+{
+    match spelled(alloc, words)? {
+        Some(found) => Ok(is_told_in(&found)),
+        None => Ok(false),
+    }
+}
+
+/// What names the links that the command works on: one for `serve` and for each tool, two for
+/// `live`, none for the other commands and where the arguments spell no command.
+pub fn ports_of(alloc: Global, words: &[String]) -> Result<Vec<PortWords>, NoMemory>
+    ensures { IfOk result (λ links. links.items ≡ port_words (map string_bytes words.now)) }
+{
+    match spelled(alloc, words)? {
+        Some(found) => links_in(alloc, &found),
+        None => Ok(Vec::new(alloc)),
+    }
+}

@@ -1,0 +1,290 @@
+//! What the arguments of the tools spell.
+ghost use Rattle.std.specs.Prelude.{◌≡◌, ◌≤◌, ◌<◌, ◌^◌, option_map, IfSome, IsSome};
+ghost use Rattle.clap.specs.Words.{found_of, rows_of};
+ghost use Rattle.aoe_args.specs.Tools.{CanAsk, CanGetLong, CanPut, IsDevice, asking_of, ccmd_alone, ccmd_with_text, cfg_of, device, discover_of, first_sector, flush_of, long_get_of, mask_of, put_of, rcmd_alone, rcmd_with_list, reserve_of, sector, sector_count, stat_of};
+ghost use Rattle.aoe_args.specs.Values.{link};
+ghost use Rattle.aoe_args.specs.Words.{CanRun, Fits, get_command};
+
+use crate::bounds::{LAST_SECTOR, MOST_GET_SECTORS, SHORT_GET, TURNS};
+use crate::link::link;
+use crate::lists::{read_dirs, read_macs, read_text};
+use crate::values::{
+    TOOL_PORT, is_set, number, number_from, number_or, port_or_default, text, texts,
+};
+use crate::{Asking, Cfg, Command, Discover, Flush, Get, LongGet, Mask, Put, Reserve, Stat, Tool};
+use aoe_base::{TargetId, device_law, read_device, read_number};
+use arrayvec::ArrayVec;
+use clap::ArgMatches;
+
+/// How many turns a tool listens where nothing is said of it.
+const TOOL_TURNS: u32 = 50;
+
+/// How many turns `flush`, `get` and `put` listen where nothing is said of it.
+const SECTOR_TURNS: u32 = 5000;
+
+/// Who asks, where the link is named; `turns` is how long where nothing is said of it.
+#[tactic(auto, unfolding(crate::specs::Tools::asking_of))]
+fn asking_of(found: &ArgMatches, turns: u32) -> Option<Asking>
+    requires { (1 ≤ turns) × (turns ≤ 1000000) }
+    ensures value { result ≡ asking_of turns (rows_of (found_of found.now)) }
+    ensures range { IfSome result CanAsk }
+    ensures link { IfSome result (λ asking. IsSome (link (rows_of (found_of found.now)))) }
+{
+    let _link = link(found)?;
+    Some(Asking {
+        port: port_or_default(found, "port", TOOL_PORT)?,
+        turns: number_or(found, "turns", TURNS, turns)?,
+    })
+}
+
+/// The device that is asked.
+fn device_of(found: &ArgMatches) -> Option<TargetId>
+    ensures value { result ≡ device (rows_of (found_of found.now)) }
+    ensures range { IfSome result IsDevice }
+{
+    device_law();
+    read_device(text(found, "dev")?.as_bytes())
+}
+
+/// What the arguments of `discover` ask for.
+#[tactic(auto, unfolding(crate::specs::Tools::discover_of))]
+pub(crate) fn discover_of(found: &ArgMatches) -> Option<Tool>
+    ensures value { result ≡ option_map Tool.Discover (discover_of (rows_of (found_of found.now))) }
+    ensures range { IfSome result CanRun }
+    ensures link { IfSome result (λ tool. IsSome (link (rows_of (found_of found.now)))) }
+{
+    Some(Tool::Discover(Discover {
+        asking: asking_of(found, TOOL_TURNS)?,
+        long: is_set(found, "long"),
+    }))
+}
+
+/// What the arguments of `stat` ask for.
+#[tactic(auto, unfolding(crate::specs::Tools::stat_of))]
+pub(crate) fn stat_of(found: &ArgMatches) -> Option<Tool>
+    ensures value { result ≡ option_map Tool.Stat (stat_of (rows_of (found_of found.now))) }
+    ensures range { IfSome result CanRun }
+    ensures link { IfSome result (λ tool. IsSome (link (rows_of (found_of found.now)))) }
+{
+    Some(Tool::Stat(Stat {
+        asking: asking_of(found, TOOL_TURNS)?,
+        sectors: is_set(found, "sectors"),
+    }))
+}
+
+/// The field CCmd of an action of `cfg` that has no text.
+fn ccmd_alone(action: &str) -> Option<u8>
+    ensures value { result ≡ ccmd_alone action.now }
+    ensures range { IfSome result (λ ccmd. ccmd ≤ 4) }
+{
+    match action {
+        "read" => Some(0),
+        "clear" => Some(4),
+        _ => None,
+    }
+}
+
+/// The field CCmd of an action of `cfg` that has a text.
+fn ccmd_with_text(action: &str) -> Option<u8>
+    ensures value { result ≡ ccmd_with_text action.now }
+    ensures range { IfSome result (λ ccmd. ccmd ≤ 4) }
+{
+    match action {
+        "test" => Some(1),
+        "prefix" => Some(2),
+        "set" => Some(3),
+        "force" => Some(4),
+        _ => None,
+    }
+}
+
+/// What the arguments of `cfg` ask for.
+#[tactic(auto, unfolding(crate::specs::Tools::cfg_of))]
+pub(crate) fn cfg_of(found: &ArgMatches) -> Option<Tool>
+    ensures value { result ≡ option_map Tool.Cfg (cfg_of (rows_of (found_of found.now))) }
+    ensures range { IfSome result CanRun }
+    ensures link { IfSome result (λ tool. IsSome (link (rows_of (found_of found.now)))) }
+{
+    let asking = asking_of(found, TOOL_TURNS)?;
+    let id = device_of(found)?;
+    let action = text(found, "action")?;
+    let (ccmd, text) = match text(found, "text") {
+        None => (ccmd_alone(action)?, ArrayVec::new()),
+        Some(string) => (ccmd_with_text(action)?, read_text(string.as_bytes())?),
+    };
+    Some(Tool::Cfg(Cfg {
+        asking,
+        id,
+        ccmd,
+        text,
+    }))
+}
+
+/// What the arguments of `mask` ask for.
+#[tactic(auto, unfolding(crate::specs::Tools::mask_of))]
+pub(crate) fn mask_of(found: &ArgMatches) -> Option<Tool>
+    ensures value { result ≡ option_map Tool.Mask (mask_of (rows_of (found_of found.now))) }
+    ensures range { IfSome result CanRun }
+    ensures link { IfSome result (λ tool. IsSome (link (rows_of (found_of found.now)))) }
+{
+    let asking = asking_of(found, TOOL_TURNS)?;
+    let id = device_of(found)?;
+    let action = text(found, "action")?;
+    let dirs = match texts(found, "dirs") {
+        None if action == "read" => None,
+        Some(words) if action == "edit" => Some(read_dirs(words)?),
+        _ => return None,
+    };
+    Some(Tool::Mask(Mask { asking, id, dirs }))
+}
+
+/// The field RCmd of an action of `reserve` that has no addresses.
+fn rcmd_alone(action: &str) -> Option<u8>
+    ensures value { result ≡ rcmd_alone action.now }
+    ensures range { IfSome result (λ rcmd. rcmd ≤ 2) }
+{
+    match action {
+        "read" => Some(0),
+        "release" => Some(1),
+        _ => None,
+    }
+}
+
+/// The field RCmd of an action of `reserve` that has addresses.
+fn rcmd_with_list(action: &str) -> Option<u8>
+    ensures value { result ≡ rcmd_with_list action.now }
+    ensures range { IfSome result (λ rcmd. rcmd ≤ 2) }
+{
+    match action {
+        "set" => Some(1),
+        "force" => Some(2),
+        _ => None,
+    }
+}
+
+/// What the arguments of `reserve` ask for.
+#[tactic(auto, unfolding(crate::specs::Tools::reserve_of))]
+pub(crate) fn reserve_of(found: &ArgMatches) -> Option<Tool>
+    ensures value { result ≡ option_map Tool.Reserve (reserve_of (rows_of (found_of found.now))) }
+    ensures range { IfSome result CanRun }
+    ensures link { IfSome result (λ tool. IsSome (link (rows_of (found_of found.now)))) }
+{
+    let asking = asking_of(found, TOOL_TURNS)?;
+    let id = device_of(found)?;
+    let action = text(found, "action")?;
+    let (rcmd, list) = match texts(found, "macs") {
+        None => (rcmd_alone(action)?, ArrayVec::new()),
+        Some(words) => (rcmd_with_list(action)?, read_macs(words)?),
+    };
+    Some(Tool::Reserve(Reserve {
+        asking,
+        id,
+        rcmd,
+        list,
+    }))
+}
+
+/// What the arguments of `flush` ask for.
+#[tactic(auto, unfolding(crate::specs::Tools::flush_of))]
+pub(crate) fn flush_of(found: &ArgMatches) -> Option<Tool>
+    ensures value { result ≡ option_map Tool.Flush (flush_of (rows_of (found_of found.now))) }
+    ensures range { IfSome result CanRun }
+    ensures link { IfSome result (λ tool. IsSome (link (rows_of (found_of found.now)))) }
+{
+    Some(Tool::Flush(Flush {
+        asking: asking_of(found, SECTOR_TURNS)?,
+        id: device_of(found)?,
+    }))
+}
+
+/// The first sector.
+fn sector(found: &ArgMatches) -> Option<u64>
+    ensures value { result ≡ sector (rows_of (found_of found.now)) }
+    ensures range { IfSome result (λ at. at < 2 ^ 48) }
+{
+    number(found, "at", LAST_SECTOR)
+}
+
+/// The first sector, where one may be named.
+fn first_sector(found: &ArgMatches) -> Option<u64>
+    ensures value { result ≡ first_sector (rows_of (found_of found.now)) }
+    ensures range { IfSome result (λ at. at < 2 ^ 48) }
+{
+    match text(found, "at") {
+        Some(text) => read_number(text.as_bytes(), LAST_SECTOR),
+        None => Some(0),
+    }
+}
+
+/// How many sectors, where a number is named.
+fn sector_count(found: &ArgMatches) -> Option<Option<u64>>
+    ensures value { result ≡ sector_count (rows_of (found_of found.now)) }
+    ensures range { IfSome result
+        (λ number. IfSome number (λ n. (1 ≤ n) × (n ≤ 2 ^ 48))) }
+{
+    let Some(text) = text(found, "count") else {
+        return Some(None);
+    };
+    match read_number(text.as_bytes(), MOST_GET_SECTORS) {
+        Some(count) if count > 0 => Some(Some(count)),
+        _ => None,
+    }
+}
+
+/// What the arguments of `get` ask for, however many sectors these are.
+#[tactic(auto, unfolding(crate::specs::Tools::long_get_of))]
+fn long_get_of(found: &ArgMatches) -> Option<LongGet>
+    ensures value { result ≡ long_get_of (rows_of (found_of found.now)) }
+    ensures range { IfSome result CanGetLong }
+    ensures link { IfSome result (λ get. IsSome (link (rows_of (found_of found.now)))) }
+{
+    Some(LongGet {
+        asking: asking_of(found, SECTOR_TURNS)?,
+        id: device_of(found)?,
+        at: first_sector(found)?,
+        count: sector_count(found)?,
+    })
+}
+
+/// What the arguments of `get` ask for.
+pub(crate) fn get_of(found: &ArgMatches) -> Option<Command>
+    ensures value { result ≡ option_map get_command (long_get_of (rows_of (found_of found.now))) }
+    ensures fits { IfSome result (Fits (rows_of (found_of found.now))) }
+{
+    let LongGet {
+        asking,
+        id,
+        at,
+        count,
+    } = long_get_of(found)?;
+    let command = match count {
+        Some(count) if count <= SHORT_GET => Command::Get(Get {
+            asking,
+            id,
+            at,
+            count: count as u32,
+        }),
+        _ => Command::LongGet(LongGet {
+            asking,
+            id,
+            at,
+            count,
+        }),
+    };
+    Some(command)
+}
+
+/// What the arguments of `put` ask for.
+#[tactic(auto, unfolding(crate::specs::Tools::put_of))]
+pub(crate) fn put_of(found: &ArgMatches) -> Option<Put>
+    ensures value { result ≡ put_of (rows_of (found_of found.now)) }
+    ensures range { IfSome result CanPut }
+    ensures link { IfSome result (λ put. IsSome (link (rows_of (found_of found.now)))) }
+{
+    Some(Put {
+        asking: asking_of(found, SECTOR_TURNS)?,
+        id: device_of(found)?,
+        at: sector(found)?,
+        verify: is_set(found, "verify"),
+    })
+}

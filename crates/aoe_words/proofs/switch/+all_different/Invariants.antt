@@ -1,5 +1,0 @@
-use Rattle.std.proofs.Common.{length}
-use Rattle.aoe_words.proofs.switch.+all_different.Given as goal
-
-abbrev pub decreases-all_different : goal.decreases-all_different
-decreases-all_different l = length l.vids.now
