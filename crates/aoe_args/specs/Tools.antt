@@ -8,6 +8,7 @@ use Rattle.aoe_base.specs.declared.address.TargetId.{TargetId}
 use Rattle.aoe_base.specs.Addresses.{is_individual}
 use Rattle.aoe_base.specs.Names.{device_of, mac_of}
 use Rattle.arrayvec.specs.ArrayVec.{ArrayVec}
+use Rattle.aoe_base.specs.Sizes.{most_copied}
 use Rattle.aoe_lists.specs.Settings.{max_directives}
 use Rattle.aoe_lists.specs.declared.dir.Dir.{Dir}
 use Rattle.aoe_base.specs.Texts.{each}
@@ -203,7 +204,7 @@ pub record CanGet (get : Gets) : Type 0 where
   pub asking : CanAsk get.asking
   pub device : IsDevice get.id
   pub at : get.at < 2 ^ 48
-  pub count : (1 ≤ get.count) × (get.count ≤ 32768)
+  pub count : (1 ≤ get.count) × (get.count ≤ most_copied)
 
 pub record CanGetLong (get : LongGets) : Type 0 where
   pub asking : CanAsk get.asking

@@ -15,6 +15,7 @@ use Rattle.aoe_base.specs.Decimal.{number_of}
 use Rattle.aoe_base.specs.declared.address.Mac.{Mac}
 use Rattle.aoe_base.specs.declared.address.TargetId.{TargetId}
 use Rattle.aoe_base.specs.Addresses.{all_unique, is_individual}
+use Rattle.aoe_base.specs.Sizes.{most_copied}
 use Rattle.aoe_args.specs.Apps.{aoe_app}
 use Rattle.aoe_args.specs.Values.{default_port, given, given_or, is_set, link, number_within, port_of, ports_of, two_ends}
 use Rattle.aoe_args.specs.Switching.{CanSwitch, kinds_of}
@@ -193,7 +194,7 @@ tool_of name rows =
 
 -- the command that a `get` comes to, by its COUNT
 abbrev pub get_command : LongGets → Command
-get_command g = option_map_or (λ count. if nat_le count 32768 then Get (short_get g count) else LongGet g) g.count (LongGet g)
+get_command g = option_map_or (λ count. if nat_le count most_copied then Get (short_get g count) else LongGet g) g.count (LongGet g)
 
 -- the command of this name, of those that ask a network
 unfoldable pub asked_of : Text → List Row → Option Command

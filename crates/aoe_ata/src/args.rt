@@ -1,4 +1,5 @@
 //! The registers of an ATA command (AoEr11, "ATA command", the fields before the data).
+ghost use Rattle.aoe_base.specs.Sizes.{longest_frame};
 ghost use Rattle.aoe_ata.specs.declared.args.AtaArgs.{AtaArgs};
 ghost use Rattle.std.specs.Prelude.{List, ℕ, ◌≡◌, ◌+◌, ◌^◌, ◌<◌, ◌≤◌, ◌++◌, All, IfSome, Some, length, slice_index, take};
 ghost use Rattle.arrayvec.specs.ArrayVec.{array_vec_len};
@@ -90,7 +91,7 @@ pub fn args_array(args: &AtaArgs) -> [u8; 12]
 
 /// Appends the 12 bytes of the registers, for which there is room.
 pub fn write_args(args: &AtaArgs, out: &mut Frame)
-    requires room { array_vec_len out.old + 12 ≤ 9018 }
+    requires room { array_vec_len out.old + 12 ≤ longest_frame }
     requires address { args.now.lba < 2 ^ 48 }
     ensures bytes { out.new.items ≡ out.old.items ++ args_bytes args.now }
     ensures read { args_of (args_bytes args.now) ≡ Some args.now }

@@ -1,5 +1,6 @@
 -- The parts of a block by its fields.
 use Rattle.std.specs.Prelude.{ℕ, ◌≡◌, ◌+◌, ◌-◌, ◌*◌, ◌<◌, ◌≤◌, ◌^◌, ◌++◌, true, false, cond, List, [], ◌∷◌, length, take, drop, min}
+use Rattle.aoe_base.specs.Sizes.{most_copied}
 use Rattle.aoe_initiator.specs.declared.outcome.Outcome.{Outcome}
 use Rattle.aoe_initiator.specs.declared.outcome.Outcome.TheVariants.{Read, Written, Flushed, Told, AtaError, AoeError, GaveUp}
 use Rattle.aoe_block.specs.declared.stage.Stage.{Stage}
@@ -57,7 +58,7 @@ pub record IsParted (total max at count bytes parts : ℕ) : Type 0 where
   pub few : max ≤ 17
   pub range : at + count ≤ total
   pub device : total < 2 ^ 64
-  pub short : count ≤ 32768
+  pub short : count ≤ most_copied
   pub size : bytes ≡ 512 * count
   pub enough : count ≤ parts * max
   pub needed : parts * max < count + max

@@ -1,5 +1,6 @@
 //! A range of sectors that is read or written part by part.
 ghost use Rattle.std.specs.Prelude.{◌≡◌, ℕ, ◌+◌, ◌*◌, ◌/◌, ◌%◌, ◌<◌, ◌≤◌, ◌↔◌, Err, IfOk, IfSome, IsOkUnless, IsSome, None, OnErr, false, length, option_map, replicate, true};
+ghost use Rattle.aoe_base.specs.Sizes.{most_copied};
 ghost use Rattle.aoe_initiator.specs.HostLaw.{op_refusal};
 ghost use Rattle.aoe_initiator.specs.Op.{CanSubmit};
 ghost use Rattle.aoe_initiator.specs.declared.device.Attached.{Attached};
@@ -78,7 +79,7 @@ impl Block {
     ) -> Result<Block, BlockRefusal>
         requires some { 0 < max }
         requires few { max ≤ 17 }
-        requires short { count ≤ 32768 }
+        requires short { count ≤ most_copied }
         ensures read { IfOk result (λ block. block.write ≡ false) }
         ensures device { IfOk result (λ block. (block.total ≡ total) × (block.max ≡ max)) }
         ensures cut { IfOk result (λ block. IsCut at max (replicate (512 * count) 0) block.parts) }
@@ -108,7 +109,7 @@ impl Block {
         requires some { 0 < max }
         requires few { max ≤ 17 }
         requires whole { length bytes % 512 ≡ 0 }
-        requires short { length bytes ≤ 512 * 32768 }
+        requires short { length bytes ≤ 512 * most_copied }
         ensures write { IfOk result (λ block. block.write ≡ true) }
         ensures device { IfOk result (λ block. (block.total ≡ total) × (block.max ≡ max)) }
         ensures cut { IfOk result (λ block. IsCut at max bytes block.parts) }
@@ -136,7 +137,7 @@ impl Block {
         requires some { 0 < max }
         requires few { max ≤ 17 }
         requires range { at + count ≤ total }
-        requires short { count ≤ 32768 }
+        requires short { count ≤ most_copied }
         requires size { length bytes ≡ 512 * count }
         ensures write { IfOk result (λ block. block.write ≡ write) }
         ensures device { IfOk result (λ block. (block.total ≡ total) × (block.max ≡ max)) }

@@ -2,6 +2,7 @@
 use Rattle.std.specs.Prelude.{ℕ, ◌≡◌, ◌≤◌, Bool, List, [], length, map}
 use Rattle.std.specs.List.{count_by}
 use Rattle.aoe_base.specs.declared.counted.Lifetimes.{Lifetimes}
+use Rattle.aoe_base.specs.Sizes.{most_room}
 use Rattle.aoe_flight.specs.declared.outstanding.Outstanding.{Outstanding}
 use Rattle.aoe_flight.specs.Outstanding.{change_of, live, rest_time, tag_count}
 
@@ -52,5 +53,5 @@ Recalls table sent = SameCommands table.commands (live table.rest table.latest s
 pub record FitsRoom (room capacity : ℕ) (commands : List Outstanding) : Type 0 where
   pub fits : length commands ≤ room
   pub reserved : room ≤ capacity
-  pub few : room ≤ 131072
+  pub few : room ≤ most_room
   pub distinct : (tag : ℕ) → tag_count commands tag ≤ 1

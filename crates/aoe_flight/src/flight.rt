@@ -2,6 +2,7 @@
 ghost use Rattle.std.specs.Prelude.{◌≡◌, ◌+◌, ◌↔◌, ◌<◌, ◌≤◌, ◌∷◌, length, map, ℕ, List, [], false, true, All, Contains, IsTrue, IsSome, IfNone, IfOk, IfSome, OnSome, Some, option_map};
 ghost use Rattle.std.specs.List.{find};
 ghost use Rattle.std.specs.List.Sorted.{IsPermutation};
+ghost use Rattle.aoe_base.specs.Sizes.{longest_lifetime, most_room};
 ghost use Rattle.aoe_flight.specs.declared.outstanding.Outstanding.{Outstanding};
 ghost use Rattle.aoe_flight.specs.FlightTable.{after_change, at_time, live_at, no_commands, Recalls};
 ghost use Rattle.aoe_flight.specs.Outstanding.{after_finish, after_repeat, change_of, flies_as, flies_with, is_due, is_expired, is_taken, launched, live, lower, precedes, tag_count, IsFirst, IsNextTag};
@@ -69,9 +70,9 @@ impl Flight {
     /// own, since all of it is made here.
     pub fn new(alloc: Global, room: u32, life: Lifetimes, dead: Millis) -> Result<Flight, NoMemory>
         requires some_room { 0 < room }
-        requires room { room ≤ 131072 }
-        requires requests { life.requests.0 ≤ 600000 }
-        requires responses { life.responses.0 ≤ 600000 }
+        requires room { room ≤ most_room }
+        requires requests { life.requests.0 ≤ longest_lifetime }
+        requires responses { life.responses.0 ≤ longest_lifetime }
         requires dead { 0 < dead.0 }
         ensures value { IfOk result (λ flight. flight ≡ no_commands room life dead.0) }
         ensures recalls { IfOk result (λ flight. Recalls flight []) }

@@ -1,6 +1,7 @@
 //! The bytes of a frame.
 ghost use Rattle.std.specs.Prelude.{◌≡◌, ◌+◌, ◌≤◌, ◌++◌, drop, length};
 ghost use Rattle.arrayvec.specs.ArrayVec.{array_vec_len};
+ghost use Rattle.aoe_base.specs.Sizes.{longest_frame};
 ghost use Rattle.aoe_frame.specs.Header.{padded, stretched};
 
 use aoe_base::append;
@@ -23,7 +24,7 @@ static ZEROS: [u8; MAX_FRAME] = [0; MAX_FRAME];
 #[cold]
 #[inline(never)]
 fn change_len(out: &mut Frame, len: usize)
-    requires { len ≤ 9018 }
+    requires { len ≤ longest_frame }
     ensures bytes { out.new.items ≡ stretched len out.old.items }
     ensures len { length out.new.items ≡ len }
 {
@@ -39,7 +40,7 @@ fn change_len(out: &mut Frame, len: usize)
 /// length isn't written to.
 #[inline(always)]
 pub fn stretch(out: &mut Frame, len: usize)
-    requires { len ≤ 9018 }
+    requires { len ≤ longest_frame }
     ensures bytes { out.new.items ≡ stretched len out.old.items }
     ensures len { length out.new.items ≡ len }
 {
@@ -66,7 +67,7 @@ pub fn overwrite(out: &mut Frame, bytes: &[u8])
 
 /// Makes `out` these bytes. Where it has as many, nothing is cleared before.
 pub fn refill(out: &mut Frame, bytes: &[u8])
-    requires { length bytes.now ≤ 9018 }
+    requires { length bytes.now ≤ longest_frame }
     ensures { out.new.items ≡ bytes.now }
 {
     stretch(out, bytes.len());

@@ -1,6 +1,7 @@
 -- A run as contracts see it.
 use Rattle.std.specs.Prelude.{All, length, sum_by, ℕ, ◌≡◌, ◌≤◌, Bool, true, false, List, ◌∷◌}
 use Rattle.aoe_base.specs.declared.counted.Lifetimes.{Lifetimes}
+use Rattle.aoe_base.specs.Sizes.{longest_frame}
 use Rattle.aoe_net.specs.Network.{IsFull, Network, SentFrame}
 use Rattle.aoe_history.specs.declared.entry.Entry.{Entry}
 use Rattle.aoe_history.specs.declared.entry.Entry.TheVariants.{Sent, Injected, Arrived, Ticked}
@@ -32,7 +33,7 @@ network_of run = network run.life run.entries
 
 -- a frame has a length that a network takes
 abbrev pub IsShort : SentFrame → Type 0
-IsShort frame = length frame.bytes ≤ 9018
+IsShort frame = length frame.bytes ≤ longest_frame
 
 -- no more frames, and no more bytes of them, than a network has room for
 pub record IsWithin (frames : List SentFrame) : Type 0 where

@@ -1,5 +1,6 @@
 //! The clock, the network and the history of a run.
 ghost use Rattle.std.specs.Prelude.{◌≡◌, ◌+◌, ◌<◌, ◌≤◌, ◌^◌, List, [], ◌∷◌, length, option_map, true, IfErr, IfOk, IfSome, IsOkUnless, OnErr, OnOk, Err};
+ghost use Rattle.aoe_base.specs.Sizes.{longest_frame};
 ghost use Rattle.aoe_net.specs.Network.{total_bytes, IsFull};
 ghost use Rattle.aoe_history.specs.declared.entry.Entry.{Entry};
 ghost use Rattle.aoe_history.specs.declared.entry.Entry.TheVariants.{Sent, Injected, Arrived, Crashed, Ticked};
@@ -103,7 +104,7 @@ impl Run {
     pub fn fetch(&self, number: FrameNo) -> Option<&[u8]>
         ensures frame { option_map (λ frame. frame.now) result
             ≡ arriving self.now.life self.now.entries number.0 }
-        ensures bound { IfSome result (λ frame. length frame.now ≤ 9018) }
+        ensures bound { IfSome result (λ frame. length frame.now ≤ longest_frame) }
     {
         self.net.fetch(number, self.clock)
     }
@@ -151,7 +152,7 @@ impl Run {
 
     /// Records an entry, and brings the frame that it sends into the network, which has room for it.
     fn bring(&mut self, entry: Entry, frame: FrameBytes) -> Result<(), NoMemory>
-        requires len { length frame ≤ 9018 }
+        requires len { length frame ≤ longest_frame }
         requires room { ¬ IsFull (network_of self.old) frame }
         requires frames { frames (entry ∷ self.old.entries)
             ≡ record { bytes = frame; birth = clock self.old.entries } ∷ frames self.old.entries }
@@ -178,7 +179,7 @@ impl Run {
 
     /// A host sends a frame of a command.
     pub fn send(&mut self, host: &Name, ticket: Ticket, frame: &[u8]) -> Result<(), NetRefusal>
-        requires len { length frame.now ≤ 9018 }
+        requires len { length frame.now ≤ longest_frame }
         ensures ok { OnOk result (self.new ≡ with_entry self.old
             (Sent host.now ticket.0 (next_number self.old.entries) frame.now)) }
         ensures room { OnOk result (¬ IsFull (network_of self.old) frame.now) }
@@ -203,7 +204,7 @@ impl Run {
 
     /// A frame of no station comes into the network.
     pub fn inject(&mut self, frame: &[u8]) -> Result<(), NetRefusal>
-        requires len { length frame.now ≤ 9018 }
+        requires len { length frame.now ≤ longest_frame }
         ensures ok { OnOk result (self.new ≡ with_entry self.old
             (Injected (next_number self.old.entries) frame.now)) }
         ensures room { OnOk result (¬ IsFull (network_of self.old) frame.now) }
@@ -229,7 +230,7 @@ impl Run {
         effect: Effect,
         reply: &[u8],
     ) -> Result<(), NetRefusal>
-        requires len { length reply.now ≤ 9018 }
+        requires len { length reply.now ≤ longest_frame }
         ensures ok { OnOk result (self.new ≡ with_entry self.old
             (Arrived dev number.0 (Replied effect (next_number self.old.entries) reply.now))) }
         ensures room { OnOk result (¬ IsFull (network_of self.old) reply.now) }

@@ -1,5 +1,6 @@
 //! The tools that copy, over links in memory.
 ghost use Rattle.std.specs.Prelude.{◌<◌, ◌≤◌, All, IfOk, length};
+ghost use Rattle.aoe_base.specs.Sizes.{longest_frame, most_copied};
 ghost use Rattle.aoe_io.specs.LinkMemory.{IsShort};
 
 use aoe_base::{Blob, Mac, NoMemory, TargetId};
@@ -22,7 +23,7 @@ fn response(
     args: &[u8],
     data: &[u8],
 ) -> Result<Blob, NoMemory>
-    ensures { IfOk result (λ b. length b ≤ 9018) }
+    ensures { IfOk result (λ b. length b ≤ longest_frame) }
 {
     let mut out = Frame::new();
     let _ = out.try_extend_from_slice(&[2, 0, 0, 0, 0, 0x0a, 2, 0, 0, 0, 0, 1, 0x88, 0xa2]);
@@ -78,7 +79,7 @@ fn gets(
     link: &mut MemLink,
 ) -> Result<(), CopyRefusal>
     requires some { 0 < count }
-    requires few { count ≤ 32768 }
+    requires few { count ≤ most_copied }
 {
     let ask = Ask { port: A, turns: 50 };
     let mut clock = SetClock::new(0, 10);

@@ -1,5 +1,6 @@
 //! The tools over links in memory.
 ghost use Rattle.std.specs.Prelude.{◌≤◌, IfOk, length};
+ghost use Rattle.aoe_base.specs.Sizes.{longest_frame};
 ghost use Rattle.aoe_io.specs.LinkMemory.{IsShort};
 
 use aoe_base::{Blob, Mac, NoMemory, TargetId};
@@ -15,7 +16,7 @@ const DEVICE: TargetId = TargetId { major: 1, minor: 0 };
 
 /// A response of shelf 1: its port, its slot, the command, the error and the tag's last byte.
 fn response(alloc: Global, of: [u8; 5], args: &[u8]) -> Result<Blob, NoMemory>
-    ensures { IfOk result (λ b. length b ≤ 9018) }
+    ensures { IfOk result (λ b. length b ≤ longest_frame) }
 {
     let [port, slot, command, error, tag] = of;
     let flags = if error == 0 { 0x18 } else { 0x1c };

@@ -6,12 +6,9 @@ use Rattle.aoe_base.specs.declared.counted.Lifetimes.{Lifetimes}
 abbrev pub default_life : Lifetimes
 default_life = record { requests = record { 0 = 2000 }; responses = record { 0 = 2000 } }
 
--- how many commands fly or rest at most, and how many can at all
+-- how many commands fly or rest at most; `most_room` of them can at all
 abbrev pub default_room : ℕ
 default_room = 4096
-
-abbrev pub most_room : ℕ
-most_room = 131072
 
 -- after how many milliseconds a command is given up
 abbrev pub default_dead : ℕ

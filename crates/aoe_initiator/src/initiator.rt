@@ -5,6 +5,7 @@ ghost use Rattle.std.specs.Option.{option_and_then, option_to_list};
 ghost use Rattle.std.specs.VecDeque.{deque_capacity};
 ghost use Rattle.aoe_base.specs.declared.counted.Ticket.{Ticket};
 ghost use Rattle.aoe_base.specs.Addresses.{IsDistinct};
+ghost use Rattle.aoe_base.specs.Sizes.{longest_lifetime, most_room};
 ghost use Rattle.aoe_flight.specs.declared.outstanding.Flying.{Flying};
 ghost use Rattle.aoe_flight.specs.declared.outstanding.Outstanding.{Outstanding};
 ghost use Rattle.aoe_flight.specs.FlightTable.{after_change, Recalls};
@@ -15,7 +16,7 @@ ghost use Rattle.aoe_initiator.specs.declared.outcome.Done.{Done};
 ghost use Rattle.aoe_initiator.specs.declared.pending.Pending.{Pending};
 ghost use Rattle.aoe_initiator.specs.Devices.{all_clear, change_at, device_at, device_finished, trip_from, IsLowest};
 ghost use Rattle.aoe_initiator.specs.Host.{new_device, new_host, with_device, Closes, IsSame, Matches, RecallAll};
-ghost use Rattle.aoe_initiator.specs.HostLaw.{answer_to, attach_refusal, ended, has_id, held_at, is_from, is_response_to, submit_refusal, CameOn, GaveUpInTurn, IsFrameOf, IsNext, IsOnNextPath, IsQuiet, Takes};
+ghost use Rattle.aoe_initiator.specs.HostLaw.{answer_to, attach_refusal, ended, has_id, held_at, is_from, is_response_to, most_held, submit_refusal, CameOn, GaveUpInTurn, IsFrameOf, IsNext, IsOnNextPath, IsQuiet, Takes};
 ghost use Rattle.aoe_initiator.specs.HostLog.{clock, commands, sent_of, Event, HostCommand};
 ghost use Rattle.aoe_initiator.specs.HostLog.Event.{Advances, Ends, Sends, Submits};
 ghost use Rattle.aoe_initiator.specs.Op.{data_len, CanSubmit};
@@ -183,10 +184,10 @@ impl Initiator {
     ) -> Result<Initiator, NoMemory>
         requires port { 0 < length ports.now.items }
         requires differ { IsDistinct ports.now.items }
-        requires requests { life.requests.0 ≤ 600000 }
-        requires responses { life.responses.0 ≤ 600000 }
+        requires requests { life.requests.0 ≤ longest_lifetime }
+        requires responses { life.responses.0 ≤ longest_lifetime }
         requires some_room { 0 < room }
-        requires room { room ≤ 131072 }
+        requires room { room ≤ most_room }
         requires dead { 0 < dead.0 }
         ensures value { IfOk result (λ host. host ≡ new_host ports.now.items life room dead.0) }
         ensures matches { IfOk result (λ host. Matches [] host) }
@@ -262,7 +263,7 @@ impl Initiator {
         requires op { CanSubmit op.now }
         ensures value { result ≡ submit_refusal self.now device.0 op.now }
         ensures spelled { IfNone result (CanSpell op.now) }
-        ensures room { IfNone result (held_at self.now device.0 < 65536) }
+        ensures room { IfNone result (held_at self.now device.0 < most_held) }
     {
         let device = &self.devices[device.0 as usize];
         if let Some(refusal) = op_refusal(&device.about, op) {

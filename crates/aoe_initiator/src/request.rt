@@ -1,6 +1,7 @@
 //! The one frame that asks for an operation.
 ghost use Rattle.std.specs.Prelude.{◌≡◌, ◌+◌, ◌*◌, ◌≤◌, ◌<◌, ◌^◌, ◌++◌, Some, length};
 ghost use Rattle.arrayvec.specs.ArrayVec.{array_vec_len};
+ghost use Rattle.aoe_base.specs.Sizes.{longest_frame};
 ghost use Rattle.aoe_ata.specs.Args.{args_bytes};
 ghost use Rattle.aoe_ata.specs.Command.{code_of};
 ghost use Rattle.aoe_frame.specs.Header.{head};
@@ -37,7 +38,7 @@ fn registers(aflags: u8, code: CommandCode, span: Span) -> AtaArgs
 fn append_registers(aflags: u8, code: CommandCode, span: Span, out: &mut Frame)
     requires address { span.at < 2 ^ 48 }
     requires count { span.count < 2 ^ 8 }
-    requires room { array_vec_len out.old + 12 ≤ 9018 }
+    requires room { array_vec_len out.old + 12 ≤ longest_frame }
     ensures bytes { out.new.items ≡ out.old.items
         ++ args_bytes (registers_of aflags (code_of code) span) }
     ensures len { length out.new.items ≡ length out.old.items + 12 }
@@ -48,7 +49,7 @@ fn append_registers(aflags: u8, code: CommandCode, span: Span, out: &mut Frame)
 /// Appends the arguments of a query config request with a string of at most 1024 bytes.
 pub fn append_config_args(ccmd: u8, text: &[u8], out: &mut Frame)
     requires text { length text.now ≤ 1024 }
-    requires room { array_vec_len out.old + 8 + length text.now ≤ 9018 }
+    requires room { array_vec_len out.old + 8 + length text.now ≤ longest_frame }
     ensures { out.new.items ≡ out.old.items ++ config_bytes ccmd text.now }
 {
     append(out, &[0, 0, 0, 0, 0, ccmd]);
@@ -59,7 +60,7 @@ pub fn append_config_args(ccmd: u8, text: &[u8], out: &mut Frame)
 /// Appends the arguments of a mask list request.
 pub fn append_mask_args(edit: bool, dirs: &[Dir], out: &mut Frame)
     requires few { length dirs.now ≤ max_directives }
-    requires room { array_vec_len out.old + 4 + 8 * length dirs.now ≤ 9018 }
+    requires room { array_vec_len out.old + 4 + 8 * length dirs.now ≤ longest_frame }
     ensures { out.new.items ≡ out.old.items ++ mask_bytes edit dirs.now }
 {
     append(out, &[0, u8::from(edit), 0, dirs.len() as u8]);
@@ -72,7 +73,7 @@ pub fn append_mask_args(edit: bool, dirs: &[Dir], out: &mut Frame)
 /// Appends the arguments of a reserve request.
 pub fn append_reserve_args(rcmd: u8, list: &[Mac], out: &mut Frame)
     requires few { length list.now ≤ max_directives }
-    requires room { array_vec_len out.old + 2 + 6 * length list.now ≤ 9018 }
+    requires room { array_vec_len out.old + 2 + 6 * length list.now ≤ longest_frame }
     ensures { out.new.items ≡ out.old.items ++ reserve_bytes rcmd list.now }
 {
     append(out, &[rcmd, list.len() as u8]);
@@ -85,7 +86,7 @@ pub fn append_reserve_args(rcmd: u8, list: &[Mac], out: &mut Frame)
 fn append_write(at: u64, bytes: &[u8], out: &mut Frame)
     requires address { at < 2 ^ 48 }
     requires few { length bytes.now ≤ 8704 }
-    requires room { array_vec_len out.old + 12 + length bytes.now ≤ 9018 }
+    requires room { array_vec_len out.old + 12 + length bytes.now ≤ longest_frame }
     ensures { out.new.items ≡ out.old.items ++ write_bytes at bytes.now }
 {
     let span = Span {

@@ -1,6 +1,7 @@
 -- A link in memory.
 use Rattle.std.specs.Prelude.{ℕ, ◌≡◌, ◌-◌, ◌^◌, ◌<◌, ◌≤◌, ◌==◌, ◌||◌, List, [], ◌∷◌, ◌++◌, length, map, reverse, take, drop, replicate, nat_lt, nat_le, Option, Some, None, IfSome, Result, Ok, Err, if◌then◌else◌}
 use Rattle.aoe_base.specs.declared.failure.Failed.{Failed}
+use Rattle.aoe_base.specs.Sizes.{longest_frame}
 use Rattle.aoe_io.specs.declared.links.Got.{Got}
 use Rattle.aoe_io.specs.declared.links.Got.TheVariants as got
 use Rattle.aoe_io.specs.Link.{Turn, came, quiet, ended}
@@ -20,7 +21,7 @@ pub record Linking : Type 0 where
 
 -- a frame is no longer than the longest
 abbrev pub IsShort : Option (List ℕ) → Type 0
-IsShort turn = IfSome turn (λ frame. length frame ≤ 9018)
+IsShort turn = IfSome turn (λ frame. length frame ≤ longest_frame)
 
 -- what the link answers where these turns are to come
 abbrev pub got_of : List (Option (List ℕ)) → Got
@@ -52,7 +53,7 @@ recv_of l =
 -- what a send of a frame answers and leaves
 abbrev pub send_of : Linking → List ℕ → Result Unit Failed × Linking
 send_of l frame =
-    if l.due == 1 || nat_le l.room (length l.taken) || nat_lt 9018 (length frame)
+    if l.due == 1 || nat_le l.room (length l.taken) || nat_lt longest_frame (length frame)
     then (Err record {}, record l { faults = counted l.faults; due = l.due - 1 })
     else (Ok record {}, record l { taken = frame ∷ l.taken; due = l.due - 1 })
 

@@ -2,7 +2,7 @@
 ghost use Rattle.std.specs.Prelude.{◌≡◌, ◌≢◌, ◌++◌, ◌<◌, ◌≤◌, ◌+◌, ◌^◌, [], length, take, Err, IfErr, IfOk, OnErr, OnOk};
 ghost use Rattle.aoe_base.specs.Faults.{Rose};
 ghost use Rattle.aoe_io.specs.Bytes.{Gave, GaveSome, IsEnded};
-ghost use Rattle.aoe_io.specs.Input.{IsReadInPart, IsReadUpTo};
+ghost use Rattle.aoe_io.specs.Input.{input_piece, IsReadInPart, IsReadUpTo};
 
 use crate::{Source, fill_from};
 use aoe_base::Failed;
@@ -65,7 +65,7 @@ fn read_pieces<S: Source>(
     buffer: &mut [u8],
     input: &mut Vec<u8>,
 ) -> Result<(), InputRefusal>
-    requires piece { length buffer.old ≡ 65536 }
+    requires piece { length buffer.old ≡ input_piece }
     requires empty { input.old.items ≡ [] }
     ensures read { IfOk result (λ _. IsReadUpTo most (S.left source.old)
         (S.left source.new) input.new.items) }

@@ -1,6 +1,7 @@
 //! Two links in memory that are joined end to end.
 ghost use Rattle.std.specs.Prelude.{◌≡◌, ◌<◌, ◌≤◌, ◌+◌, ◌∷◌, [], length, Err, None, Ok, IfOk, OnErr, OnOk};
 ghost use Rattle.aoe_base.specs.Faults.{Rose};
+ghost use Rattle.aoe_base.specs.Sizes.{longest_frame};
 ghost use Rattle.aoe_io.specs.Memory.{counted};
 
 use crate::{Got, Link};
@@ -50,7 +51,7 @@ fn share(waiting: &Waiting) -> Result<Waiting, NoMemory> {
 
 /// Puts a copy of a frame behind those that wait, where it isn't too long and has room.
 fn put(waiting: &Waiting, room: usize, frame: &[u8]) -> Result<(), Failed>
-    ensures long { 9018 < length frame.now → result ≡ Err record {} }
+    ensures long { longest_frame < length frame.now → result ≡ Err record {} }
     ensures full { room ≡ 0 → result ≡ Err record {} }
 {
     let mut copy = Frame::new();
@@ -125,7 +126,7 @@ impl Link for JoinedLink {
         ensures ok { OnOk result (self.new ≡ self.old) }
         ensures err { OnErr result
             (self.new ≡ record self.old { faults = counted self.old.faults }) }
-        ensures long { 9018 < length frame.now → result ≡ Err record {} }
+        ensures long { longest_frame < length frame.now → result ≡ Err record {} }
         ensures no_room { self.old.room ≡ 0 → result ≡ Err record {} }
     {
         match put(&self.going, self.room, frame) {

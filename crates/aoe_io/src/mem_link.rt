@@ -2,6 +2,7 @@
 ghost use Rattle.std.specs.Prelude.{◌≡◌, ◌==◌, ◌<◌, ◌≤◌, ◌+◌, ◌-◌, ◌++◌, ◌∷◌, ℕ, List, [], All, Option, Some, None, Ok, drop, get_or, length, map, reverse, vec_capacity, vec_len, IfOk, IfSome, IsOk, OnOk, OnErr};
 ghost use Rattle.std.specs.Option.{option_map};
 ghost use Rattle.aoe_base.specs.Faults.{Rose};
+ghost use Rattle.aoe_base.specs.Sizes.{longest_frame};
 ghost use Rattle.aoe_io.specs.Link.{Added, GaveTurns, Turn, next_of, turn_of};
 ghost use Rattle.aoe_io.specs.LinkMemory.{got_of, passed, recv_of, send_of, turn_next, IsShort};
 ghost use Rattle.aoe_io.specs.Memory.{counted};
@@ -68,8 +69,8 @@ fn give_turn(coming: &[Option<Blob>], out: &mut Frame) -> Got
 /// Appends a copy of a frame that isn't too long, for which there is room.
 fn keep(taken: &mut Vec<Frame>, frame: &[u8]) -> Result<(), Failed>
     requires { vec_len taken.old < vec_capacity taken.old }
-    ensures fits { length frame.now ≤ 9018 → IsOk result }
-    ensures short { OnOk result (length frame.now ≤ 9018) }
+    ensures fits { length frame.now ≤ longest_frame → IsOk result }
+    ensures short { OnOk result (length frame.now ≤ longest_frame) }
     ensures took { OnOk result (map (λ f. f.items) taken.new.items
         ≡ map (λ f. f.items) taken.old.items ++ frame.now ∷ []) }
     ensures err { OnErr result (taken.new.items ≡ taken.old.items) }

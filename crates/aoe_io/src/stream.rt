@@ -1,6 +1,7 @@
 //! The stream of frames: each a length of two bytes, big-endian, and so many bytes.
 ghost use Rattle.std.specs.Prelude.{ℕ, List, [], ◌≢◌, ◌≡◌, ◌+◌, ◌<◌, ◌≤◌, ◌++◌, length, take, drop, IfOk, OnOk, OnErr, IfSome, Ok, None, true, false};
 ghost use Rattle.aoe_base.specs.Faults.{Rose};
+ghost use Rattle.aoe_base.specs.Sizes.{longest_frame};
 ghost use Rattle.aoe_io.specs.Bytes.{Gave, GaveSome, Took, TookSome, IsEnded};
 ghost use Rattle.std.specs.Int.{w16, to_be_bytes};
 ghost use Rattle.aoe_io.specs.Stream.{framed, IsFrame, IsLength, IsBroken};
@@ -125,7 +126,7 @@ fn read_length<S: Source>(source: &mut S, offset: u64) -> Result<Option<usize>, 
 #[inline(always)]
 pub fn fill_frame<S: Source>(source: &mut S, count: usize, out: &mut Frame) -> Result<bool, Failed>
     requires some { 0 < count }
-    requires room { count ≤ 9018 }
+    requires room { count ≤ longest_frame }
     ensures length { result ≡ Ok true → length out.new.items ≡ count }
     ensures gave { result ≡ Ok true → Gave (S.left source.old) (S.left source.new) out.new.items }
     ensures short { result ≡ Ok false → IfSome (S.left source.old) (λ left. length left < count) }
@@ -246,7 +247,7 @@ fn give_short<K: Sink>(sink: &mut K, frame: &[u8]) -> Result<(), Failed>
 /// a long one in front of it, so that no byte of it is copied.
 #[inline(always)]
 pub fn give_frame<K: Sink>(sink: &mut K, frame: &[u8]) -> Result<(), Failed>
-    requires { length frame.now ≤ 9018 }
+    requires { length frame.now ≤ longest_frame }
     ensures all { OnOk result (Took (K.held sink.old) (K.held sink.new) (framed frame.now)) }
     ensures some { OnErr result (TookSome (K.held sink.old) (K.held sink.new) (framed frame.now)) }
     ensures count { K.faults sink.old ≤ K.faults sink.new }

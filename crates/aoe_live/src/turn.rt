@@ -1,6 +1,7 @@
 //! The turns of a run, and the four parts of each.
 ghost use Rattle.std.specs.Prelude.{◌≡◌, ◌≤◌, ◌<◌, ◌-◌, ◌^◌, length, IfErr, IfOk, IfSome, OnOk};
 ghost use Rattle.aoe_io.specs.Link.{turn_of};
+ghost use Rattle.aoe_script.specs.Lines.{most_script_bytes};
 ghost use Rattle.aoe_script.specs.Print.{script_text};
 ghost use Rattle.aoe_live.specs.Lines.{asking, handing, ticks};
 ghost use Rattle.aoe_live.specs.Recorder.{IsFresh, IsKept};
@@ -205,7 +206,7 @@ impl Recorder<'_> {
             (outside (wire (L.turns one.old) (L.given one.old) (L.taken one.old)) (wire (L.turns two.old) (L.given two.old) (L.taken two.old)) (C.answers clock.old))
             (outside (wire (L.turns one.new) (L.given one.new) (L.taken one.new)) (wire (L.turns two.new) (L.given two.new) (L.taken two.new)) (C.answers clock.new)) }
         ensures setups { OnOk result (self.new.script.setups ≡ stations self.old.sectors) }
-        ensures short { OnOk result (length (script_text self.new.script) ≤ 16777216) }
+        ensures short { OnOk result (length (script_text self.new.script) ≤ most_script_bytes) }
         ensures faults_one { Blames result 0 (L.faults one.old) (L.faults one.new) }
         ensures faults_two { Blames result 1 (L.faults two.old) (L.faults two.new) }
     {

@@ -1,5 +1,6 @@
 //! The frames of a network, each with the time of its sending.
 ghost use Rattle.std.specs.Prelude.{◌≡◌, ℕ, ◌+◌, ◌-◌, ◌≤◌, ◌↔◌, [], ◌∷◌, ◌++◌, length, nat_lt, option_map, IfNone, IfOk, IfSome, IsTrue, OnErr, OnOk};
+ghost use Rattle.aoe_base.specs.Sizes.{longest_frame};
 ghost use Rattle.aoe_net.specs.Network.{deliverable, empty_network, lifetime, total_bytes, with_frame, IsFull, IsNumberOf};
 
 use crate::{FrameBytes, NetRefusal};
@@ -74,7 +75,7 @@ impl Net {
     ///
     /// Frames keep the order of their times: `now` isn't before the latest sending.
     pub fn send(&mut self, now: Millis, frame: &[u8]) -> Result<FrameNo, NetRefusal>
-        requires len { length frame.now ≤ 9018 }
+        requires len { length frame.now ≤ longest_frame }
         requires time { self.old.latest ≤ now.0 }
         ensures sent { OnOk result (self.new ≡ with_frame self.old now.0 frame.now) }
         ensures number { IfOk result (λ number. number.0 ≡ length self.new.sent) }

@@ -2,6 +2,7 @@
 use Rattle.std.specs.Prelude.{ℕ, ◌+◌, ◌^◌, ◌<◌, ◌≤◌, ◌≡◌, ◌≢◌, ◌⊎◌, Bool, false, List, [], ◌++◌, length, nat_lt, slice_range, All, Option, if◌then◌else◌}
 use Rattle.std.specs.List.{flat_map}
 use Rattle.std.specs.Int.{w16, w32, to_be_bytes, to_le_bytes, from_be_bytes, from_le_bytes}
+use Rattle.aoe_base.specs.Sizes.{longest_frame}
 use Rattle.aoe_io.specs.Bytes.{Gave}
 use Rattle.aoe_pcap.specs.declared.reader.Record.{Record}
 use Rattle.aoe_pcap.specs.declared.reader.Record.TheVariants as record_is
@@ -75,11 +76,11 @@ pub record IsCapture (bytes : List ℕ) (head : FileHead) (packets : List Packet
 
 -- a packet is a frame, whole or cut short, where no more than the longest frame was captured
 abbrev pub kind : ℕ → ℕ → Record
-kind captured original = if nat_lt 9018 captured then record_is.Long captured else if nat_lt captured original then record_is.Short else record_is.Whole
+kind captured original = if nat_lt longest_frame captured then record_is.Long captured else if nat_lt captured original then record_is.Short else record_is.Whole
 
 -- the bytes of that frame
 abbrev pub frame_of : List ℕ → List ℕ
-frame_of captured = if nat_lt 9018 (length captured) then [] else captured
+frame_of captured = if nat_lt longest_frame (length captured) then [] else captured
 
 -- a source gave the record of a packet, of this kind and with this frame
 pub record GaveRecord (big : Bool) (left left' : Option (List ℕ)) (came : Record) (frame : List ℕ) : Type 0 where
@@ -104,7 +105,7 @@ pub record IsCut (big : Bool) (bytes : List ℕ) : Type 0 where
 
 -- the header that is written
 abbrev pub written_head : FileHead
-written_head = record { big = false; nanoseconds = false; zone = 0; accuracy = 0; snap_length = 9018 }
+written_head = record { big = false; nanoseconds = false; zone = 0; accuracy = 0; snap_length = longest_frame }
 
 -- the packet that is written of a frame
 abbrev pub packet_of : List ℕ → Packet

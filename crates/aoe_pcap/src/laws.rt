@@ -1,6 +1,7 @@
 //! What the definition of a capture file comes to.
 ghost use Rattle.std.specs.Prelude.{Bool, List, ℕ, [], ◌≡◌, ◌≢◌, ◌≤◌, ◌++◌, All, false, length, map};
 ghost use Rattle.std.specs.List.{flat_map};
+ghost use Rattle.aoe_base.specs.Sizes.{longest_frame};
 ghost use Rattle.aoe_pcap.specs.Capture.{FileHead, IsCapture, IsCut, IsPacket, Packet, frame_of, head_bytes, kind, packet_bytes, packet_of, written_head};
 ghost use Rattle.aoe_pcap.specs.declared.reader.Record.TheVariants.{Whole};
 
@@ -21,9 +22,9 @@ pub fn record_begins_no_cut_capture()
 /// packet of each frame, and no other; and each is read as a whole frame, which is the one that was
 /// written.
 pub fn written_capture_reads_back()
-    ensures capture { (frames : List (List ℕ)) → All (λ f. length f ≤ 9018) frames
+    ensures capture { (frames : List (List ℕ)) → All (λ f. length f ≤ longest_frame) frames
         → IsCapture (head_bytes written_head ++ flat_map (λ f. packet_bytes false (packet_of f)) frames)
         written_head (map packet_of frames) }
-    ensures whole { (f : List ℕ) → length f ≤ 9018
+    ensures whole { (f : List ℕ) → length f ≤ longest_frame
         → (kind (length f) (length f) ≡ Whole) × (frame_of f ≡ f) }
 {}

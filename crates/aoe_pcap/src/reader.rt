@@ -1,6 +1,7 @@
 //! The records of a capture file, read one after the other.
 ghost use Rattle.std.specs.Prelude.{ℕ, List, [], ◌≡◌, ◌≢◌, ◌<◌, ◌≤◌, ◌+◌, ◌^◌, length, nat_lt, Ok, Err, None, true, false, IfOk, IfSome, OnErr, OnOk, if◌then◌else◌};
 ghost use Rattle.aoe_base.specs.Faults.{Rose};
+ghost use Rattle.aoe_base.specs.Sizes.{longest_frame};
 ghost use Rattle.aoe_io.specs.Bytes.{Gave, GaveSome, IsEnded};
 ghost use Rattle.aoe_pcap.specs.Capture.{GaveRecord, IsCut, claimed, kind, record_head};
 
@@ -153,7 +154,7 @@ fn skip<S: Source>(source: &mut S, count: usize, out: &mut Frame) -> Result<bool
 fn read_captured<S: Source>(source: &mut S, count: usize, out: &mut Frame) -> Result<bool, Failed>
     ensures captured { result ≡ Ok true → (bytes : List ℕ) × (length bytes ≡ count)
         × Gave (S.left source.old) (S.left source.new) bytes
-        × (out.new.items ≡ (if nat_lt 9018 count then [] else bytes)) }
+        × (out.new.items ≡ (if nat_lt longest_frame count then [] else bytes)) }
     ensures short { result ≡ Ok false → IfSome (S.left source.old) (λ left. length left < count) }
     ensures taken { GaveSome (S.left source.old) (S.left source.new) }
     ensures count { S.faults source.old ≤ S.faults source.new }

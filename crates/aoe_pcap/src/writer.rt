@@ -1,5 +1,6 @@
 //! The bytes of a capture file, to be written one piece after the other.
 ghost use Rattle.std.specs.Prelude.{◌≡◌, ◌+◌, ◌<◌, ◌≤◌, ◌++◌, ◌^◌, length, false};
+ghost use Rattle.aoe_base.specs.Sizes.{longest_frame};
 ghost use Rattle.aoe_pcap.specs.Capture.{head_bytes, packet_bytes, packet_of, record_head, written_head};
 
 use crate::head::{ETHERNET, MAJOR, MICROSECONDS, MINOR};
@@ -56,7 +57,7 @@ fn record_head_of(len: u32) -> [u8; RECORD_HEAD_LEN]
 
 /// Writes a record over a place of its length.
 fn put_record(frame: &[u8], out: &mut [u8])
-    requires few { length frame.now ≤ 9018 }
+    requires few { length frame.now ≤ longest_frame }
     requires place { length out.old ≡ 16 + length frame.now }
     ensures { out.new ≡ packet_bytes false (packet_of frame.now) }
 {
@@ -68,7 +69,7 @@ fn put_record(frame: &[u8], out: &mut [u8])
 /// Makes `out` the record of a frame, all of which was captured, in a file that begins as
 /// [`write_head`] has it. Its time is 0.
 pub fn write_record(frame: &[u8], out: &mut RecordBytes)
-    requires { length frame.now ≤ 9018 }
+    requires { length frame.now ≤ longest_frame }
     ensures { out.new.items ≡ packet_bytes false (packet_of frame.now) }
 {
     resize(out, RECORD_HEAD_LEN + frame.len());

@@ -1,5 +1,6 @@
 //! Capture files, read and written.
 ghost use Rattle.std.specs.Prelude.{◌≤◌, length};
+ghost use Rattle.aoe_base.specs.Sizes.{longest_frame};
 
 use crate::checks::holds;
 use aoe_frame::Frame;
@@ -30,7 +31,7 @@ const REPLY_HEAD: &[u8; 16] = b"\0\0\0\0\0\0\0\0\x3c\0\0\0\x3c\0\0\0";
 
 /// Whether the record of a frame has these numbers and then the frame.
 fn writes(frame: &[u8], head: &[u8], out: &mut RecordBytes) -> bool
-    requires { length frame.now ≤ 9018 }
+    requires { length frame.now ≤ longest_frame }
 {
     write_record(frame, out);
     let record = out.as_slice();

@@ -15,6 +15,10 @@ use Rattle.aoe_script.specs.Rules.{event_why, setup_why}
 use Rattle.aoe_script.specs.Types.{FitsEvent, FitsSetup}
 use Rattle.aoe_script.specs.Words.{Text, few_words}
 
+-- the most bytes of a script, which memory holds whole: 16 MiB, a limit of this program
+abbrev pub most_script_bytes : ℕ
+most_script_bytes = 16777216
+
 -- the setup lines and the event lines of a script, each in their order
 pub record ScriptLines : Type 0 where
   pub setups : List Setup
@@ -24,7 +28,7 @@ pub record ScriptLines : Type 0 where
 pub record IsScript (lines : ScriptLines) : Type 0 where
   pub setups : (k : ℕ) → IfSome (slice_get lines.setups k) (λ setup. setup_why (take k lines.setups) false setup ≡ None)
   pub events : (k : ℕ) → IfSome (slice_get lines.events k) (λ event. event_why lines.setups event ≡ None)
-  pub few_setups : length lines.setups ≤ 16777216
+  pub few_setups : length lines.setups ≤ most_script_bytes
   pub few_events : length lines.events ≤ 50000
   pub setups_fit : All FitsSetup lines.setups
   pub events_fit : All FitsEvent lines.events
@@ -76,7 +80,7 @@ said_by text = map line_of (lines text)
 
 -- why a text is refused, if at all: for its length, and else for the first line that is bad or one event too many
 unfoldable pub refusal : Text → Option ScriptRefusal
-refusal text = if nat_lt 16777216 (length text) then Some TooLong else first_refusal (said_by text) (length (said_by text))
+refusal text = if nat_lt most_script_bytes (length text) then Some TooLong else first_refusal (said_by text) (length (said_by text))
 
 -- the script that a text spells, where it isn't refused
 abbrev pub script_of : Text → ScriptLines
@@ -93,7 +97,7 @@ FailsFor cause (Err TooLong) = cause ≡ Some TooLong
 -- What holds where there is no memory for the next line of a text: nothing is wrong with the lines before it, and either nothing
 -- with it, or it takes memory for itself.
 pub record IsWanting (text : Text) : Type 0 where
-  pub short : length text ≤ 16777216
+  pub short : length text ≤ most_script_bytes
   pub place : ℕ
   pub line : Text
   pub is_next : slice_get (lines text) place ≡ Some line

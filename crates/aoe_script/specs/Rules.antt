@@ -6,6 +6,7 @@ use Rattle.arrayvec.specs.ArrayVec.{ArrayVec}
 use Rattle.aoe_base.specs.declared.address.Mac.{Mac}
 use Rattle.aoe_base.specs.declared.address.TargetId.{TargetId}
 use Rattle.aoe_base.specs.Addresses.{all_unique, holds, is_individual, source_of}
+use Rattle.aoe_base.specs.Sizes.{longest_frame, longest_lifetime}
 use Rattle.aoe_lists.specs.Settings.{max_directives}
 use Rattle.aoe_script.specs.declared.event.Event.{Event}
 use Rattle.aoe_script.specs.declared.event.Event.TheVariants.{Read, Write, Flush, Identify, Config, Masks, Reserve, Tick, Deliver, Pass, Skip, Again, Inject, Fail, Stop, Crash}
@@ -39,7 +40,7 @@ is_cache (Some room) = is_within 1 65536 room
 -- how long responses can be handed over, where a line says it apart
 abbrev pub is_lifetime : Option ℕ → Bool
 is_lifetime None = true
-is_lifetime (Some ms) = nat_le ms 600000
+is_lifetime (Some ms) = nat_le ms longest_lifetime
 
 -- a device's name has neither the number of all shelves nor that of all slots
 abbrev pub is_device : TargetId → Bool
@@ -47,7 +48,7 @@ is_device dev = nat_le dev.major 65534 && nat_le dev.minor 254
 
 -- each word of a setup line is in its range
 abbrev pub is_setup : Setup → Bool
-is_setup (Life requests responses) = nat_le requests 600000 && is_lifetime responses
+is_setup (Life requests responses) = nat_le requests longest_lifetime && is_lifetime responses
 is_setup (Shelf name major ports mtu) = is_name name && nat_le major 65534 && are_ports ports && is_within 1500 9000 mtu
 is_setup (Slot shelf minor sectors room) = is_name shelf && nat_le minor 254 && is_within 1 65536 sectors && is_cache room
 is_setup (Host name ports room dead) = is_name name && are_ports ports && is_limit room dead
@@ -75,7 +76,7 @@ is_event (Deliver frame station) = is_within 1 4294967295 frame && is_name stati
 is_event (Pass n) = is_within 1 10000 n
 is_event (Skip n) = is_within 1 10000 n
 is_event Again = true
-is_event (Inject bytes) = is_within 14 9018 (length bytes)
+is_event (Inject bytes) = is_within 14 longest_frame (length bytes)
 is_event (Fail dev which k) = is_device dev && is_within 1 1000 k
 is_event (Stop dev which k mode) = is_device dev && is_within 1 1000 k
 is_event (Crash shelf mode) = is_name shelf

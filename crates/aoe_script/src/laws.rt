@@ -4,7 +4,7 @@ ghost use Rattle.aoe_script.specs.declared.event.Event.{Event};
 ghost use Rattle.aoe_script.specs.declared.line.Line.TheVariants.{Asks, Declares};
 ghost use Rattle.aoe_script.specs.declared.setup.Setup.{Setup};
 ghost use Rattle.aoe_script.specs.Forms.{line_of};
-ghost use Rattle.aoe_script.specs.Lines.{IsScript, ScriptLines, refusal, script_of};
+ghost use Rattle.aoe_script.specs.Lines.{most_script_bytes, refusal, script_of, IsScript, ScriptLines};
 ghost use Rattle.aoe_script.specs.Print.{event_words, script_text, setup_words, spelled};
 ghost use Rattle.aoe_script.specs.Rules.{is_event, is_setup};
 ghost use Rattle.aoe_script.specs.Types.{FitsEvent, FitsSetup};
@@ -29,7 +29,7 @@ pub fn printed_script_reads_back()
     ensures reads { (script : ScriptLines) → IsScript script
         → script_of (script_text script) ≡ script }
     ensures accepted { (script : ScriptLines) → IsScript script
-        → length (script_text script) ≤ 16777216 → refusal (script_text script) ≡ None }
+        → length (script_text script) ≤ most_script_bytes → refusal (script_text script) ≡ None }
 {
     mac_reads_back();
     device_law();

@@ -1,7 +1,7 @@
 //! The text of a script.
 ghost use Rattle.std.specs.Prelude.{◌≡◌, ◌≤◌, ◌∷◌, ◌++◌, drop, length, true, IfOk, None, OnOk};
 ghost use Rattle.aoe_base.specs.Names.{device_text};
-ghost use Rattle.aoe_script.specs.Lines.{IsScript, refusal, script_of};
+ghost use Rattle.aoe_script.specs.Lines.{most_script_bytes, refusal, script_of, IsScript};
 ghost use Rattle.aoe_script.specs.Print.{event_words, is_submission, optional_word, script_text, setup_words, spaced, spelled};
 ghost use Rattle.aoe_script.specs.Spelling.{word_text, words_text};
 
@@ -262,7 +262,7 @@ fn put_script(out: &mut Vec<u8>, script: &Script) -> Result<(), NoMemory>
 pub fn print_script(alloc: Global, script: &Script) -> Result<Blob, NoMemory>
     ensures text { IfOk result (λ text. text ≡ script_text script.now) }
     ensures reads { IfOk result (λ text. script_of text ≡ script.now) }
-    ensures accepted { IfOk result (λ text. length text ≤ 16777216 → refusal text ≡ None) }
+    ensures accepted { IfOk result (λ text. length text ≤ most_script_bytes → refusal text ≡ None) }
 {
     printed_script_reads_back();
     let mut out = Vec::new(alloc);

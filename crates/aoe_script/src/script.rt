@@ -1,7 +1,7 @@
 //! Scripts, and the text that spells one.
 ghost use Rattle.std.specs.Prelude.{◌≡◌, ◌+◌, ◌<◌, ◌≤◌, [], ◌∷◌, ◌++◌, length, nat_le, slice_get, Err, IfOk, OnErr, OnOk, Some, None};
 ghost use Rattle.std.specs.List.{list_any};
-ghost use Rattle.aoe_script.specs.Lines.{FailsFor, IsScript, IsWanting, ScriptLines, line_refusal, lines_of, refusal, refused_for, said_by, script_of, with_line};
+ghost use Rattle.aoe_script.specs.Lines.{line_refusal, lines_of, most_script_bytes, refusal, refused_for, said_by, script_of, with_line, FailsFor, IsScript, IsWanting, ScriptLines};
 ghost use Rattle.aoe_script.specs.Rules.{event_why, marks, setup_why};
 
 use crate::event::Event;
@@ -88,7 +88,7 @@ impl Script {
 
     /// Takes a setup line in.
     fn declare(&mut self, number: u32, setup: Setup) -> Result<(), ScriptRefusal>
-        requires { length self.old.setups < 16777216 }
+        requires { length self.old.setups < most_script_bytes }
         ensures cause { FailsFor (line_refusal number self.old (Line.Declares setup)) result }
         ensures memory { result ≡ Err ScriptRefusal.NoMemory
             → line_refusal number self.old (Line.Declares setup) ≡ None }
@@ -128,7 +128,7 @@ impl Script {
 
     /// Takes the line of this number in.
     fn enter(&mut self, number: u32, line: Line) -> Result<(), ScriptRefusal>
-        requires { length self.old.setups < 16777216 }
+        requires { length self.old.setups < most_script_bytes }
         ensures cause { FailsFor (line_refusal number self.old line) result }
         ensures memory { result ≡ Err ScriptRefusal.NoMemory
             → line_refusal number self.old line ≡ None }
@@ -160,7 +160,7 @@ impl Script {
 
 /// The script that a text of no more than 16,777,216 bytes spells.
 fn read_lines(alloc: Global, text: &[u8]) -> Result<Script, ScriptRefusal>
-    requires { length text.now ≤ 16777216 }
+    requires { length text.now ≤ most_script_bytes }
     ensures cause { FailsFor (refusal text.now) result }
     ensures memory { result ≡ Err ScriptRefusal.NoMemory → IsWanting text.now }
     ensures script { IfOk result (λ script. script ≡ script_of text.now) }

@@ -1,6 +1,7 @@
 -- The slots of a shelf, and what a frame does to each.
 use Rattle.std.specs.Prelude.{ℕ, ◌≡◌, ◌≤◌, Bool, List, map, length, slice_get, Some, true, false}
 use Rattle.aoe_base.specs.Faults.{Rose}
+use Rattle.aoe_base.specs.Sizes.{longest_frame}
 use Rattle.aoe_disk.specs.State.{DiskState}
 use Rattle.aoe_target.specs.Device.{Device, State, Holds}
 use Rattle.aoe_target.specs.History.{Met, AllAllowed, IsCounted, count_failed, is_cut, keep_failed, left_by, store_failed}
@@ -32,7 +33,7 @@ abbrev pub IsFrameLong : Fate → Type 0
 IsFrameLong ignored = Unit {0}
 IsFrameLong silent = Unit {0}
 IsFrameLong cut = Unit {0}
-IsFrameLong (replied e reply) = length reply ≤ 9018
+IsFrameLong (replied e reply) = length reply ≤ longest_frame
 
 -- a frame came to a slot: what became of it is a step of the shelf law over all that is known of the device, the power held, a reply is
 -- no longer than a frame, and a fault is one that its disk counted. Where writes last, after one that was done a crash changes none of its sectors

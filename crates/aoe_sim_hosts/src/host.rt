@@ -1,5 +1,6 @@
 //! A host and its steps.
 ghost use Rattle.std.specs.Prelude.{ℕ, ◌≡◌, ◌≢◌, ◌+◌, ◌<◌, ◌≤◌, ◌^◌, ◌-◌, ◌∷◌, List, [], Option, None, Some, true, is_some, length, position, unwrap_or, IfErr, IfOk, IfSome, IsSomeAnd, OnErr, OnOk};
+ghost use Rattle.aoe_base.specs.Sizes.{longest_lifetime};
 ghost use Rattle.aoe_history.specs.declared.entry.Entry.{Entry as Happened};
 ghost use Rattle.aoe_history.specs.declared.entry.Entry.TheVariants.{Refused, Submitted, Took};
 ghost use Rattle.aoe_history.specs.Frames.{arriving};
@@ -95,8 +96,8 @@ impl SimHost {
     ) -> Result<SimHost, NoMemory>
         requires port { 0 < length ports.now.items }
         requires differ { IsDistinct ports.now.items }
-        requires requests { life.requests.0 ≤ 600000 }
-        requires responses { life.responses.0 ≤ 600000 }
+        requires requests { life.requests.0 ≤ longest_lifetime }
+        requires responses { life.responses.0 ≤ longest_lifetime }
         requires some_room { 0 < room }
         requires room { room ≤ 16384 }
         requires dead { 0 < dead.0 }

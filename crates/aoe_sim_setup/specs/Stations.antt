@@ -4,6 +4,7 @@ use Rattle.arrayvec.specs.ArrayVec.{ArrayVec}
 use Rattle.aoe_base.specs.declared.address.Mac.{Mac}
 use Rattle.aoe_base.specs.declared.address.TargetId.{TargetId}
 use Rattle.aoe_base.specs.Addresses.{holds, IsDistinct}
+use Rattle.aoe_base.specs.Sizes.{longest_frame, longest_lifetime}
 use Rattle.aoe_frame.specs.Header.{fields}
 use Rattle.aoe_initiator.specs.declared.device.Attached.{Attached}
 use Rattle.aoe_initiator.specs.HostLaw.{same_id}
@@ -79,8 +80,8 @@ pub record IsSlot (slot : SlotSetup) : Type 0 where
   pub cache : IsCache slot.cache
 
 pub record HasRanges (s : Setup) : Type 0 where
-  pub requests : s.life.requests.0 ≤ 600000
-  pub responses : s.life.responses.0 ≤ 600000
+  pub requests : s.life.requests.0 ≤ longest_lifetime
+  pub responses : s.life.responses.0 ≤ longest_lifetime
   pub few_hosts : length s.hosts ≤ 16
   pub hosts : (i : ℕ) (host : HostSetup) → slice_get s.hosts i ≡ Some host → IsHost host
   pub slots : (i : ℕ) (slot : SlotSetup) → slice_get s.slots i ≡ Some slot → IsSlot slot
@@ -142,7 +143,7 @@ CanCome lines s (Deliver frame station) = IsStation lines station × (1 ≤ fram
 CanCome lines s (Pass n) = (1 ≤ n) × (n ≤ 10000)
 CanCome lines s (Skip n) = (1 ≤ n) × (n ≤ 10000)
 CanCome lines s Again = Unit {0}
-CanCome lines s (Inject bytes) = (is_port s (fields bytes).src ≡ false) × (14 ≤ length bytes) × (length bytes ≤ 9018)
+CanCome lines s (Inject bytes) = (is_port s (fields bytes).src ≡ false) × (14 ≤ length bytes) × (length bytes ≤ longest_frame)
 CanCome lines s (Fail dev which k) = IsThere lines s dev × (1 ≤ k) × (k ≤ 1000)
 CanCome lines s (Stop dev which k mode) = IsThere lines s dev × (1 ≤ k) × (k ≤ 1000)
 CanCome lines s (Crash shelf mode) = IsShelf lines shelf

@@ -1,4 +1,5 @@
 ghost use Rattle.std.specs.Prelude.{◌≤◌, length};
+ghost use Rattle.aoe_base.specs.Sizes.{longest_frame};
 
 use crate::checks::holds;
 use aoe_base::{FrameNo, Lifetimes, Millis};
@@ -7,7 +8,7 @@ use std::test::Fail;
 
 /// Whether a frame that is sent at a time has this number.
 fn sends(net: &mut Net, now: u64, frame: &[u8], number: u32) -> bool
-    requires len { length frame.now ≤ 9018 }
+    requires len { length frame.now ≤ longest_frame }
     requires time { net.old.latest ≤ now }
     ensures { net.new.latest ≤ now }
 {

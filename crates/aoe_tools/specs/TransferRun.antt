@@ -3,6 +3,7 @@ use Rattle.std.specs.Prelude.{ℕ, ◌≡◌, ◌+◌, ◌<◌, ◌≤◌, ◌�
 use Rattle.std.specs.List.{count_by}
 use Rattle.aoe_base.specs.declared.counted.PathNo.{PathNo}
 use Rattle.aoe_base.specs.declared.counted.Ticket.{Ticket}
+use Rattle.aoe_base.specs.Sizes.{most_room}
 use Rattle.aoe_block.specs.Calls.{AreUpTo}
 use Rattle.aoe_flight.specs.Outstanding.{is_expired}
 use Rattle.aoe_initiator.specs.declared.outcome.Done.{Done}
@@ -11,7 +12,7 @@ use Rattle.aoe_initiator.specs.declared.response.Answer.{Answer}
 use Rattle.aoe_initiator.specs.declared.step.Sent.{Sent}
 use Rattle.aoe_base.specs.declared.address.Mac.{Mac}
 use Rattle.aoe_base.specs.declared.address.TargetId.{TargetId}
-use Rattle.aoe_initiator.specs.Defaults.{default_dead, default_life, most_room}
+use Rattle.aoe_initiator.specs.Defaults.{default_dead, default_life}
 use Rattle.aoe_initiator.specs.Host.{new_device, new_host, with_device, Host, IsSame, Matches}
 use Rattle.aoe_initiator.specs.HostLaw.{answer_to, ended as after_ends, CameOn, GaveUpInTurn, IsFrameOf, IsNext, IsOnNextPath, IsQuiet}
 use Rattle.aoe_initiator.specs.HostLog.{clock, commands, sent_of, Event, HostCommand}

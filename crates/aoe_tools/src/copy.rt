@@ -1,6 +1,7 @@
 //! The tools that copy sectors out of a device, and into it, and the one that flushes it.
 ghost use Rattle.std.specs.Prelude.{◌≡◌, ◌≢◌, ◌+◌, ◌/◌, ◌≤◌, ◌<◌, ◌%◌, ◌^◌, Err, IfErr, IfNone, IfOk, IfSome, length, true};
 ghost use Rattle.aoe_base.specs.Faults.{Blamed};
+ghost use Rattle.aoe_base.specs.Sizes.{most_copied};
 ghost use Rattle.aoe_block.specs.Parts.{joined};
 ghost use Rattle.aoe_base.specs.declared.address.Mac.{Mac};
 ghost use Rattle.aoe_base.specs.declared.address.TargetId.{TargetId};
@@ -8,7 +9,7 @@ ghost use Rattle.aoe_tools.specs.declared.course.Course.{Course};
 ghost use Rattle.aoe_tools.specs.declared.end.ToolRefusal.{ToolRefusal as Refused};
 ghost use Rattle.aoe_tools.specs.Runs.{RunsFlush, RunsGet, RunsPut, RunsWrite, told};
 ghost use Rattle.aoe_tools.specs.TransferCopies.{checks_of, end_of, first_phase, put_of, read_by, read_of, write_of, CanCompare, Copies, IsCheckEnd, IsCompared, IsFirstOther, IsFresh, IsFreshCheck, MayRun, NotBegun, Puts, TakesRead};
-ghost use Rattle.aoe_tools.specs.TransferInput.{Inputs};
+ghost use Rattle.aoe_tools.specs.TransferInput.{most_input, Inputs};
 ghost use Rattle.aoe_tools.specs.TransferRun.{host_of, IsFit};
 
 use crate::course::{Check, Course, Phase};
@@ -34,7 +35,7 @@ fn course_of_read(
 ) -> Result<Course, ToolRefusal>
     requires some { 0 < device.now.max }
     requires max { device.now.max ≤ 2 }
-    requires few { count ≤ 32768 }
+    requires few { count ≤ most_copied }
     ensures fresh { IfOk result (λ c. IsFresh (read_of at count) device.now c) }
     ensures fit { IfOk result (λ c. (port : Mac) (id : TargetId)
         → IsFit (host_of port id device.now) c) }
@@ -75,7 +76,7 @@ fn check_of(
 ) -> Result<Check, NoMemory>
     requires some { 0 < device.now.max }
     requires max { device.now.max ≤ 2 }
-    requires few { count ≤ 32768 }
+    requires few { count ≤ most_copied }
     requires within { at + count ≤ device.now.total }
     ensures check { IfOk result (λ k. IsFreshCheck (checks_of verify count) at count device.now k) }
 {
@@ -99,7 +100,7 @@ fn course_of_write(
     requires some { 0 < device.now.max }
     requires max { device.now.max ≤ 2 }
     requires whole { length bytes % 512 ≡ 0 }
-    requires few { length bytes ≤ 16777216 }
+    requires few { length bytes ≤ most_input }
     ensures fresh { IfOk result (λ c. IsFresh (put_of verify at bytes) device.now c) }
     ensures fit { IfOk result (λ c. (port : Mac) (id : TargetId)
         → IsFit (host_of port id device.now) c) }
@@ -169,7 +170,7 @@ fn read_all<L: Link, C: Clock>(
     link: &mut L,
     clock: &mut C,
 ) -> Result<Course, ToolRefusal>
-    requires { count ≤ 32768 }
+    requires { count ≤ most_copied }
     ensures copies { Copies result ask.now id (read_of at count) (C.least clock.old)
         (record { turns = L.turns link.old; given = L.given link.old; taken = L.taken link.old })
         (record { turns = L.turns link.new; given = L.given link.new; taken = L.taken link.new })
@@ -202,7 +203,7 @@ fn write_all<L: Link, C: Clock>(
     clock: &mut C,
 ) -> Result<Course, ToolRefusal>
     requires whole { length bytes % 512 ≡ 0 }
-    requires few { length bytes ≤ 16777216 }
+    requires few { length bytes ≤ most_input }
     ensures copies { Copies result ask.now id (put_of verify at bytes) (C.least clock.old)
         (record { turns = L.turns link.old; given = L.given link.old; taken = L.taken link.old })
         (record { turns = L.turns link.new; given = L.given link.new; taken = L.taken link.new })
@@ -236,7 +237,7 @@ pub fn get<L: Link, C: Clock, K: Sink>(
     clock: &mut C,
 ) -> Result<(), CopyRefusal>
     requires some { 0 < count }
-    requires few { count ≤ 32768 }
+    requires few { count ≤ most_copied }
     ensures run { RunsGet result ask.now id at count
         (told C.least C.answers L.turns L.given L.taken clock.old clock.new link.old link.new)
         (K.held sink.old) (K.held sink.new) }
@@ -321,7 +322,7 @@ pub fn put_sectors<L: Link, C: Clock>(
     clock: &mut C,
 ) -> Result<(), CopyRefusal>
     requires whole { length sectors % 512 ≡ 0 }
-    requires few { length sectors ≤ 16777216 }
+    requires few { length sectors ≤ most_input }
     ensures run { RunsWrite result ask.now id at sectors verify
         (told C.least C.answers L.turns L.given L.taken clock.old clock.new link.old link.new) }
     ensures unread { result ≢ Err CopyRefusal.SourceFault }

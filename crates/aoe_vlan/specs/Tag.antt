@@ -4,6 +4,7 @@ use Rattle.std.specs.List.{list_all, list_any, slice_range}
 use Rattle.std.specs.Int.{w16, to_be_bytes}
 use Rattle.aoe_base.specs.Addresses.{is_individual, source_of}
 use Rattle.aoe_base.specs.declared.address.Mac.{Mac}
+use Rattle.aoe_base.specs.Sizes.{longest_frame}
 use Rattle.aoe_vlan.specs.declared.port.PortKind.{PortKind}
 use Rattle.aoe_vlan.specs.declared.port.PortKind.TheVariants.{Access, Trunk}
 
@@ -38,7 +39,7 @@ tagged mark vid frame = take 12 frame ++ (129 ∷ 0 ∷ to_be_bytes w16 (mark * 
 
 -- a frame that a switch takes: it has its addresses, its type and all of its tag, the source is one station, and it isn't too long
 unfoldable pub is_frame : List ℕ → Bool
-is_frame frame = nat_le (if has_tag frame then 18 else 14) (length frame) && is_individual (source_of frame) && nat_le (length (bare frame)) 9018
+is_frame frame = nat_le (if has_tag frame then 18 else 14) (length frame) && is_individual (source_of frame) && nat_le (length (bare frame)) longest_frame
 
 -- the port is of the VLAN
 abbrev pub carries : ℕ → PortKind → Bool

@@ -5,6 +5,7 @@
 //! | 12 | 2 | 0x8100 |
 //! | 14 | 2 | priority and drop mark (4 bits), number of the VLAN (12 bits) |
 ghost use Rattle.std.specs.Prelude.{drop, take, ◌≡◌, ◌≤◌, ◌<◌, ◌+◌, ◌++◌, ◌&&◌, length, nat_le, true, if◌then◌else◌};
+ghost use Rattle.aoe_base.specs.Sizes.{longest_frame};
 ghost use Rattle.aoe_vlan.specs.Tag.{bare, control, destination_of, has_tag, is_frame, mark, tag_number, tagged};
 ghost use Rattle.aoe_base.specs.Addresses.{source_of};
 ghost use Rattle.arrayvec.specs.ArrayVec.{array_vec_len};
@@ -66,7 +67,7 @@ pub(crate) fn source(frame: &[u8]) -> Mac
 fn has_length(frame: &[u8]) -> bool
     requires { 14 ≤ length frame.now }
     ensures { result ≡ (nat_le (if has_tag frame.now then 18 else 14) (length frame.now)
-        && nat_le (length (bare frame.now)) 9018) }
+        && nat_le (length (bare frame.now)) longest_frame) }
 {
     if has_tag(frame) {
         frame.len() >= MIN_BARE + TAG_LEN && frame.len() <= MAX_TAGGED
@@ -102,7 +103,7 @@ pub(crate) fn tag_number(frame: &[u8]) -> Option<u16>
 pub(crate) fn bare_len(frame: &[u8]) -> usize
     requires { is_frame frame.now ≡ true }
     ensures len { result ≡ length (bare frame.now) }
-    ensures short { result ≤ 9018 }
+    ensures short { result ≤ longest_frame }
 {
     if has_tag(frame) {
         frame.len() - TAG_LEN
@@ -115,7 +116,7 @@ pub(crate) fn bare_len(frame: &[u8]) -> usize
 #[tactic(auto, unfolding(crate::specs::Tag::is_frame))]
 pub(crate) fn put_bare<const CAP: usize>(frame: &[u8], out: &mut ArrayVec<u8, CAP>)
     requires frame { is_frame frame.now ≡ true }
-    requires room { array_vec_len out.old + 9018 ≤ CAP }
+    requires room { array_vec_len out.old + longest_frame ≤ CAP }
     ensures { out.new.items ≡ out.old.items ++ bare frame.now }
 {
     if has_tag(frame) {

@@ -3,6 +3,7 @@ use Rattle.std.specs.Prelude.{ℕ, ◌≡◌, ◌+◌, ◌-◌, ◌^◌, ◌<◌
 use Rattle.std.specs.Option.{option_map_or}
 use Rattle.arrayvec.specs.ArrayVec.{ArrayVec}
 use Rattle.aoe_base.specs.declared.address.TargetId.{TargetId}
+use Rattle.aoe_base.specs.Sizes.{longest_frame}
 use Rattle.aoe_frame.specs.Header.{fields}
 use Rattle.aoe_history.specs.Frames.{clock}
 use Rattle.aoe_history.specs.Groups.{Act as Said, Station}
@@ -63,7 +64,7 @@ pub record CanArm (sim : Sim) (shelf slot k : ℕ) : Type 0 where
 abbrev pub CanAct : Act → Sim → Type 0
 CanAct (act.Submit host dev op) sim = CanAsk sim host dev op
 CanAct (act.Tick ms) sim = clock sim.run.entries + ms < 2 ^ 64
-CanAct (act.Inject bytes) sim = length bytes ≤ 9018
+CanAct (act.Inject bytes) sim = length bytes ≤ longest_frame
 CanAct (act.Arm shelf slot which k mode) sim = CanArm sim shelf slot k
 CanAct (act.Crash shelf how) sim = shelf < length sim.shelves.items
 CanAct (act.Hand frame to) sim = IsInside to sim

@@ -1,7 +1,7 @@
 -- What a replay takes, gives and leaves, by how it ended.
 use Rattle.std.specs.Prelude.{ℕ, ◌+◌, ◌-◌, ◌^◌, ◌<◌, ◌≤◌, ◌≡◌, ◌⊎◌, if◌then◌else◌, nat_le, List, [], ◌∷◌, length, take, slice_get, Option, Some, None}
 use Rattle.aoe_io.specs.Bytes.{Gave, GaveSome, Took, TookSome, IsEnded}
-use Rattle.aoe_io.specs.Input.{IsReadInPart, IsReadUpTo}
+use Rattle.aoe_io.specs.Input.{input_piece, IsReadInPart, IsReadUpTo}
 use Rattle.aoe_history.specs.declared.entry.Entry.{Entry}
 use Rattle.aoe_history.specs.Frames.{frames}
 use Rattle.aoe_history.specs.Lawful.{IsLawful}
@@ -14,7 +14,7 @@ use Rattle.aoe_script.specs.declared.refusal.ScriptRefusal.{ScriptRefusal}
 use Rattle.aoe_script.specs.declared.refusal.ScriptRefusal.TheVariants.{BadLine, TooMany, TooLong}
 use Rattle.aoe_script.specs.declared.refusal.ScriptRefusal.TheVariants as script
 use Rattle.aoe_script.specs.declared.setup.Setup.{Setup as Line}
-use Rattle.aoe_script.specs.Lines.{IsWanting, ScriptLines, refusal, script_of}
+use Rattle.aoe_script.specs.Lines.{most_script_bytes, refusal, script_of, IsWanting, ScriptLines}
 use Rattle.aoe_transcript.specs.Counts.{run_text, summary_of}
 use Rattle.aoe_transcript.specs.Summary.{summary_text}
 use Rattle.aoe_world.specs.declared.part.Part.{Part}
@@ -107,14 +107,14 @@ Sums = RunsTo Summary
 pub record GaveAll (left left' : Option (List ℕ)) (text : List ℕ) : Type 0 where
   pub gave : Gave left left' text
   pub ended : IsEnded left'
-  pub short : length text ≤ 16777216
+  pub short : length text ≤ most_script_bytes
 
 -- it gave more bytes than a script has, and no more than one read (65,536 bytes) behind that
 pub record GaveMore (left left' : Option (List ℕ)) : Type 0 where
   pub text : List ℕ
   pub gave : Gave left left' text
-  pub long : 16777216 < length text
-  pub within : length text ≤ 16777216 + 65536
+  pub long : most_script_bytes < length text
+  pub within : length text ≤ most_script_bytes + input_piece
 
 -- its text to its end is refused for this
 abbrev pub Refuses : Option (List ℕ) → Option (List ℕ) → ScriptRefusal → Type 0
@@ -128,7 +128,7 @@ Spells end left left' held held' =
 -- There was no memory: for the next bytes of a text that isn't too long so far; for a line of a text that came whole, where nothing is
 -- wrong before that line; or for the run of a text that spells a script.
 abbrev pub Wants : Option (List ℕ) → Option (List ℕ) → Type 0
-Wants left left' = IsReadInPart 16777216 left left' ⊎ ((text : List ℕ) × GaveAll left left' text × (IsWanting text ⊎ (refusal text ≡ None)))
+Wants left left' = IsReadInPart most_script_bytes left left' ⊎ ((text : List ℕ) × GaveAll left left' text × (IsWanting text ⊎ (refusal text ≡ None)))
 
 -- ---- a replay
 
@@ -167,7 +167,7 @@ HasRun end script = (end ≡ Ended) ⊎ Stops end script
 -- why no text came
 abbrev pub Unread : ReplayEnd → Option (List ℕ) → Option (List ℕ) → Type 0
 Unread SourceFault left left' = GaveSome left left'
-Unread NoMemory left left' = IsReadInPart 16777216 left left'
+Unread NoMemory left left' = IsReadInPart most_script_bytes left left'
 Unread (Limit limit) left left' = ⊥
 Unread (Script line why) left left' = ⊥
 Unread Ended left left' = ⊥
@@ -175,7 +175,7 @@ Unread SinkFault left left' = ⊥
 
 -- what was read of a source: all of it where that isn't more than a script has
 abbrev pub IsRead : Option (List ℕ) → Option (List ℕ) → List ℕ → Type 0
-IsRead left left' text = IsReadUpTo 16777216 left left' text
+IsRead left left' text = IsReadUpTo most_script_bytes left left' text
 
 -- how a replay ends whose text is refused
 abbrev pub refused_as : ScriptRefusal → ReplayEnd
@@ -187,9 +187,9 @@ refused_as TooLong = Limit ScriptBytes
 -- why a text spells no script
 abbrev pub IsRefusedAs : ReplayEnd → List ℕ → Type 0
 IsRefusedAs NoMemory text = IsWanting text
-IsRefusedAs (Script line why) text = (length text ≤ 16777216) × (refusal text ≡ Some (BadLine line why))
-IsRefusedAs (Limit Events) text = (length text ≤ 16777216) × (refusal text ≡ Some TooMany)
-IsRefusedAs (Limit ScriptBytes) text = 16777216 < length text
+IsRefusedAs (Script line why) text = (length text ≤ most_script_bytes) × (refusal text ≡ Some (BadLine line why))
+IsRefusedAs (Limit Events) text = (length text ≤ most_script_bytes) × (refusal text ≡ Some TooMany)
+IsRefusedAs (Limit ScriptBytes) text = most_script_bytes < length text
 IsRefusedAs (Limit Frames) text = ⊥
 IsRefusedAs (Limit FrameBytes) text = ⊥
 IsRefusedAs Ended text = ⊥

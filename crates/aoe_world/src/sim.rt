@@ -1,6 +1,7 @@
 //! Shelves and hosts on one network, and each act in it.
 ghost use Rattle.std.specs.Prelude.{◌≡◌, ◌≢◌, ◌+◌, ◌-◌, ◌<◌, ◌≤◌, ◌^◌, ℕ, List, length, Option, Some, slice_get, is_some, nat_eq, position, true, false, IfNone, IfSome, IsSomeAnd, MatchOption};
 ghost use Rattle.arrayvec.specs.ArrayVec.{ArrayVec};
+ghost use Rattle.aoe_base.specs.Sizes.{longest_frame};
 ghost use Rattle.aoe_frame.specs.Header.{fields};
 ghost use Rattle.aoe_history.specs.Frames.{arriving, clock};
 ghost use Rattle.aoe_history.specs.Groups.{Got, Station};
@@ -124,7 +125,7 @@ impl Sim {
     }
 
     fn inject(&mut self, frame: &Blob) -> Result<(), NetRefusal>
-        requires { length frame.now ≤ 9018 }
+        requires { length frame.now ≤ longest_frame }
         ensures { (s : Setup) (majors : List ℕ) → IsNetwork s majors → IsReady s majors self.old → is_port s (fields frame.now).src ≡ false
             → IsEntered result s majors (Inject frame.now) self.old self.new }
     {
