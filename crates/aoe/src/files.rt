@@ -4,6 +4,7 @@ ghost use Rattle.aoe_keep.specs.Content.{may_hold_keep as may_hold};
 ghost use Rattle.aoe_base.specs.Faults.{Rose};
 ghost use Rattle.aoe_disk.specs.Calls.{IsRange};
 ghost use Rattle.aoe_disk.specs.State.{DiskState};
+ghost use Rattle.libc.specs.Io.{Moved};
 
 use crate::log::FileLog;
 use crate::progress::Progress;
@@ -13,8 +14,10 @@ use aoe_keep::{KEEP_SECTORS, may_hold_keep};
 use std::fs::{File, OpenFile, OpenOptions, TryLockError};
 use std::io;
 use std::io::{ErrorKind, Seek, SeekFrom};
+use std::os::fd::AsRawFd;
 use std::os::unix::fs::{FileExt, FileTypeExt};
 use std::rt::Files;
+use std_io::io::last_error;
 
 /// The most sectors of a disk.
 const MAX_SECTORS: u64 = 1 << 40;
@@ -61,6 +64,21 @@ impl From<TryLockError> for FileRefusal {
             TryLockError::Error(error) => FileRefusal::Unopened(error),
         }
     }
+}
+
+/// How many bytes of `all` a call moved that answered so: none where a signal interrupted it.
+fn done_by(all: usize, answer: isize) -> io::Result<usize>
+    requires { Moved all answer }
+    ensures { IfOk result (λ done. done ≤ all) }
+{
+    if answer >= 0 {
+        return Ok(answer.cast_unsigned());
+    }
+    let error = last_error();
+    if error.kind() == ErrorKind::Interrupted {
+        return Ok(0);
+    }
+    Err(error)
 }
 
 /// Why a file, or a device, with these bytes at its beginning isn't taken for a keep.
@@ -205,12 +223,13 @@ impl FileDisk {
         }
     }
 
-    /// Reads what a call left, of which the front `done` bytes were read. It stands apart, so that
+    /// Ends a read whose first call answered `got`, not all that was asked for: reads what that left, or
+    /// all once more where a signal interrupted it, and else counts its failure. It stands apart, so that
     /// `read` makes no room for the answer of std's loop.
     #[cold]
     #[inline(never)]
-    fn read_on(&mut self, offset: u64, done: usize, out: &mut [u8]) -> Result<(), Failed>
-        requires done { done ≤ length out.old }
+    fn read_on(&mut self, offset: u64, got: isize, out: &mut [u8]) -> Result<(), Failed>
+        requires got { Moved (length out.old) got }
         requires end { offset + length out.old < 2 ^ 64 }
         ensures cause { OnErr result (Rose self.old.faults self.new.faults) }
         ensures count { self.old.faults ≤ self.new.faults }
@@ -218,61 +237,33 @@ impl FileDisk {
         ensures lost { self.new.is_lost ≡ self.old.is_lost }
         ensures len { length out.new ≡ length out.old }
     {
+        let done = match done_by(out.len(), got) {
+            Ok(done) => done,
+            Err(error) => return Err(self.fail("a read", Some(&error))),
+        };
         let answer = self
             .file
             .read_exact_at(&mut out[done..], offset + done as u64);
         self.told("a read", answer)
     }
 
-    /// Reads once more where a signal interrupted the call, and else counts its failure. It stands
-    /// apart and takes the error, so that `read` makes no room for it.
+    /// Ends a write whose first call answered `took`, as `read_on` ends a read.
     #[cold]
     #[inline(never)]
-    fn read_again(&mut self, offset: u64, error: io::Error, out: &mut [u8]) -> Result<(), Failed>
-        requires end { offset + length out.old < 2 ^ 64 }
-        ensures cause { OnErr result (Rose self.old.faults self.new.faults) }
-        ensures count { self.old.faults ≤ self.new.faults }
-        ensures sectors { self.new.sectors ≡ self.old.sectors }
-        ensures lost { self.new.is_lost ≡ self.old.is_lost }
-        ensures len { length out.new ≡ length out.old }
-    {
-        if error.kind() == ErrorKind::Interrupted {
-            return self.read_on(offset, 0, out);
-        }
-        Err(self.fail("a read", Some(&error)))
-    }
-
-    /// Writes what a call left, of which the front `done` bytes were written. It stands apart as
-    /// `read_on` does.
-    #[cold]
-    #[inline(never)]
-    fn write_on(&mut self, offset: u64, done: usize, piece: &[u8]) -> Result<(), Failed>
-        requires done { done ≤ length piece.now }
+    fn write_on(&mut self, offset: u64, took: isize, piece: &[u8]) -> Result<(), Failed>
+        requires took { Moved (length piece.now) took }
         requires end { offset + length piece.now < 2 ^ 64 }
         ensures cause { OnErr result (Rose self.old.faults self.new.faults) }
         ensures count { self.old.faults ≤ self.new.faults }
         ensures sectors { self.new.sectors ≡ self.old.sectors }
         ensures lost { self.new.is_lost ≡ self.old.is_lost }
     {
+        let done = match done_by(piece.len(), took) {
+            Ok(done) => done,
+            Err(error) => return Err(self.fail("a write", Some(&error))),
+        };
         let answer = self.file.write_all_at(&piece[done..], offset + done as u64);
         self.told("a write", answer)
-    }
-
-    /// Writes once more where a signal interrupted the call, and else counts its failure. It stands
-    /// apart as `read_again` does.
-    #[cold]
-    #[inline(never)]
-    fn write_again(&mut self, offset: u64, error: io::Error, piece: &[u8]) -> Result<(), Failed>
-        requires end { offset + length piece.now < 2 ^ 64 }
-        ensures cause { OnErr result (Rose self.old.faults self.new.faults) }
-        ensures count { self.old.faults ≤ self.new.faults }
-        ensures sectors { self.new.sectors ≡ self.old.sectors }
-        ensures lost { self.new.is_lost ≡ self.old.is_lost }
-    {
-        if error.kind() == ErrorKind::Interrupted {
-            return self.write_on(offset, 0, piece);
-        }
-        Err(self.fail("a write", Some(&error)))
     }
 }
 
@@ -298,11 +289,11 @@ impl Disk for FileDisk {
             return Err(self.fail("a read", None));
         }
         let offset = at * SECTOR_LEN as u64;
-        match self.file.read_at(out, offset) {
-            Ok(n) if n == out.len() => Ok(()),
-            Ok(n) => self.read_on(offset, n, out),
-            Err(error) => self.read_again(offset, error, out),
+        let got = libc::pread(self.file.as_raw_fd(), out, offset.cast_signed());
+        if got.cast_unsigned() == out.len() {
+            return Ok(());
         }
+        self.read_on(offset, got, out)
     }
 
     #[inline(never)]
@@ -323,11 +314,11 @@ impl Disk for FileDisk {
             self.end_progress();
         }
         let offset = at * SECTOR_LEN as u64;
-        match self.file.write_at(piece, offset) {
-            Ok(n) if n == piece.len() => Ok(()),
-            Ok(n) => self.write_on(offset, n, piece),
-            Err(error) => self.write_again(offset, error, piece),
+        let took = libc::pwrite(self.file.as_raw_fd(), piece, offset.cast_signed());
+        if took.cast_unsigned() == piece.len() {
+            return Ok(());
         }
+        self.write_on(offset, took, piece)
     }
 
     fn sync(&mut self) -> Result<(), Failed>

@@ -19,7 +19,7 @@ use Rattle.aoe_copy.specs.declared.putting.Stage.{Stage}
 use Rattle.aoe_copy.specs.declared.putting.Stage.TheVariants as stage
 use Rattle.aoe_copy.specs.Copying.{is_open}
 use Rattle.aoe_copy.specs.Feed.{ahead, Feeds}
-use Rattle.aoe_copy.specs.PutRuns.{EndsBy, HasFed, HasSeen, PutSeen, IsLean as IsLeanAll}
+use Rattle.aoe_copy.specs.PutRuns.{EndsBy, HasFed, HasSeen, IsReadOut, PutSeen, IsLean as IsLeanAll}
 use Rattle.aoe_copy.specs.PutSteps.{answers_of, asked, count_of, frames_of, log_of, open_of, outcomes, pieces, quiet_turns, rest_of, room_behind, stage_at_end, stage_of, turns_of, write_behind, written, AreSteps, GoesOn, IsFilled, IsPart, MayFlush, MayRead, NothingLeft, PutStep}
 use Rattle.aoe_copy.specs.PutSteps.PutStep.{ends, exceeds, flushes, writes}
 use Rattle.aoe_copy.specs.Putting.{flushes_left, is_ended, is_reading, left_of, may_flush, may_read, room_of, stage_behind, stage_past, Ended, FlushesOne, GoOn, IsLean, IsOver, IsPiece, IsRest, Keeps, ReadsOn, Setting, Stands, Went, WritesOne, WritesSome}
@@ -83,9 +83,31 @@ lean-all {c} {a = a} {steps} s = elim s.lean [
 ]
 
 -- a copy ends so
+over-all : (st : Stage) (left : Option (List ℕ)) (rest a : List ℕ) → IsOver st left a → IsReadOut st left (rest ++ a) rest
+over-all stage.Reading left rest a e = record {}
+over-all stage.Ended left rest a e = (e.0, ap (λ (l : List ℕ). rest ++ l) e.1 ∙ append-nil rest)
+over-all stage.Broken left rest a e = (e.0, ap (λ (l : List ℕ). rest ++ l) e.1 ∙ append-nil rest)
+over-all stage.Beyond left rest a e = record {}
+over-all stage.Flushing left rest a e = (e.0, ap (λ (l : List ℕ). rest ++ l) e.1 ∙ append-nil rest)
+
+over-reading : (st : Stage) (left : Option (List ℕ)) (behind rest : List ℕ) → st ≡ stage.Reading → IsReadOut st left behind rest
+over-reading stage.Reading left behind rest e = record {}
+over-reading stage.Ended left behind rest e = absurd cc
+over-reading stage.Broken left behind rest e = absurd cc
+over-reading stage.Beyond left behind rest e = absurd cc
+over-reading stage.Flushing left behind rest e = absurd cc
+
 pub ended-as : {c : Setting} {seen : PutSeen} {a : List ℕ} {steps : List PutStep} {result : Result Unit CopyRefusal} {turns : ℕ} → Stands c seen a steps
     → EndsBy result c.plan turns seen.left steps (rest_of steps ++ a) → Ended result c turns seen
-ended-as {a = a} {steps} s by = record { steps = steps; are = s.are; behind = rest_of steps ++ a; seen_is = s.seen_is; lean = λ other. lean-all s; ends = by }
+ended-as {seen = seen} {a} {steps} s by = record {
+  steps = steps;
+  are = s.are;
+  behind = rest_of steps ++ a;
+  seen_is = s.seen_is;
+  lean = λ other. lean-all s;
+  over = over-all (stage_of steps) seen.left (rest_of steps) a s.over;
+  ends = by;
+}
 
 -- what is used of an input
 module _ {front : List ℕ} {before left : Option (List ℕ)} {used a : List ℕ} (h : HasFed front before left used a) where
@@ -221,6 +243,7 @@ module _ {c : Setting} (seen : PutSeen) {left left' : Option (List ℕ)} {a a' :
       | inl empty ↦ inl (omega (arith, length-append (sectors ++ p.rest) a', length-append sectors p.rest, p.rest_is, p.most, few, empty))
       | inr front ↦ inr (omega (arith, length-append (sectors ++ p.rest) a', length-append sectors p.rest, p.rest_is, front))
     ];
+    over = over-reading (stage_of steps) left' ((sectors ++ p.rest) ++ a') (rest_of steps) may.reads;
     ends = (well, inl may);
   }
 
@@ -234,6 +257,7 @@ ends-source {c} seen {left} {left'} {a} {steps} turns s well may some = record {
   behind = (rest_of steps ++ a) ++ some.0;
   seen_is = seen-fed steps s.seen_is refl refl refl (fed-some s.seen_is.fed some);
   lean = λ other. absurd (other refl);
+  over = over-reading (stage_of steps) left' ((rest_of steps ++ a) ++ some.0) (rest_of steps) may.reads;
   ends = (well, may);
 }
 

@@ -20,10 +20,11 @@ use Rattle.aoe_tools.specs.declared.input.Input.TheVariants as input
 use Rattle.aoe_tools.specs.declared.lookup.Device.{Device}
 use Rattle.aoe_tools.specs.declared.question.Ask.{Ask}
 use Rattle.aoe_copy.specs.declared.plan.Plan.{Plan}
+use Rattle.aoe_copy.specs.declared.putting.Stage.{Stage}
 use Rattle.aoe_copy.specs.declared.putting.Stage.TheVariants as stage
 use Rattle.aoe_copy.specs.Plan.{plan_of}
 use Rattle.aoe_copy.specs.Steps.{Fails}
-use Rattle.aoe_copy.specs.PutSteps.{answers_of, count_of, frames_of, open_of, outcomes, pieces, quiet_turns, stage_of, turns_of, written, AreSteps, GoesOn, MayFlush, MayRead, PutStep}
+use Rattle.aoe_copy.specs.PutSteps.{answers_of, count_of, frames_of, open_of, outcomes, pieces, quiet_turns, rest_of, stage_of, turns_of, written, AreSteps, GoesOn, MayFlush, MayRead, PutStep}
 
 -- what link, clock and source tell: how many turns there were, what came in them, the frames that were taken; the answers; the bytes left
 pub record PutSeen : Type 0 where
@@ -49,6 +50,15 @@ pub record HasSeen (before now : PutSeen) (front : List ℕ) (steps : List PutSt
 -- no more of the source was read than what was submitted, and one command more; or nothing was read behind the front
 abbrev pub IsLean : List ℕ → List ℕ → List ℕ → Type 0
 IsLean front used behind = (length behind ≤ 8704) ⊎ (length used + length behind ≤ length front)
+
+-- Once the end of the input is taken for reached, it is: the source has ended, and behind the sectors that were submitted there are these bytes
+-- and no others. As long as it is read, and where it goes on behind the device's last sector, there may be more of it.
+abbrev pub IsReadOut : Stage → Option (List ℕ) → List ℕ → List ℕ → Type 0
+IsReadOut stage.Reading left behind rest = Unit {0}
+IsReadOut stage.Ended left behind rest = IsEnded left × (behind ≡ rest)
+IsReadOut stage.Broken left behind rest = IsEnded left × (behind ≡ rest)
+IsReadOut stage.Beyond left behind rest = Unit {0}
+IsReadOut stage.Flushing left behind rest = IsEnded left × (behind ≡ rest)
 
 -- why a copy ends in a refusal of a tool: the first outcome that isn't a success; the input goes on behind the last sector of the device,
 -- and each command was acknowledged; no command ended in so many turns; there was no memory for the next command; the link failed
@@ -80,6 +90,7 @@ pub record Runs (result : Result Unit CopyRefusal) (base : Host) (p : Plan) (tur
   pub behind : List ℕ
   pub seen_is : HasSeen before now front steps behind
   pub lean : result ≢ Err copy.SourceFault → IsLean front (written steps) behind
+  pub over : IsReadOut (stage_of steps) now.left behind (rest_of steps)
   pub ends : EndsBy result p turns now.left steps behind
 
 -- what is told of a copy that did nothing
