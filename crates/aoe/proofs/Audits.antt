@@ -162,7 +162,8 @@ module _ {D : Type 0} (state : D → DiskState) (asked : Audit) (s : Status) (le
         judges = inl (record { lists = lists; mounted = record { mounts = mounts; finds = finds }; ended = r; audits = audits; ends = is });
         small = λ sectors. (λ e. absurd (other.0 sectors e), λ x. absurd (omega (arith, x.0, x.1, enough (state given) (state back) lists mounts)));
         bad = λ slot. not-bad s (16 ≤ (state given).sectors) slot (state given).contents (other.1 slot)
-            (no-bad s lists slot (16 ≤ (state given).sectors) (state given).contents (told-found (Ok lists) (state given).contents (state back).contents mounts.stands));
+            (no-bad s lists slot (16 ≤ (state given).sectors) (state given).contents
+            (told-found (Ok lists) (state given).contents (state back).contents mounts.stands));
         blames = λ disk e. absurd (other.2 disk e);
       }
 
@@ -170,7 +171,11 @@ module _ {D : Type 0} (state : D → DiskState) (asked : Audit) (s : Status) (le
     small : (n : ℕ) → IsRefused state given (refusal.TooSmall n) back → s ≡ status.KeepSmall 0 n → Judges
     small n x is = record {
       judges = inr (record { refusal = refusal.TooSmall n; refused = x; unread = unread; unwritten = unwritten; ends = is });
-      small = λ sectors. (λ e. let f = sym is ∙ e in let same : n ≡ sectors = cc in (x.0 ∙ same, omega (arith, x.1, same)), λ y. is ∙ ap (λ k. status.KeepSmall 0 k) (sym x.0 ∙ y.0));
+      small = λ sectors. (
+        λ e. let f = sym is ∙ e in let same : n ≡ sectors = cc in
+            (x.0 ∙ same, omega (arith, x.1, same)),
+        λ y. is ∙ ap (λ k. status.KeepSmall 0 k) (sym x.0 ∙ y.0),
+      );
       bad = λ slot. not-bad s (16 ≤ (state given).sectors) slot (state given).contents (λ e. let f = sym is ∙ e in absurd cc) (few slot (state given).contents);
       blames = λ disk e. let f = sym is ∙ e in absurd cc;
     }
@@ -183,7 +188,8 @@ module _ {D : Type 0} (state : D → DiskState) (asked : Audit) (s : Status) (le
     failed x is = record {
       judges = inr (record { refusal = refusal.Failed; refused = x; unread = unread; unwritten = unwritten; ends = is });
       small = λ sectors. (λ e. let f = sym is ∙ e in absurd cc, λ y. absurd (omega (arith, y.0, y.1, x.0)));
-      bad = λ slot. not-bad s (16 ≤ (state given).sectors) slot (state given).contents (λ e. let f = sym is ∙ e in absurd cc) (told slot (state given).contents);
+      bad = λ slot. not-bad s (16 ≤ (state given).sectors) slot (state given).contents (λ e. let f = sym is ∙ e in absurd cc)
+          (told slot (state given).contents);
       blames = λ disk e. let f = sym is ∙ e in let same : 0 ≡ disk = cc in (sym same, x.2.run.cause);
     }
       where
@@ -204,7 +210,8 @@ module _ {D : Type 0} (state : D → DiskState) (asked : Audit) (s : Status) (le
         read slot None stands = tt
         read slot (Some c) stands = (
           λ e. let f = sym is ∙ e in let same : k ≡ slot = cc in (x.0, stands ∙ ap Err same, λ g. let h = sym is ∙ g in cc),
-          λ y. let r : (let z : Result Settings ℕ = Err k in z) ≡ Err slot = sym stands ∙ y.1 in let same : k ≡ slot = cc in is ∙ ap (λ j. status.KeepBad 0 j) same,
+          λ y. let r : (let z : Result Settings ℕ = Err k in z) ≡ Err slot = sym stands ∙ y.1 in let same : k ≡ slot = cc in
+              is ∙ ap (λ j. status.KeepBad 0 j) same,
         )
 
     pub kept-out : (r : MountRefusal) → IsRefused state given r back → s ≡ refused_alone r → Judges

@@ -54,7 +54,8 @@ stands-first state most name a b first last file file' keep keep' over = record 
 stands-then : {D : Type 0} (state : D → DiskState) (x y : Slot) (first last : List Slot) (slot : ℕ) (file file' keep keep' : D)
     → Stands state first last slot file file' keep keep'
     → Stands state (x ∷ first) (y ∷ last) (suc slot) file file' keep keep'
-stands-then state x y first last slot file file' keep keep' s = record { a = s.a; b = s.b; at_first = s.at_first; at_last = s.at_last; faults = s.faults; faults_back = s.faults_back; kept = s.kept; mounted = s.mounted }
+stands-then state x y first last slot file file' keep keep' s =
+    record { a = s.a; b = s.b; at_first = s.at_first; at_last = s.at_last; faults = s.faults; faults_back = s.faults_back; kept = s.kept; mounted = s.mounted }
 
 -- what stands over files and keeps
 record Over {D : Type 0} (state : D → DiskState) (disks disks' : List (Option D)) (first last : List Slot) : Type 0 where
@@ -72,7 +73,8 @@ over-then state most name a b first last file file' keep keep' disks disks' over
     stand zero = on-first (Stands state (a ∷ first) (b ∷ last) 0) file file' keep keep' disks disks'
         (stands-first state most name a b first last file file' keep keep' over)
     stand (suc slot) = on-then (Stands state (a ∷ first) (b ∷ last) (suc slot)) slot (Some file) (Some keep) (Some file') (Some keep') disks disks'
-        (on-map (Stands state first last slot) (Stands state (a ∷ first) (b ∷ last) (suc slot)) slot disks disks' (stands-then state a b first last slot) (rest.stands slot))
+        (on-map (Stands state first last slot) (Stands state (a ∷ first) (b ∷ last) (suc slot)) slot disks disks' (stands-then state a b first last slot)
+        (rest.stands slot))
 
     disk : (slot : ℕ) → slot < length (a ∷ first) → Disks slot (Some file ∷ Some keep ∷ disks) (Some file' ∷ Some keep' ∷ disks')
     disk zero below = disks-first file file' keep keep' disks disks'
@@ -156,7 +158,8 @@ sync-failed : (r : Result (Unit {0}) Failed) (old new : DiskState) → is_err r 
 sync-failed (Ok done) old new e sync = absurd cc
 sync-failed (Err failed) old new e sync = sync.call.cause
 
-module _ {D S K L : Type 0} (state : D → DiskState) (most : Option ℕ) (name : ℕ → ℕ → Station) (minor : ℕ) (t : Tells S K L) (p : Plan) (e : Exported) (a b : Outside S K L) (disks disks' : List (Option D))
+module _ {D S K L : Type 0} (state : D → DiskState) (most : Option ℕ) (name : ℕ → ℕ → Station) (minor : ℕ) (t : Tells S K L) (p : Plan) (e : Exported)
+    (a b : Outside S K L) (disks disks' : List (Option D))
     (x : IsExported state most name minor t p e a b disks disks') where
   all-over : Over state disks disks' x.first x.last
   all-over = over state most name minor disks disks' x.first x.last x.over
@@ -198,7 +201,9 @@ module _ {D S K L : Type 0} (state : D → DiskState) (most : Option ℕ) (name 
   rose-in : (slot : ℕ) (file file' : D) → is_err (get_or x.run.results slot (Ok tt)) ≡ true → LastSync slot file file'
       → Rose (state file).faults (state file').faults
   rose-in slot file file' failed l =
-      subst (λ (n : ℕ). Rose (state file).faults n) l.back (rose_then (state file).faults l.count l.before.faults l.after.faults l.counted l.sync.call.later (sync-failed (get_or x.run.results slot (Ok tt)) l.before l.after failed l.sync))
+      subst (λ (n : ℕ). Rose (state file).faults n) l.back
+      (rose_then (state file).faults l.count l.before.faults l.after.faults l.counted l.sync.call.later
+      (sync-failed (get_or x.run.results slot (Ok tt)) l.before l.after failed l.sync))
 
   -- the disk of a slot that wasn't synced counted it
   pub unsynced-rose : (slot : ℕ) → e.unsynced ≡ Some slot → OnSlot (λ file file' _ _. Rose (state file).faults (state file').faults) slot disks disks'
@@ -218,7 +223,8 @@ module _ {D S K L : Type 0} (state : D → DiskState) (most : Option ℕ) (name 
   all-settled slot is =
       let ok = none-failed x.run.results (sym x.run.unsynced ∙ is) slot in
       on-map (Stands state x.first x.last slot) (λ _ file' _ _. IfSome (state file').contents NothingLoose) slot disks disks'
-      (λ file file' keep keep' s. let l = last-sync slot file file' keep keep' s in kept-settled l.after.contents (state file').contents l.kept (sync-done (get_or x.run.results slot (Ok tt)) l.before l.after ok l.sync)) (stands slot)
+      (λ file file' keep keep' s. let l = last-sync slot file file' keep keep' s in
+      kept-settled l.after.contents (state file').contents l.kept (sync-done (get_or x.run.results slot (Ok tt)) l.before l.after ok l.sync)) (stands slot)
 
   -- where no file failed each slot was synced
   pub all-synced : ((slot : ℕ) → OnSlot (λ file file' _ _. IsFaultless (state file).faults (state file').faults) slot disks disks') → e.unsynced ≡ None

@@ -55,7 +55,8 @@ pub record Disks {D : Type 0} (slot : ℕ) (disks disks' : List (Option D)) : Ty
 
 pub disks-first : {D : Type 0} (file file' keep keep' : D) (disks disks' : List (Option D))
     → Disks 0 (Some file ∷ Some keep ∷ disks) (Some file' ∷ Some keep' ∷ disks')
-disks-first file file' keep keep' disks disks' = record { file = file; file' = file'; keep = keep; keep' = keep'; file_is = refl; file_is' = refl; keep_is = refl; keep_is' = refl }
+disks-first file file' keep keep' disks disks' =
+    record { file = file; file' = file'; keep = keep; keep' = keep'; file_is = refl; file_is' = refl; keep_is = refl; keep_is' = refl }
 
 pub disks-then : {D : Type 0} (slot : ℕ) (x y x' y' : Option D) (disks disks' : List (Option D)) → Disks slot disks disks'
     → Disks (suc slot) (x ∷ y ∷ disks) (x' ∷ y' ∷ disks')

@@ -134,7 +134,8 @@ backed-then state refused r f f' k k' disks disks' lists mounted b = record { wi
     at zero = on-first (λ _ _ keep keep'. Given state (suc refused) r 0 keep keep') f f' k k' disks disks' (before (omega arith) lists mounted)
     at (suc slot) =
         on-then (λ _ _ keep keep'. Given state (suc refused) r (suc slot) keep keep') slot (Some f) (Some k) (Some f') (Some k') disks disks'
-        (on-map (λ _ _ keep keep'. Given state refused r slot keep keep') (λ _ _ keep keep'. Given state (suc refused) r (suc slot) keep keep') slot disks disks'
+        (on-map (λ _ _ keep keep'. Given state refused r slot keep keep')
+        (λ _ _ keep keep'. Given state (suc refused) r (suc slot) keep keep') slot disks disks'
         (λ _ _ keep keep' g. given-then state refused r slot keep keep' g) (b.each slot))
 
 pub backed : {D : Type 0} (state : D → DiskState) (refused : ℕ) (r : MountRefusal) (disks disks' : List (Option D)) → GivesBack state refused r disks disks'
@@ -403,7 +404,8 @@ module _ {D S K L : Type 0} (state : D → DiskState) (command : Command) (t : T
           over (over_files options p r) =
               let x = r.run in
               on-map (Stands state x.first x.last slot) (λ _ _ keep keep'. KeepIs state s slot keep keep') slot disks disks'
-              (λ file file' keep keep' stand. is_mounted stand.a.device.keep stand.a.device.lists stand.mounted (λ k e. absurd (let f : (let y : Option ℕ = None in y) ≡ Some k = sym none ∙ is ∙ e in cc)))
+              (λ file file' keep keep' stand. is_mounted stand.a.device.keep stand.a.device.lists stand.mounted
+              (λ k e. absurd (let f : (let y : Option ℕ = None in y) ≡ Some k = sym none ∙ is ∙ e in cc)))
               (stands state _ _ _ t _ r.exported a b disks disks' x slot)
 
       by : (o : Option ℕ) → refused_slot s ≡ o → OnSlot (λ _ _ keep keep'. KeepIs state s slot keep keep') slot disks disks'
@@ -440,7 +442,9 @@ module _ {D S K L : Type 0} (state : D → DiskState) (command : Command) (t : T
       (λ _ _ keep _. IfSome (state keep).contents (λ c. (s ≡ status.KeepBad (keep_at slot) bad) ↔ IsBad (state keep) c s slot bad)) slot disks disks'
       (λ _ _ keep keep' is. bad-of state s slot keep keep' bad is) (keep-is slot)
 
-  pub mounted : (slot : ℕ) (lists : Settings) → OnSlot (λ _ _ keep keep'. HasLists (state keep) lists → IsFaultless (state keep).faults (state keep').faults → refused_slot s ≢ Some slot) slot disks disks'
+  pub mounted : (slot : ℕ) (lists : Settings)
+      → OnSlot (λ _ _ keep keep'. HasLists (state keep) lists → IsFaultless (state keep).faults (state keep').faults → refused_slot s ≢ Some slot) slot disks
+      disks'
   mounted slot lists = on-map (λ _ _ keep keep'. KeepIs state s slot keep keep')
       (λ _ _ keep keep'. HasLists (state keep) lists → IsFaultless (state keep).faults (state keep').faults → refused_slot s ≢ Some slot) slot disks disks'
       (λ _ _ keep keep' is has fine e. mounted-of state s slot keep keep' lists is has fine e) (keep-is slot)

@@ -18,7 +18,9 @@ six-below a b c d e f sa sb sc sd se sf = omega arith
 pub address_of-below : (l : List ℕ) (n : ℕ) → n ≡ address_of l → length l ≡ 6 → ((i : ℕ) → get_or l i 0 < 256) → n < 2 ^ 48
 address_of-below l n value six small =
     let P : List ℕ → Type 0 = λ m. address_of m < 2 ^ 48 in
-    rw value (subst P (sym (six-is l six)) (six-below (get_or l 0 0) (get_or l 1 0) (get_or l 2 0) (get_or l 3 0) (get_or l 4 0) (get_or l 5 0) (small 0) (small 1) (small 2) (small 3) (small 4) (small 5)))
+    rw value (subst P (sym (six-is l six))
+    (six-below (get_or l 0 0) (get_or l 1 0) (get_or l 2 0) (get_or l 3 0) (get_or l 4 0) (get_or l 5 0) (small 0) (small 1) (small 2) (small 3) (small 4)
+    (small 5)))
 
 -- what registers have that bytes are read as
 record Read (a : AtaArgs) (b : List ℕ) : Type 0 where

@@ -20,7 +20,8 @@ laid-more under xs ys n m inside behind =
     let front-long : length (take n under ++ xs) ≡ m = length-front under xs n (omega arith) ∙ sym behind in
     let kept : take m (laid under n xs) ≡ take n under ++ xs = take_at (take n under ++ xs) (drop (n + length xs) under) m front-long in
     let left : drop (m + length ys) (laid under n xs) ≡ drop (length ys) (drop (n + length xs) under) =
-    subst (λ (k : ℕ). drop (k + length ys) (laid under n xs) ≡ drop (length ys) (drop (n + length xs) under)) front-long (drop-append-add (take n under ++ xs) (drop (n + length xs) under) (length ys)) in
+    subst (λ (k : ℕ). drop (k + length ys) (laid under n xs) ≡ drop (length ys) (drop (n + length xs) under)) front-long
+    (drop-append-add (take n under ++ xs) (drop (n + length xs) under) (length ys)) in
     let rest : drop (length ys) (drop (n + length xs) under) ≡ drop (n + length (xs ++ ys)) under =
     drop-drop (length ys) (n + length xs) under ∙ ap (λ (k : ℕ). drop k under) (omega (arith, length-append xs ys)) in
     ap (λ (l : List ℕ). l ++ ys ++ drop (m + length ys) (laid under n xs)) kept

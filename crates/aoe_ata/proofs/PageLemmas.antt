@@ -11,7 +11,8 @@ use Rattle.aoe_ata.specs.Identify.{word_bytes, text_words, number_words, laid, p
 take-word_bytes : (n : ℕ) (ws : List ℕ) → take (2 * n) (word_bytes ws) ≡ word_bytes (take n ws)
 take-word_bytes zero ws = refl
 take-word_bytes (suc n) [] = let e : 2 * suc n ≡ suc (suc (2 * n)) = omega arith in rw e refl
-take-word_bytes (suc n) (w ∷ ws) = let e : 2 * suc n ≡ suc (suc (2 * n)) = omega arith in rw e (ap (λ (l : List ℕ). w % 256 ∷ w / 256 ∷ l) (take-word_bytes n ws))
+take-word_bytes (suc n) (w ∷ ws) = let e : 2 * suc n ≡ suc (suc (2 * n)) = omega arith in
+    rw e (ap (λ (l : List ℕ). w % 256 ∷ w / 256 ∷ l) (take-word_bytes n ws))
 
 drop-word_bytes : (n : ℕ) (ws : List ℕ) → drop (2 * n) (word_bytes ws) ≡ word_bytes (drop n ws)
 drop-word_bytes zero ws = refl
@@ -113,7 +114,8 @@ pair-laid page before after text n i room inside small before-is after-is =
     let long : length (word_bytes (text_words (take (2 * i) text))) ≡ 2 * i = length-text i text (omega arith) in
     after-is
     ∙ ap (λ (l : List ℕ). laid l (2 * (n + i)) (get_or text (2 * i + 1) 0 ∷ get_or text (2 * i) 0 ∷ [])) before-is
-    ∙ laid-more page (word_bytes (text_words (take (2 * i) text))) (get_or text (2 * i + 1) 0 ∷ get_or text (2 * i) 0 ∷ []) (2 * n) (2 * (n + i)) (omega arith) (omega arith)
+    ∙ laid-more page (word_bytes (text_words (take (2 * i) text))) (get_or text (2 * i + 1) 0 ∷ get_or text (2 * i) 0 ∷ []) (2 * n) (2 * (n + i)) (omega arith)
+    (omega arith)
     ∙ ap (λ (l : List ℕ). laid page (2 * n) l) (sym (text-pair i text inside small))
 
 low-byte : (n : ℕ) → n % 2 ^ 16 % 256 ≡ n % 256
@@ -182,7 +184,9 @@ last-declare first total first-long =
 pub declared-page : (total : ℕ) (serial : List ℕ) → total ≤ 2 ^ 40 → length serial ≡ 20 → declared (page total serial) ≡ Some total
 unfolding page
 declared-page total serial small long =
-    declared-word_bytes (page_words total serial) total small (last-declare _ total (long-before (text_words serial) _ _ _ (number_words 2 (min total 0x0fffffff)) (length-text_words 10 serial long) refl refl refl refl))
+    declared-word_bytes (page_words total serial) total small
+    (last-declare _ total (long-before (text_words serial) _ _ _ (number_words 2 (min total 0x0fffffff))
+    (length-text_words 10 serial long) refl refl refl refl))
 
 -- a page of which each piece was laid in turn
 pub page-is : (total : ℕ) (serial a b c d e f g h : List ℕ)

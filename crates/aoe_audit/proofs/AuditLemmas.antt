@@ -52,13 +52,15 @@ module _ (lists : Settings) (c : List Packet) (a : Auditing) (heard : HasHeard l
         history = h;
         explains = subst (λ (s : Station). Explains s lists (p ∷ c) (reverse b.waiting) h) (sym station) more;
         known = subst (λ (s : Station). IsKnown b.knowing (left_by s (start lists) h)) (sym station) known;
-        counts = subst (λ (s : Station). Counts s (p ∷ c) h b.tally) (sym station) (counts-request a.station c h a.tally heard.counts p b.tally is asks tells fails);
+        counts = subst (λ (s : Station). Counts s (p ∷ c) h b.tally) (sym station)
+            (counts-request a.station c h a.tally heard.counts p b.tally is asks tells fails);
       }
 
   -- the first request that waits
   module _ (w : Packet) (rest : List Packet) (waits : a.waiting ≡ w ∷ rest) where
     pub first-waits : Explains a.station lists c (reverse rest ++ w ∷ []) heard.history
-    first-waits = subst (λ (l : List Packet). Explains a.station lists c l heard.history) (ap (λ l. reverse l) waits ∙ reverse-append (w ∷ []) rest) heard.explains
+    first-waits = subst (λ (l : List Packet). Explains a.station lists c l heard.history)
+        (ap (λ l. reverse l) waits ∙ reverse-append (w ∷ []) rest) heard.explains
 
     -- the law doesn't answer it
     pub heard-quiet : (b : Auditing) → b.station ≡ a.station → b.knowing ≡ a.knowing → b.refused ≡ a.refused → b.tally ≡ a.tally → b.waiting ≡ rest
@@ -70,7 +72,8 @@ module _ (lists : Settings) (c : List Packet) (a : Auditing) (heard : HasHeard l
         let m : Met = record { frame = w.frame; fate = fate } in
         let allowed = quiet-allowed a.station k w.frame (verdict a.station k.lists w.frame) silence in
         let more : Explains a.station lists c (reverse rest) (m ∷ h) =
-        explains-met a.station lists c (reverse rest) w h fate first-waits allowed (quiet-uncut (verdict a.station k.lists w.frame)) (quiet-reply (verdict a.station k.lists w.frame)) in
+        explains-met a.station lists c (reverse rest) w h fate first-waits allowed (quiet-uncut (verdict a.station k.lists w.frame))
+        (quiet-reply (verdict a.station k.lists w.frame)) in
         let stays : k ≡ state lists a (m ∷ h) = sym (quiet-leaves a.station k w.frame (verdict a.station k.lists w.frame) silence) in
         let known : IsKnown a.knowing (state lists a (m ∷ h)) = subst (λ (s : State). IsKnown a.knowing s) stays heard.known in
         let known-b : IsKnown b.knowing (state lists a (m ∷ h)) = subst (λ (s : Knowing). IsKnown s (state lists a (m ∷ h))) (sym knowing) known in
@@ -117,7 +120,8 @@ module _ (lists : Settings) (c : List Packet) (a : Auditing) (heard : HasHeard l
         (ap (λ k. with_reply k p (replies a.station c)) is) first-waits (inr (reverse rest, w, refl, told.0, told.1)) judged.2
 
     -- the law answers it, and no reply comes
-    pub left-over : answers a.station (state lists a heard.history).lists w.frame ≡ true → IsMissing a.station lists c w.number × (IsJudged a.station lists c → ⊥)
+    pub left-over : answers a.station (state lists a heard.history).lists w.frame ≡ true
+        → IsMissing a.station lists c w.number × (IsJudged a.station lists c → ⊥)
     left-over asks = (
       record {
         later = reverse rest;
@@ -213,7 +217,8 @@ module _ (lists : Settings) (c : List Packet) (old popped : Auditing) (heard : H
   next-passed reply new told-same tells =
       let told : IsTold old.station At w.frame reply old.knowing new.knowing Nothing = told-at Nothing reply new tells in
       heard-quiet lists c old heard w popped.waiting waits new (ap (λ (x : Auditing). x.station) told-same ∙ station-same) told.1
-      (ap (λ (x : Auditing). x.refused) told-same ∙ ap (λ (x : Auditing). x.refused) same) (ap (λ (x : Auditing). x.tally) told-same ∙ ap (λ (x : Auditing). x.tally) same)
+      (ap (λ (x : Auditing). x.refused) told-same ∙ ap (λ (x : Auditing). x.refused) same)
+      (ap (λ (x : Auditing). x.tally) told-same ∙ ap (λ (x : Auditing). x.tally) same)
       (ap (λ (x : Auditing). x.waiting) told-same) told.0
 
   pub next-wrong : (reply : List ℕ) (new : Auditing) (p : Packet)
@@ -227,7 +232,8 @@ module _ (lists : Settings) (c : List Packet) (old popped : Auditing) (heard : H
 
   pub next-taken : (reply : List ℕ) (told counted : Auditing) (p : Packet) (e : Effect) → told ≡ record popped { knowing = told.knowing }
       → counted ≡ record told { tally = counted.tally }
-      → ((k : State) → IsKnown popped.knowing k → IsTold popped.station k w.frame reply popped.knowing told.knowing (By e)) → class_of old.station p ≡ class.Reply
+      → ((k : State) → IsKnown popped.knowing k → IsTold popped.station k w.frame reply popped.knowing told.knowing (By e))
+      → class_of old.station p ≡ class.Reply
       → p.frame ≡ reply → counted.tally.requests ≡ told.tally.requests → counted.tally.replies ≡ min (told.tally.replies + 1) (2 ^ 32 - 1)
       → counted.tally.faults ≡ more_faults e told.tally.faults → HasHeard lists counted (p ∷ c)
   next-taken reply told counted p e told-same counted-same tells is frame asks replies fails =
@@ -251,7 +257,8 @@ module _ (lists : Settings) (c : List Packet) (old popped : Auditing) (heard : H
 
     pub end-passed : asks ≡ false → HasHeard lists popped c
     end-passed none-asked =
-        heard-quiet lists c old heard w popped.waiting waits popped station-same knowing-same (ap (λ (x : Auditing). x.refused) same) (ap (λ (x : Auditing). x.tally) same)
+        heard-quiet lists c old heard w popped.waiting waits popped station-same knowing-same (ap (λ (x : Auditing). x.refused) same)
+        (ap (λ (x : Auditing). x.tally) same)
         refl (sym (is ∙ at-lists) ∙ none-asked)
 
     pub end-missing : asks ≡ true → IsMissing old.station lists c w.number × (IsJudged old.station lists c → ⊥)

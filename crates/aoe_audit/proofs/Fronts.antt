@@ -18,7 +18,8 @@ module _ (station : Station) (lists : Settings) (c d : List Packet) (left other 
   -- the frames of the requests by either
   frames : map frame_of_packet left ++ map frame_met h ≡ map frame_of_packet other ++ map frame_met g
   frames =
-      (λ i. map frame_of_packet left ++ e.frames i) ∙ sym (map-append frame_of_packet left e.front) ∙ ap (λ l. map frame_of_packet l) (sym e.asked ∙ same ∙ f.asked)
+      (λ i. map frame_of_packet left ++ e.frames i) ∙ sym (map-append frame_of_packet left e.front)
+      ∙ ap (λ l. map frame_of_packet l) (sym e.asked ∙ same ∙ f.asked)
       ∙ map-append frame_of_packet other f.front ∙ (λ i. map frame_of_packet other ++ sym f.frames i)
 
   -- one of them begins as the other
@@ -35,7 +36,12 @@ module _ (station : Station) (lists : Settings) (c d : List Packet) (left other 
       one-history station (start lists) rest h y x gs (sym ends) allowed e.allowed uncut e.uncut ey ex
 
   pub length-front : length h ≤ length (requests station c)
-  length-front = omega (arith, sym (length-map h frame_met) ∙ ap length e.frames ∙ length-map e.front frame_of_packet, ap length e.asked ∙ length-append left e.front)
+  length-front = omega (
+    arith,
+    sym (length-map h frame_met) ∙ ap length e.frames ∙ length-map e.front frame_of_packet,
+    ap length e.asked
+        ∙ length-append left e.front,
+  )
 
   -- one request more, of which something became
   pub record Next : Type 0 where
@@ -95,7 +101,8 @@ module _ (station : Station) (lists : Settings) (c d : List Packet) (left other 
       let front : s.1 ≡ g =
       begins station lists d c other left g h f e (sym same) s.0 s.1 s.2 s.3 [] (more ++ replies_in s.0) (replies_in g) refl
       (is ∙ (λ i. more ++ told i) ∙ sym (append_assoc more (replies_in s.0) (replies_in s.1))) in
-      let all : replies_in g ≡ more ++ (replies_in s.0 ++ replies_in g) = is ∙ (λ i. more ++ told i) ∙ (λ i. more ++ (replies_in s.0 ++ replies_in (front i))) in
+      let all : replies_in g ≡ more ++ (replies_in s.0 ++ replies_in g) = is ∙ (λ i. more ++ told i)
+      ∙ (λ i. more ++ (replies_in s.0 ++ replies_in (front i))) in
       omega (arith, ap length all, length-append more (replies_in s.0 ++ replies_in g), length-append (replies_in s.0) (replies_in g))
 
 -- a request that waits, and what is known behind a history
@@ -108,16 +115,20 @@ module _ (station : Station) (lists : Settings) (c : List Packet) (h : List Met)
   not-judged later w e asks judged =
       let g : List Met = judged.0 in
       let f : Explains station lists c [] g = judged.1 in
-      let sizes : length g ≡ length (requests station c) = sym (length-map g frame_met) ∙ ap length f.frames ∙ length-map f.front frame_of_packet ∙ ap length (sym f.asked) in
+      let sizes : length g ≡ length (requests station c) = sym (length-map g frame_met) ∙ ap length f.frames ∙ length-map f.front frame_of_packet
+      ∙ ap length (sym f.asked) in
       let mine : length (requests station c) ≡ length (later ++ w ∷ []) + length h =
-      ap length e.asked ∙ length-append (later ++ w ∷ []) e.front ∙ ap (λ n. length (later ++ w ∷ []) + n) (sym (length-map e.front frame_of_packet) ∙ ap length (sym e.frames) ∙ length-map h frame_met) in
+      ap length e.asked ∙ length-append (later ++ w ∷ []) e.front
+      ∙ ap (λ n. length (later ++ w ∷ []) + n) (sym (length-map e.front frame_of_packet) ∙ ap length (sym e.frames) ∙ length-map h frame_met) in
       let longer : length h < length g = omega (arith, sizes, mine, length-append later (w ∷ [])) in
       let told : replies_in g ≡ replies_in h = f.answered ∙ sym e.answered in
       let n = next station lists c c (later ++ w ∷ []) [] h g e f refl longer [] told in
       let frame : w.frame ≡ n.met.frame = last-same _ _ w.frame n.met.frame (sym (map-append frame_of_packet later (w ∷ [])) ∙ n.left_is) in
-      let a = answered (verdict station (left_by station (start lists) h).lists n.met.frame) station (left_by station (start lists) h) n.met.frame n.met.fate n.allowed n.uncut
+      let a = answered (verdict station (left_by station (start lists) h).lists n.met.frame) station
+      (left_by station (start lists) h) n.met.frame n.met.fate n.allowed n.uncut
       (subst Answers frame asks) in
-      let more : replies_in h ≡ (replies_in n.more ++ a.1 ∷ []) ++ replies_in h = sym told ∙ n.told ∙ (λ i. (replies_in n.more ++ reply_in (a.2 i)) ++ replies_in h) in
+      let more : replies_in h ≡ (replies_in n.more ++ a.1 ∷ []) ++ replies_in h = sym told ∙ n.told
+      ∙ (λ i. (replies_in n.more ++ reply_in (a.2 i)) ++ replies_in h) in
       omega (arith, ap length more, length-append (replies_in n.more ++ a.1 ∷ []) (replies_in h), length-append (replies_in n.more) (a.1 ∷ []))
 
   -- a reply more: its request is none that waits, or the first that the law answers and doesn't answer so
@@ -137,12 +148,14 @@ module _ (station : Station) (lists : Settings) (c : List Packet) (h : List Met)
     where
       by-next : Next station lists c d left other h g e f (sym same) → replies_in g ≡ (p.frame ∷ []) ++ replies_in h → IsStuck left p.frame → ⊥
       by-next n told (inl empty) =
-          let nothing : [] ≡ (map frame_of_packet other ++ map frame_met n.more) ++ n.met.frame ∷ [] = ap (λ l. map frame_of_packet l) (sym empty) ∙ n.left_is in
+          let nothing : [] ≡ (map frame_of_packet other ++ map frame_met n.more) ++ n.met.frame ∷ [] = ap (λ l. map frame_of_packet l) (sym empty)
+          ∙ n.left_is in
           omega (arith, ap length nothing, length-append (map frame_of_packet other ++ map frame_met n.more) (n.met.frame ∷ []))
       by-next n told (inr w) =
           let frame : w.1.frame ≡ n.met.frame =
           last-same _ _ w.1.frame n.met.frame (sym (map-append frame_of_packet w.0 (w.1 ∷ [])) ∙ ap (λ l. map frame_of_packet l) (sym w.2) ∙ n.left_is) in
-          let a = answered (verdict station (left_by station (start lists) h).lists n.met.frame) station (left_by station (start lists) h) n.met.frame n.met.fate n.allowed n.uncut
+          let a = answered (verdict station (left_by station (start lists) h).lists n.met.frame) station
+          (left_by station (start lists) h) n.met.frame n.met.fate n.allowed n.uncut
           (subst Answers frame w.3) in
           let cut-off : (p.frame ∷ []) ++ replies_in h ≡ (replies_in n.more ++ a.1 ∷ []) ++ replies_in h =
           sym told ∙ n.told ∙ (λ i. (replies_in n.more ++ reply_in (a.2 i)) ++ replies_in h) in

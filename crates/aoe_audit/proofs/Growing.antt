@@ -70,7 +70,8 @@ module _ (station : Station) (lists : Settings) (c : List Packet) where
   }
 
   module _ (p : Packet) where
-    pub explains-other : (left : List Packet) (h : List Met) → class_of station p ≡ class.Other → Explains station lists c left h → Explains station lists (p ∷ c) left h
+    pub explains-other : (left : List Packet) (h : List Met) → class_of station p ≡ class.Other → Explains station lists c left h
+        → Explains station lists (p ∷ c) left h
     explains-other left h is e =
         let asks : requests station (p ∷ c) ≡ requests station c = ap (λ k. with_request k p (requests station c)) is in
         let tells : replies station (p ∷ c) ≡ replies station c = ap (λ k. with_reply k p (replies station c)) is in
@@ -115,7 +116,8 @@ module _ (station : Station) (lists : Settings) (c : List Packet) where
           allowed = (allowed, e.allowed);
           uncut = (refl, e.uncut);
           answered = (λ i. p.frame ∷ e.answered i) ∙ ap (λ l. map frame_of_packet l) (sym tells);
-          in_turn = turn-more station c p (m ∷ h) (turn-met station c m h e.in_turn) (omega (arith, ap length asks, sizes (later ++ w ∷ []) h e, length-append later (w ∷ [])))
+          in_turn = turn-more station c p (m ∷ h) (turn-met station c m h e.in_turn)
+              (omega (arith, ap length asks, sizes (later ++ w ∷ []) h e, length-append later (w ∷ [])))
               (omega (arith, ap length tells, ap length e.answered, length-map (replies station c) frame_of_packet));
         }
 

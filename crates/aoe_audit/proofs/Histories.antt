@@ -32,7 +32,8 @@ module _ (station : Station) (k : State) where
       append_cancel_right _ _ (replies_in h) ((λ i. (x ++ reply_in m.fate) ++ replies_in (sym rest i)) ∙ sym mine ∙ other) in
       let allowed = subst (λ (l : List Met). AllowedBy station k l m.frame m.fate) rest ag.0 in
       let here = subst (λ (f : List ℕ). AllowedBy station k h f m.fate) frame allowed in
-      let fate : m.fate ≡ n.fate = one-fate (verdict station (left_by station k h).lists n.frame) station (left_by station k h) n.frame m.fate n.fate x y here ah.0 ug.0 uh.0 ends in
+      let fate : m.fate ≡ n.fate = one-fate (verdict station (left_by station k h).lists n.frame) station
+      (left_by station k h) n.frame m.fate n.fate x y here ah.0 ug.0 uh.0 ends in
       λ i. (record { frame = frame i; fate = fate i }) ∷ rest i
 
   pub allowed-rest : (more rest : List Met) → AllAllowed station k (more ++ rest) → AllAllowed station k rest

@@ -36,7 +36,8 @@ pub by-verdict : (station : Station) (k : State) (f reply : List ℕ) (old new :
     → IsToldBy (answers_by station k.lists f v) (λ e. Allows station k f v (replied e reply)) (λ e. after station f v (replied e reply) k) old new told
     → IsTold station k f reply old new told
 by-verdict station k f reply old new told v is t =
-    subst (λ (w : Verdict). IsToldBy (answers_by station k.lists f w) (λ e. Allows station k f w (replied e reply)) (λ e. after station f w (replied e reply) k) old new told) is t
+    subst (λ (w : Verdict). IsToldBy (answers_by station k.lists f w) (λ e. Allows station k f w (replied e reply))
+    (λ e. after station f w (replied e reply) k) old new told) is t
 
 -- one reply alone
 same-reply : (e d : Effect) (a b : List ℕ) → replied e a ≡ replied d b → a ≡ b
@@ -45,7 +46,8 @@ same-reply e d a b is = ap (λ x. get_or (reply_in x) 0 a) is
 pub by-one : (told : Told) (reply bytes : List ℕ) (k : State) (old : Knowing) → IsKnown old k → SaysOne reply bytes told
     → IsToldBy true (λ e. replied e reply ≡ replied effect.None bytes) (λ e. k) old old told
 by-one told reply bytes k old known (inl says) =
-    subst (λ (t : Told). IsToldBy true (λ e. replied e reply ≡ replied effect.None bytes) (λ e. k) old old t) (sym says.0) ((λ i. replied effect.None (says.1 i)), known)
+    subst (λ (t : Told). IsToldBy true (λ e. replied e reply ≡ replied effect.None bytes) (λ e. k) old old t) (sym says.0)
+    ((λ i. replied effect.None (says.1 i)), known)
 by-one told reply bytes k old known (inr says) =
     subst (λ (t : Told). IsToldBy true (λ e. replied e reply ≡ replied effect.None bytes) (λ e. k) old old t) (sym says.0)
     (refl, λ e is. says.1 (same-reply e effect.None reply bytes is))
@@ -99,7 +101,8 @@ put-told station f args span reply old new k lists is puts-all known =
       (refl, is),
       record {
         lists = known.lists;
-        sectors = known-of (after_ata f (Put span) (replied (effect.Wrote span) reply)) old new (put-known span (written (drop 24 f) span) old new puts-written) k.sectors known.sectors;
+        sectors = known-of (after_ata f (Put span) (replied (effect.Wrote span) reply)) old new
+            (put-known span (written (drop 24 f) span) old new puts-written) k.sectors known.sectors;
       },
     )
 
@@ -108,7 +111,8 @@ put-told station f args span reply old new k lists is puts-all known =
 nothing-more : (n : ℕ) → 60 ≤ n → replicate {A = ℕ} (60 - n) 0 ≡ []
 nothing-more n le = (let nothing : 60 - n ≡ 0 = omega (arith, le) in ap (λ m. replicate {A = ℕ} m 0) nothing)
 
-module _ (station : Station) (h : Header) (args : AtaArgs) (span : Span) (reply : List ℕ) (front : length (data_front station h args) ≡ 36) (some : 1 ≤ span.count) where
+module _ (station : Station) (h : Header) (args : AtaArgs) (span : Span) (reply : List ℕ) (front : length (data_front station h args) ≡ 36)
+    (some : 1 ≤ span.count) where
   with-sectors : (bytes : List ℕ) → length bytes ≡ 512 * span.count → data_reply station h args bytes ≡ data_front station h args ++ bytes
   unfolding spelled
   with-sectors bytes size =
@@ -166,7 +170,8 @@ module _ (station : Station) (f : List ℕ) (args : AtaArgs) (span : Span) (repl
           ),
           record {
             lists = known.lists;
-            sectors = known-of (after_ata f (Give span) (replied effect.None reply)) old new (read-known span (data_of span reply) old new reads-data) k.sectors known.sectors;
+            sectors = known-of (after_ata f (Give span) (replied effect.None reply)) old new
+                (read-known span (data_of span reply) old new reads-data) k.sectors known.sectors;
           },
         )
 

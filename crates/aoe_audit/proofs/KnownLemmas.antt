@@ -40,12 +40,14 @@ module _ (at n q : ℕ) (bytes : List ℕ) (old : Option (List ℕ)) where
     | inr other ↦ rw (ne_eqb (at + n) q other, in-other at n q other) refl
   ]
 
-  pub read-more : option_or (option_or old (cond (in_span (first at n) q) (Some (value_in (first at n) bytes q)) None)) (cond (nat_eq (at + n) q) (Some (sector bytes n)) None)
+  pub read-more : option_or (option_or old (cond (in_span (first at n) q) (Some (value_in (first at n) bytes q)) None))
+      (cond (nat_eq (at + n) q) (Some (sector bytes n)) None)
       ≡ option_or old (cond (in_span (first at (n + 1)) q) (Some (value_in (first at (n + 1)) bytes q)) None)
   read-more = by old
     where
       by : (o : Option (List ℕ))
-          → option_or (option_or o (cond (in_span (first at n) q) (Some (value_in (first at n) bytes q)) None)) (cond (nat_eq (at + n) q) (Some (sector bytes n)) None)
+          → option_or (option_or o (cond (in_span (first at n) q) (Some (value_in (first at n) bytes q)) None))
+          (cond (nat_eq (at + n) q) (Some (sector bytes n)) None)
           ≡ option_or o (cond (in_span (first at (n + 1)) q) (Some (value_in (first at (n + 1)) bytes q)) None)
       by (Some v) = refl
       by None = elim (cases_eq (at + n) q) [
@@ -53,7 +55,8 @@ module _ (at n q : ℕ) (bytes : List ℕ) (old : Option (List ℕ)) where
             let place : n ≡ q - at = omega (arith, same) in
             let before : in_span (first at n) q ≡ false = subst (λ (s : ℕ). in_span (first at n) s ≡ false) same (in-next at n) in
             rw (eq-eqb (at + n) q same, in-same at n q same, before) (λ i. Some (sector bytes (place i)))
-        | inr other ↦ rw (ne_eqb (at + n) q other, in-other at n q other) (none-after (cond (in_span (first at n) q) (Some (value_in (first at n) bytes q)) None))
+        | inr other ↦ rw (ne_eqb (at + n) q other, in-other at n q other)
+            (none-after (cond (in_span (first at n) q) (Some (value_in (first at n) bytes q)) None))
       ]
         where
           none-after : (o : Option (List ℕ)) → option_or o None ≡ o

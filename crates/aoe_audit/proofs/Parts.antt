@@ -31,12 +31,14 @@ module _ (station : Station) where
   requests-append : (more c : List Packet) → requests station (more ++ c) ≡ requests station more ++ requests station c
   requests-append [] c = refl
   requests-append (p ∷ more) c =
-      ap (λ l. with_request (class_of station p) p l) (requests-append more c) ∙ with_request-append (class_of station p) p (requests station more) (requests station c)
+      ap (λ l. with_request (class_of station p) p l) (requests-append more c)
+      ∙ with_request-append (class_of station p) p (requests station more) (requests station c)
 
   packets-append : (more c : List Packet) → replies station (more ++ c) ≡ replies station more ++ replies station c
   packets-append [] c = refl
   packets-append (p ∷ more) c =
-      ap (λ l. with_reply (class_of station p) p l) (packets-append more c) ∙ with_reply-append (class_of station p) p (replies station more) (replies station c)
+      ap (λ l. with_reply (class_of station p) p l) (packets-append more c)
+      ∙ with_reply-append (class_of station p) p (replies station more) (replies station c)
 
 -- a beginning of a history with so many replies
 
@@ -64,7 +66,8 @@ first-behind n more rest le =
 
 module _ (station : Station) (lists : Settings) (more c : List Packet) (h : List Met) (e : Explains station lists (more ++ c) [] h) where
   abbrev Part : Type 0
-  Part = (front : List Met) × (rest : List Met) × (h ≡ front ++ rest) × (length (replies_in rest) ≡ length (replies station c)) × (length rest ≤ length (requests station c))
+  Part = (front : List Met) × (rest : List Met) × (h ≡ front ++ rest) × (length (replies_in rest) ≡ length (replies station c))
+      × (length rest ≤ length (requests station c))
 
   part : Part
   part =
@@ -94,8 +97,10 @@ module _ (station : Station) (lists : Settings) (more c : List Packet) (h : List
           let size : length front ≡ length h0 = length-drop (length asked - length h0) asked ∙ (omega (arith, p.4)) in
           let M : List (List ℕ) = map frame_of_packet (requests station more) in
           let all : map frame_met before ++ map frame_met h0 ≡ (M ++ map frame_of_packet left) ++ map frame_of_packet front =
-          sym (map-append frame_met before h0) ∙ (λ i. map frame_met (sym p.2 i)) ∙ e.frames ∙ (λ i. map frame_of_packet ((sym e.asked ∙ requests-append station more c) i))
-          ∙ map-append frame_of_packet (requests station more) asked ∙ (λ i. M ++ map frame_of_packet (sym parts i)) ∙ (λ i. M ++ map-append frame_of_packet left front i)
+          sym (map-append frame_met before h0) ∙ (λ i. map frame_met (sym p.2 i)) ∙ e.frames
+          ∙ (λ i. map frame_of_packet ((sym e.asked ∙ requests-append station more c) i))
+          ∙ map-append frame_of_packet (requests station more) asked ∙ (λ i. M ++ map frame_of_packet (sym parts i))
+          ∙ (λ i. M ++ map-append frame_of_packet left front i)
           ∙ sym (append_assoc M (map frame_of_packet left) (map frame_of_packet front)) in
           let told : replies_in before ++ replies_in h0 ≡ map frame_of_packet (replies station more) ++ map frame_of_packet (replies station c) =
           sym (replies-append before h0) ∙ (λ i. replies_in (sym p.2 i)) ∙ e.answered ∙ (λ i. map frame_of_packet (packets-append station more c i))
@@ -113,7 +118,8 @@ module _ (station : Station) (lists : Settings) (more c : List Packet) (h : List
             },
           )
         where
-          turn : (before h0 : List Met) → h ≡ before ++ h0 → length (replies_in h0) ≡ length (replies station c) → (later packets : List Packet) → c ≡ later ++ packets
+          turn : (before h0 : List Met) → h ≡ before ++ h0 → length (replies_in h0) ≡ length (replies station c) → (later packets : List Packet)
+              → c ≡ later ++ packets
               → length (replies station packets) ≤ length (replies_in (first_of (length (requests station packets)) h0))
           turn before h0 whole count later packets is =
               let n : ℕ = length (requests station packets) in
@@ -121,9 +127,11 @@ module _ (station : Station) (lists : Settings) (more c : List Packet) (h : List
               let came : length (replies station packets) ≤ length (replies_in (first_of n h)) = e.in_turn (more ++ later) packets joined in
               elim (cases_lt (length h0) n) [
                 | inl fewer ↦
-                    let enough : length (replies_in (first_of n h0)) ≡ length (replies_in h0) = ap (λ l. length (replies_in l)) (first-enough n h0 (omega (arith, fewer))) in
+                    let enough : length (replies_in (first_of n h0)) ≡ length (replies_in h0) =
+                    ap (λ l. length (replies_in l)) (first-enough n h0 (omega (arith, fewer))) in
                     let there : length (replies station c) ≡ length (replies station later) + length (replies station packets) =
-                    ap (λ l. length (replies station l)) is ∙ ap length (packets-append station later packets) ∙ length-append (replies station later) (replies station packets) in
+                    ap (λ l. length (replies station l)) is ∙ ap length (packets-append station later packets)
+                    ∙ length-append (replies station later) (replies station packets) in
                     omega (arith, enough, count, there)
                 | inr enough ↦
                     let same : length (replies_in (first_of n h)) ≡ length (replies_in (first_of n h0)) =

@@ -15,7 +15,8 @@ join_more c f (x ∷ y ∷ ys) (suc (suc k)) d lt =
     let h = join_more c f (y ∷ ys) (suc k) d (omega (arith, lt)) in
     let first : between c (suc k) ≡ c ∷ [] = grind arith in
     let next : between c (suc (suc k)) ≡ c ∷ [] = grind arith in
-    ap (λ t. f x ++ (c ∷ t)) h ∙ sym (append_assoc (f x) (c ∷ join_with_byte c (map f (take (suc k) (y ∷ ys)))) (between c (suc k) ++ f (get_or (y ∷ ys) (suc k) d)))
+    ap (λ t. f x ++ (c ∷ t)) h ∙ sym
+    (append_assoc (f x) (c ∷ join_with_byte c (map f (take (suc k) (y ∷ ys)))) (between c (suc k) ++ f (get_or (y ∷ ys) (suc k) d)))
     ∙ ap (λ b. (f x ++ (c ∷ join_with_byte c (map f (take (suc k) (y ∷ ys))))) ++ (b ++ f (get_or (y ∷ ys) (suc k) d))) (first ∙ sym next)
 
 pub joined : {X : Type 0} (c : ℕ) (f : X → List ℕ) (xs : List X) (i : ℕ) (d : X) (start out mid new : List ℕ) → i < length xs

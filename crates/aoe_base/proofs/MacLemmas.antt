@@ -93,7 +93,8 @@ six-is l h =
 pub reads-back : (mac : Mac) → length mac.0 ≡ 6 → All (λ b. b < 2 ^ 8) mac.0 → mac_of (mac_text mac) ≡ Some mac
 reads-back mac six small =
     let P : List ℕ → Type 0 = λ bytes. mac_of (mac_text record { 0 = bytes }) ≡ Some record { 0 = bytes } in
-    subst P (sym (six-is mac.0 six)) (written-back (get_or mac.0 0 0) (get_or mac.0 1 0) (get_or mac.0 2 0) (get_or mac.0 3 0) (get_or mac.0 4 0) (get_or mac.0 5 0)
+    subst P (sym (six-is mac.0 six))
+    (written-back (get_or mac.0 0 0) (get_or mac.0 1 0) (get_or mac.0 2 0) (get_or mac.0 3 0) (get_or mac.0 4 0) (get_or mac.0 5 0)
     (small 0 0 (omega arith)) (small 1 0 (omega arith)) (small 2 0 (omega arith)) (small 3 0 (omega arith)) (small 4 0 (omega arith)) (small 5 0 (omega arith)))
 
 -- what was read at a place is written there again
@@ -112,7 +113,9 @@ pair-read text i is =
     let both = and_parts (is_hex_digit (get_or text i 0)) (is_hex_digit (get_or text (i + 1) 0)) is in
     digits-back (get_or text i 0) (get_or text (i + 1) 0) both.0 both.1
 
-seventeen-is : (l : List ℕ) → length l ≡ 17 → l ≡ get_or l 0 0 ∷ get_or l 1 0 ∷ get_or l 2 0 ∷ get_or l 3 0 ∷ get_or l 4 0 ∷ get_or l 5 0 ∷ get_or l 6 0 ∷ get_or l 7 0 ∷ get_or l 8 0 ∷ get_or l 9 0 ∷ get_or l 10 0 ∷ get_or l 11 0 ∷ get_or l 12 0 ∷ get_or l 13 0 ∷ get_or l 14 0 ∷ get_or l 15 0 ∷ get_or l 16 0 ∷ []
+seventeen-is : (l : List ℕ) → length l ≡ 17
+    → l ≡ get_or l 0 0 ∷ get_or l 1 0 ∷ get_or l 2 0 ∷ get_or l 3 0 ∷ get_or l 4 0 ∷ get_or l 5 0 ∷ get_or l 6 0 ∷ get_or l 7 0 ∷ get_or l 8 0 ∷ get_or l 9 0 ∷
+    get_or l 10 0 ∷ get_or l 11 0 ∷ get_or l 12 0 ∷ get_or l 13 0 ∷ get_or l 14 0 ∷ get_or l 15 0 ∷ get_or l 16 0 ∷ []
 seventeen-is l h =
     let t17 = drop_of_length-le l {i = 17} (omega arith) in
     let t15 = cons-is l _ 15 (omega arith) (cons-is l _ 16 (omega arith) t17) in

@@ -27,7 +27,12 @@ module _ {total max at count : ℕ} {bytes : List ℕ} {stages : List Stage} {fi
     (write : Bool) where
   module _ (lt : next < length stages) {span : Span} (span_is : span ≡ record { at = at + next * max; count = min max (count - next * max) }) where
     next_is : next_part (parts_of max at count stages bytes)
-        ≡ Some (record { at = at + next * max; count = min max (count - next * max); bytes = take (512 * max) (drop (512 * max * next) bytes); stage = Pending })
+        ≡ Some (record {
+          at = at + next * max;
+          count = min max (count - next * max);
+          bytes = take (512 * max) (drop (512 * max * next) bytes);
+          stage = Pending;
+        })
     next_is =
         next_pending s lt ∙ ap Some (nth_is max at count bytes next Pending (place s next lt))
 
@@ -49,7 +54,8 @@ module _ {total max at count : ℕ} {bytes : List ℕ} {stages : List Stage} {fi
 admits : (about : Attached) (at n : ℕ) → 0 < n → n ≤ about.max → at + n ≤ about.total → span_refusal about at n ≡ None
 admits about at n some short range = rw (ne_eqb n 0 (λ e. omega arith), le-ltb about.max n short, le-ltb about.total (at + n) range) refl
 
-module _ {total max at count : ℕ} {bytes : List ℕ} {stages : List Stage} {first next left : ℕ} (s : AreParts total max at count bytes stages first next left) (lt : next < length stages)
+module _ {total max at count : ℕ} {bytes : List ℕ} {stages : List Stage} {first next left : ℕ} (s : AreParts total max at count bytes stages first next left)
+    (lt : next < length stages)
     {span : Span} (span_is : span ≡ record { at = at + next * max; count = min max (count - next * max) }) where
   pub span_within : (0 < span.count) × (span.count ≤ max) × (span.at + span.count ≤ total)
   span_within =
@@ -81,7 +87,8 @@ module _ {total max at count : ℕ} {bytes : List ℕ} {stages : List Stage} {fi
       rw n (admits about span.at span.count w.0 (omega arith) (omega arith))
 
 -- the command that ended is the k-th part, and whether that was read or written
-pub record TakesPart (total max at count : ℕ) (bytes : List ℕ) (stages : List Stage) (first next left : ℕ) (write : Bool) (done : Done) (k : ℕ) (answered : Bool) : Type 0 where
+pub record TakesPart (total max at count : ℕ) (bytes : List ℕ) (stages : List Stage) (first next left : ℕ) (write : Bool) (done : Done) (k : ℕ)
+    (answered : Bool) : Type 0 where
   pub sound : AreParts total max at count bytes stages first next left
   pub handed : is_handed done.ticket.0 (stage_at stages k) ≡ true
   pub answer : is_success write (min max (count - k * max)) done.outcome ≡ answered

@@ -138,7 +138,8 @@ up_to-more last more (p ∷ parts) up lt = (λ ticket is. let le = up.0 ticket i
 
 pub up_to-hand : (last : ℕ) (ticket : Ticket) (parts : List Part) → AreUpTo last parts → last < ticket.0 → AreUpTo ticket.0 (hand ticket parts)
 up_to-hand last ticket [] up lt = tt
-up_to-hand last ticket (p ∷ parts) up lt = cond_both (is_pending p.stage) (record p { stage = Handed ticket } ∷ parts) (p ∷ hand ticket parts) (AreUpTo ticket.0)
+up_to-hand last ticket (p ∷ parts) up lt = cond_both (is_pending p.stage) (record p { stage = Handed ticket } ∷ parts) (p ∷ hand ticket parts)
+    (AreUpTo ticket.0)
     (λ pending. (λ t is. let e = eqb-true ticket.0 t is in omega arith, up_to-more last ticket.0 parts up.1 lt))
     (λ other. (λ t is. let le = up.0 t is in omega arith, up_to-hand last ticket parts up.1 lt))
 

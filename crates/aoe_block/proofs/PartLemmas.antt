@@ -23,7 +23,8 @@ pub find_nth : (test : Stage → Bool) (max at count : ℕ) (stages : List Stage
 find_nth test max at count [] bytes k lt before is = absurd (omega arith)
 find_nth test max at count (stage ∷ stages) bytes zero lt before is = rw is refl
 find_nth test max at count (stage ∷ stages) bytes (suc k) lt before is =
-    rw (before 0 (omega arith)) (find_nth test max (at + max) (count - max) stages (drop (512 * max) bytes) k (omega arith) (λ j le. before (suc j) (omega arith)) is)
+    rw (before 0 (omega arith)) (find_nth test max (at + max) (count - max) stages (drop (512 * max) bytes) k (omega arith)
+    (λ j le. before (suc j) (omega arith)) is)
 
 pub find_none : (test : Stage → Bool) (max at count : ℕ) (stages : List Stage) (bytes : List ℕ)
     → ((j : ℕ) → j < length stages → test (stage_at stages j) ≡ false) → find (λ p. test p.stage) (parts_of max at count stages bytes) ≡ None
@@ -42,7 +43,11 @@ pub hand-parts_of : (ticket : Ticket) (max at count : ℕ) (stages : List Stage)
 hand-parts_of ticket max at count [] bytes k lt before is = absurd (omega arith)
 hand-parts_of ticket max at count (stage ∷ stages) bytes zero lt before is = rw is refl
 hand-parts_of ticket max at count (stage ∷ stages) bytes (suc k) lt before is =
-    rw (before 0 (omega arith), hand-parts_of ticket max (at + max) (count - max) stages (drop (512 * max) bytes) k (omega arith) (λ j le. before (suc j) (omega arith)) is) refl
+    rw (
+      before 0 (omega arith),
+      hand-parts_of ticket max (at + max) (count - max) stages (drop (512 * max) bytes) k (omega arith)
+          (λ j le. before (suc j) (omega arith)) is,
+    ) refl
 
 module _ (f : Part → Part) (test : Stage → Bool) (apart : (p : Part) → test p.stage ≡ false → f p ≡ p) where
   -- a change of the parts with a stage that none has
@@ -66,7 +71,8 @@ module _ (f : Part → Part) (test : Stage → Bool) (apart : (p : Part) → tes
   map_stage new max at count (stage ∷ stages) bytes (suc k) lt others here =
       rw (
         apart (nth max at count bytes 0 stage) (others 0 (omega arith) (λ e. omega arith)),
-        map_stage new max (at + max) (count - max) stages (drop (512 * max) bytes) k (omega arith) (λ j le differ. others (suc j) (omega arith) (λ e. differ (omega arith))) here,
+        map_stage new max (at + max) (count - max) stages (drop (512 * max) bytes) k (omega arith)
+            (λ j le differ. others (suc j) (omega arith) (λ e. differ (omega arith))) here,
       ) refl
 
 -- a change of the one part with that stage, to another stage and other bytes, as many
@@ -95,7 +101,8 @@ module _ (f : Part → Part) (test : Stage → Bool) (apart : (p : Part) → tes
       let rest : length (drop (512 * max) bytes) ≡ 512 * (count - max) = omega (arith, length-drop (512 * max) bytes) in
       rw (
         apart (nth max at count bytes 0 stage) (others 0 (omega arith) (λ same. omega arith)),
-        map_piece max (at + max) (count - max) stages (drop (512 * max) bytes) k (omega arith) behind rest (λ j le differ. others (suc j) (omega arith) (λ same. differ (omega arith))) len here,
+        map_piece max (at + max) (count - max) stages (drop (512 * max) bytes) k (omega arith) behind rest
+            (λ j le differ. others (suc j) (omega arith) (λ same. differ (omega arith))) len here,
         e,
         take-put_behind (512 * max) (512 * max * k) bytes piece wide,
         drop-put_behind (512 * max) (512 * max * k) bytes piece wide,
@@ -126,7 +133,8 @@ shape-parts_of max at count (stage ∷ other ∷ stages) bytes some needed enoug
 
 pending-parts_of : (max at count n : ℕ) (bytes : List ℕ) → All (λ p. p.stage ≡ Pending) (parts_of max at count (replicate n Pending) bytes)
 pending-parts_of max at count zero bytes = All-nil (λ p. p.stage ≡ Pending)
-pending-parts_of max at count (suc n) bytes = All-cons (λ p. p.stage ≡ Pending) _ _ refl (pending-parts_of max (at + max) (count - max) n (drop (512 * max) bytes))
+pending-parts_of max at count (suc n) bytes =
+    All-cons (λ p. p.stage ≡ Pending) _ _ refl (pending-parts_of max (at + max) (count - max) n (drop (512 * max) bytes))
 
 pub cut-parts_of : (max at count n : ℕ) (bytes : List ℕ) → 0 < max → length bytes ≡ 512 * count → count ≤ n * max → n * max < count + max
     → IsCut at max bytes (parts_of max at count (replicate n Pending) bytes)

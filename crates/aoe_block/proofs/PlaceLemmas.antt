@@ -50,4 +50,11 @@ drop-put_behind n start bytes piece fits =
 pub length-put : (bytes piece : List ℕ) (start : ℕ) → start + length piece ≤ length bytes → length (put bytes start piece) ≡ length bytes
 length-put bytes piece start fits =
     let front : length (take start bytes) ≡ start = length-take-le start bytes (omega arith) in
-    omega (arith, front, length-append (take start bytes ++ piece) (drop (start + length piece) bytes), length-append (take start bytes) piece, length-drop (start + length piece) bytes)
+    omega (
+      arith,
+      front,
+      length-append (take start bytes ++ piece) (drop (start + length piece) bytes),
+      length-append (take start bytes) piece,
+      length-drop
+          (start + length piece) bytes,
+    )

@@ -154,7 +154,8 @@ module _ {total max at count : ℕ} {bytes : List ℕ} {stages : List Stage} {fi
     others j lt differ = false_from_ne_true (is_handed done.ticket.0 (stage_at stages j)) (λ also. differ (s.distinct j k done.ticket.0 also is))
 
     pub found : part_of done.ticket.0 (parts_of max at count stages bytes) ≡ Some (nth max at count bytes k (stage_at stages k))
-    found = find_nth (is_handed done.ticket.0) max at count stages bytes k here_within (λ j lt. others j (let h = here_within in omega arith) (λ e. omega arith)) is
+    found = find_nth (is_handed done.ticket.0) max at count stages bytes k here_within
+        (λ j lt. others j (let h = here_within in omega arith) (λ e. omega arith)) is
 
     pub here_count : (stage : Stage) → (nth max at count bytes k stage).count ≡ min max (count - k * max)
     here_count stage = ap (λ (p : Part). p.count) (nth_is max at count bytes k stage (place k here_within))
@@ -173,7 +174,8 @@ module _ {total max at count : ℕ} {bytes : List ℕ} {stages : List Stage} {fi
           past = λ j before. set_keeps (λ x. is_under_way x ≡ false) stages k j stage h past (λ differ. s.past j before);
           given = λ j before. set_keeps (λ x. is_pending x ≡ false) stages k j stage h given (λ differ. s.given j before);
           waiting = λ j le. elim (stage_at-set stages k j stage h) [
-            | inl (e, new) ↦ absurd (let p = ap is_pending (s.waiting j le) in let q = (under_way done.ticket.0 (stage_at stages k) is).1 in let r = rw e at p in cc)
+            | inl (e, new) ↦ absurd (let p = ap is_pending (s.waiting j le) in let q = (under_way done.ticket.0 (stage_at stages k) is).1 in
+                let r = rw e at p in cc)
             | inr (differ, old) ↦ old ∙ s.waiting j le
           ];
           distinct = set_distinct k stage h (λ t j it was. let never = none t in cc);
@@ -200,7 +202,8 @@ module _ {total max at count : ℕ} {bytes : List ℕ} {stages : List Stage} {fi
     -- the part was read or written
     module _ (well : is_success write (min max (count - k * max)) done.outcome ≡ true) where
       read_length : (read : List ℕ) → is_success write (min max (count - k * max)) (Read read) ≡ true → length read ≡ 512 * min max (count - k * max)
-      read_length read ok = eqb-true (length read) (512 * min max (count - k * max)) (and_parts (not write) (length read == 512 * min max (count - k * max)) ok).1
+      read_length read ok = eqb-true (length read) (512 * min max (count - k * max))
+          (and_parts (not write) (length read == 512 * min max (count - k * max)) ok).1
 
       fits : (piece : List ℕ) → length piece ≡ 512 * min max (count - k * max) → 512 * max * k + length piece ≤ length bytes
       fits piece len =
@@ -235,7 +238,8 @@ module _ {total max at count : ℕ} {bytes : List ℕ} {stages : List Stage} {fi
               ≡ parts_of max at count (set stages k Ended) (laid bytes (512 * max * k) outcome)
           at_outcome (Read read) e ok =
               let below = place k here_within in
-              map_piece (after_done write done) (is_handed done.ticket.0) (λ p out. rw out refl) Ended read max at count stages bytes k here_within below s.parted.size others
+              map_piece (after_done write done) (is_handed done.ticket.0)
+              (λ p out. rw out refl) Ended read max at count stages bytes k here_within below s.parted.size others
               (read_length read ok ∙ ap (λ (n : ℕ). 512 * n) (sym (here_count Ended)))
               (rw (nth_is max at count bytes k (stage_at stages k) below, nth_is max at count bytes k Ended below, is, well, e))
           at_outcome Written e ok =

@@ -185,7 +185,8 @@ module _ (at n : ℕ) (piece : List ℕ) (hs : List HeldSector) where
     pub ascending_written : IsAscending 0 (with_written at n piece hs)
     ascending_written =
         let rest : IsAscending at (sectors_of at n piece ++ drop (count_below (at + n) hs) hs) =
-        ascending_append _ (at + n) _ _ (omega arith) (ascending_sectors at n piece whole) (below_sectors at n _ piece (omega arith)) (ascending_count 0 _ hs order) in
+        ascending_append _ (at + n) _ _ (omega arith) (ascending_sectors at n piece whole) (below_sectors at n _ piece (omega arith))
+        (ascending_count 0 _ hs order) in
         ascending_append _ at _ _ (omega arith) (ascending_take _ _ hs order) (below_count at hs) rest
 
     low_none : (s : ℕ) → at ≤ s → held_for (take (count_below at hs) hs) s ≡ None
@@ -219,7 +220,8 @@ count_absent low s (h ∷ hs) order none = grind (arith, nat_tests, count_absent
 module _ (s : ℕ) (b : List ℕ) where
   pub count_held : (low : ℕ) (hs : List HeldSector) → IsAscending low hs → held_for hs s ≡ Some b → count_below (s + 1) hs ≡ count_below s hs + 1
   count_held low [] order some = absurd (cc)
-  count_held low (h ∷ hs) order some = grind (arith, nat_tests, count_held (h.at + 1) hs order.2, held_low (h.at + 1) s hs order.2, count_upto (h.at + 1) (s + 1) hs order.2)
+  count_held low (h ∷ hs) order some =
+      grind (arith, nat_tests, count_held (h.at + 1) hs order.2, held_low (h.at + 1) s hs order.2, count_upto (h.at + 1) (s + 1) hs order.2)
 
   pub stands_at : (low : ℕ) (hs : List HeldSector) → IsAscending low hs → held_for hs s ≡ Some b → count_below s hs < length hs
   stands_at low [] order some = absurd (cc)
@@ -228,7 +230,8 @@ module _ (s : ℕ) (b : List ℕ) where
 pub stands_there : (s low : ℕ) (x : HeldSector) (hs : List HeldSector) → x.at ≡ s → IsAscending low hs → held_for hs s ≡ Some x.bytes
     → x ≡ get_or hs (count_below s hs) x
 stands_there s low x [] is order some = absurd (cc)
-stands_there s low x (h ∷ hs) is order some = grind (arith, nat_tests, sector_is x h, stands_there s (h.at + 1) x hs is order.2, held_low (h.at + 1) s hs order.2)
+stands_there s low x (h ∷ hs) is order some =
+    grind (arith, nat_tests, sector_is x h, stands_there s (h.at + 1) x hs is order.2, held_low (h.at + 1) s hs order.2)
 
 -- ascending sectors of a disk of so many
 pub record AreHeld (sectors : ℕ) (hs : List HeldSector) : Type 0 where

@@ -124,7 +124,8 @@ module _ {done left n : ℕ} {held places : List HeldSector} {old mid new : Disk
         writes = runs_more up.runs r held old mid new up.writes (rw up.all run);
         all = after_more up.runs r held ∙ ap (drop n) up.all ∙ drop-drop n done held;
         stays = is ∙ sym (unwritten_more up.runs r held ∙ rw (up.all, ← up.stays) refl);
-        failed = list_any-append (λ (r : Run). r.failed) up.runs (r ∷ []) ∙ or_right (any_failed up.runs) true refl ∙ sym (lt-ltb 0 (left + n) (omega (arith, some)));
+        failed = list_any-append (λ (r : Run). r.failed) up.runs (r ∷ []) ∙ or_right (any_failed up.runs) true refl
+            ∙ sym (lt-ltb 0 (left + n) (omega (arith, some)));
       }
 
 -- what is left, and what comes after the runs, in order
@@ -142,7 +143,8 @@ below_unwritten high [] held below = below
 below_unwritten high (r ∷ runs) held below =
     let rest = below_unwritten high runs (drop r.count held) (below_drop high r.count held below) in
     elim (cases_Bool r.failed) [
-      | inl failed ↦ rw (failed, append_assoc (take r.count held) (unwritten runs (drop r.count held)) (after runs (drop r.count held))) (below_append high _ _ (below_take high r.count held below) rest)
+      | inl failed ↦ rw (failed, append_assoc (take r.count held) (unwritten runs (drop r.count held)) (after runs (drop r.count held)))
+          (below_append high _ _ (below_take high r.count held below) rest)
       | inr written ↦ rw written rest
     ]
 
@@ -202,7 +204,8 @@ module _ {n sectors : ℕ} {hs : List HeldSector} {c : Contents} (shape : HasSha
       let loose : c'.loose ≡ with_marks c.loose (first_of hs) n = rw run_count at spoils.loose in
       let fits : first_of hs + n ≤ length c.loose = omega (arith, run_fits, shape.marks) in
       let marks : length c'.loose ≡ sectors = rw loose (length-with_marks c.loose (first_of hs) n fits ∙ shape.marks) in
-      let bytes_same = laid_over_same held c'.bytes c.bytes (same.size ∙ shape.bytes) shape.bytes (λ s lt none. sector_outside c.bytes c'.bytes _ n s same (outside_run s none)) in
+      let bytes_same = laid_over_same held c'.bytes c.bytes (same.size ∙ shape.bytes) shape.bytes
+      (λ s lt none. sector_outside c.bytes c'.bytes _ n s same (outside_run s none)) in
       let loose_same =
       marked_over_same held c'.loose c.loose marks shape.marks (λ s lt none. rw loose (is_loose-with_marks_outside c.loose _ n fits s (outside_run s none))) in
       λ i. record { bytes = bytes_same i; loose = loose_same i; settled = None }
@@ -279,7 +282,8 @@ runs_seen (r ∷ runs) held old new disk h writes =
       calls = 1 + later.calls;
       run = run_also 1 later.calls r.failed (any_failed runs) old next new one later.run;
       left = unwritten_held (r ∷ runs) h;
-      same = run_then_seen r runs held old next new disk h writes.1 (rw call.sectors at call.after.shape) (rw (later.run.sectors, call.sectors) at later.run.after.shape) later.same;
+      same = run_then_seen r runs held old next new disk h writes.1 (rw call.sectors at call.after.shape)
+          (rw (later.run.sectors, call.sectors) at later.run.after.shape) later.same;
     }
   where
     ended_err : (failed : Bool) → is_err (ended failed) ≡ failed

@@ -86,4 +86,5 @@ module _ {D T E : Type 0} (state : D → DiskState) (old new : Cache D) (disk : 
 
   pub frees_room : (result : Result T E) → CacheSyncs state result old new → OnOk result (IfSome (state_of state old).contents (λ shown. Frees state shown new))
   frees_room (Err e) syncs = tt
-  frees_room (Ok v) syncs = IfSome_then (state_of state old).contents {Q = λ shown. Frees state shown new} (frees_all (Ok v) syncs refl) (λ shown f. record { disk = f.0; free = f.1 })
+  frees_room (Ok v) syncs = IfSome_then (state_of state old).contents {Q = λ shown. Frees state shown new} (frees_all (Ok v) syncs refl)
+      (λ shown f. record { disk = f.0; free = f.1 })

@@ -14,11 +14,19 @@ laid_append bytes (x ∷ xs) ys = laid_append (with_piece bytes (512 * x.at) x.b
 -- a piece makes no list shorter, and changes nothing before it
 
 piece_longer : (xs p : List ℕ) (i : ℕ) → length xs ≤ length (with_piece xs i p)
-piece_longer xs p i = omega (arith, length-append (take i xs ++ p) (drop (i + length p) xs), length-append (take i xs) p, length-take i xs, length-drop (i + length p) xs)
+piece_longer xs p i = omega (
+  arith,
+  length-append (take i xs ++ p) (drop (i + length p) xs),
+  length-append (take i xs) p,
+  length-take i xs,
+  length-drop
+      (i + length p) xs,
+)
 
 take_before_piece : (xs p : List ℕ) (i m : ℕ) → m ≤ i → m ≤ length xs → take m (with_piece xs i p) ≡ take m xs
 take_before_piece xs p i m le fits =
-    ap (take m) (append_assoc (take i xs) p (drop (i + length p) xs)) ∙ take-append-le m (take i xs) (p ++ drop (i + length p) xs) (omega (arith, length-take i xs)) ∙ take-take m i xs le
+    ap (take m) (append_assoc (take i xs) p (drop (i + length p) xs))
+    ∙ take-append-le m (take i xs) (p ++ drop (i + length p) xs) (omega (arith, length-take i xs)) ∙ take-take m i xs le
 
 laid_longer : (bytes : List ℕ) (hs : List HeldSector) → length bytes ≤ length (laid_over bytes hs)
 laid_longer bytes [] = omega arith
@@ -70,7 +78,8 @@ piece_within b p a n i from to fits =
 
 module _ (at n : ℕ) (bytes : List ℕ) (hs : List HeldSector) (fits : 512 * at + 512 * n ≤ length bytes) (order : IsAscending 0 hs) where
   pub lay_first : take (512 * n) (drop (512 * at) bytes) ≡ take (512 * n) (drop (512 * at) (laid_over bytes (take (count_below at hs) hs)))
-  lay_first = ap (take (512 * n)) (sym (laid_below 0 at bytes (take (count_below at hs) hs) (ascending_take 0 (count_below at hs) hs order) (below_count at hs) (omega arith)))
+  lay_first = ap (take (512 * n))
+      (sym (laid_below 0 at bytes (take (count_below at hs) hs) (ascending_take 0 (count_below at hs) hs order) (below_count at hs) (omega arith)))
 
   lay_more : (i : ℕ) (h : HeldSector) (out : List ℕ) → i < length hs → h ≡ get_or hs i h → at ≤ h.at → h.at < at + n → length h.bytes ≡ 512
       → out ≡ take (512 * n) (drop (512 * at) (laid_over bytes (take i hs)))
@@ -106,4 +115,5 @@ module _ (at n : ℕ) (bytes : List ℕ) (hs : List HeldSector) (fits : 512 * at
       (λ j. laid_over bytes (sym (take-append-drop k hs) j)) ∙ laid_append bytes (take k hs) (drop k hs) in
       let same : take (512 * at + 512 * n) (laid_over some (drop k hs)) ≡ take (512 * at + 512 * n) some =
       laid_above (at + n) _ some _ (ascending_count 0 (at + n) hs order) (omega arith) (omega (arith, laid_longer bytes (take k hs))) in
-      sym (drop-take (512 * at) (512 * n) some) ∙ ap (drop (512 * at)) (sym same) ∙ drop-take (512 * at) (512 * n) _ ∙ (λ j. take (512 * n) (drop (512 * at) (sym split j)))
+      sym (drop-take (512 * at) (512 * n) some) ∙ ap (drop (512 * at)) (sym same) ∙ drop-take (512 * at) (512 * n) _
+      ∙ (λ j. take (512 * n) (drop (512 * at) (sym split j)))

@@ -39,7 +39,8 @@ module _ (at : ℕ) (b : List ℕ) (hs : List HeldSector) (order : IsAscending 0
   pub written_same : held_for (with_written at 1 b hs) at ≡ Some b
   written_same =
       let first : at ≡ at + 0 = omega arith in
-      ap (held_for (with_written at 1 b hs)) first ∙ held_written_inside at 1 b hs enough order 0 (omega arith) ∙ ap Some (take_all 512 b (omega (arith, whole)))
+      ap (held_for (with_written at 1 b hs)) first ∙ held_written_inside at 1 b hs enough order 0 (omega arith)
+      ∙ ap Some (take_all 512 b (omega (arith, whole)))
 
   pub written_other : (s : ℕ) → at ≢ s → held_for (with_written at 1 b hs) s ≡ held_for hs s
   written_other s other = grind (arith, held_written_below at 1 b hs enough order s, held_written_above at 1 b hs enough order s)
@@ -89,7 +90,8 @@ pub held_at : (hs : List HeldSector) (k : ℕ) (d : HeldSector) → IsDistinct n
     → held_for hs (get_or hs k d).at ≡ Some (get_or hs k d).bytes
 held_at [] k d once lt = absurd (omega arith)
 held_at (h ∷ hs) zero d once lt = grind (arith, nat_tests)
-held_at (h ∷ hs) (suc k) d once lt = grind (arith, nat_tests, other_number h.at hs k d (IsDistinct-head _ _ _ once), held_at hs k d (IsDistinct-tail _ _ _ once))
+held_at (h ∷ hs) (suc k) d once lt =
+    grind (arith, nat_tests, other_number h.at hs k d (IsDistinct-head _ _ _ once), held_at hs k d (IsDistinct-tail _ _ _ once))
 
 pub length-ordered : (hs : List HeldSector) → AreWhole hs → IsDistinct nat_eq (numbers_of hs) → length (ordered hs) ≡ length hs
 length-ordered [] whole once = refl
@@ -137,7 +139,8 @@ ascending_sorted low (h ∷ hs) rises once whole from =
     let first = IsDistinct-head _ _ _ once in (
       from 0 h (omega arith),
       whole_first h hs whole,
-      ascending_sorted (h.at + 1) hs (λ i j d le lt. rises (suc i) (suc j) d (omega (arith, le)) (omega (arith, lt))) (IsDistinct-tail _ _ _ once) (whole_rest h hs whole)
+      ascending_sorted (h.at + 1) hs (λ i j d le lt. rises (suc i) (suc j) d (omega (arith, le)) (omega (arith, lt))) (IsDistinct-tail _ _ _ once)
+          (whole_rest h hs whole)
           (λ k d lt. omega (arith, rises 0 (suc k) d (omega arith) (omega (arith, lt)), others k d first lt)),
     )
 

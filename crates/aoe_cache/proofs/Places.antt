@@ -38,7 +38,8 @@ pub gather_more : (i k : ℕ) (hs : List HeldSector) (x : HeldSector) (out ys : 
     → take (512 * i) out ≡ bytes_of (take i hs) → take (512 * (i + 1)) (put_mid (512 * i) k out ys) ≡ bytes_of (take (i + 1) hs)
 gather_more i k hs x out ys lt is piece size fits so =
     let one : take (i + 1) hs ≡ take i hs ++ x ∷ [] = take_more hs i x lt ∙ (λ j. take i hs ++ sym is j ∷ []) in
-    take-put_mid (512 * i) k out ys (512 * (i + 1)) (omega (arith, size)) fits ∙ rw (so, piece, one) (flat_map_more (λ (h : HeldSector). h.bytes) [] (take i hs) x)
+    take-put_mid (512 * i) k out ys (512 * (i + 1)) (omega (arith, size)) fits
+    ∙ rw (so, piece, one) (flat_map_more (λ (h : HeldSector). h.bytes) [] (take i hs) x)
 
 -- sectors are moved down: one more of them
 
@@ -53,7 +54,8 @@ module _ (xs : List HeldSector) (a b : ℕ) (d : HeldSector) (le : a ≤ b) (lt 
   swap_front : take (a + 1) (swap xs a b) ≡ take a xs ++ get_or xs b d ∷ []
   swap_front = elim (cases_lt a b) [
     | inl less ↦ ap (take (a + 1)) swap_sets ∙ take-set-le (a + 1) _ b _ (omega arith) ∙ take_more_set xs a _ (omega arith)
-    | inr same ↦ let one : b ≡ a = omega arith in ap (take (a + 1)) swap_sets ∙ rw one (ap (take (a + 1)) (set-set xs a _ _) ∙ take_more_set xs a _ (omega arith))
+    | inr same ↦ let one : b ≡ a = omega arith in
+        ap (take (a + 1)) swap_sets ∙ rw one (ap (take (a + 1)) (set-set xs a _ _) ∙ take_more_set xs a _ (omega arith))
   ]
 
   swap_back : drop (b + 1) (swap xs a b) ≡ drop (b + 1) xs

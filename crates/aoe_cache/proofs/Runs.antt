@@ -23,7 +23,12 @@ adjacent_fits at high (h ∷ (g ∷ hs)) some a b = omega (arith, adjacent_fits 
 pub run_within : (n from high : ℕ) (hs : List HeldSector) → IsJoined n (drop from hs) → AreBelow high (drop from hs) → first_of (drop from hs) + n ≤ high
 run_within n from high hs joined below =
     let len : length (take n (drop from hs)) ≡ n = length-take-le n (drop from hs) joined.there in
-    omega (arith, len, adjacent_fits (first_of (drop from hs)) high (take n (drop from hs)) (omega (arith, len, joined.some)) joined.adjacent (below_take high n (drop from hs) below))
+    omega (
+      arith,
+      len,
+      adjacent_fits (first_of (drop from hs)) high (take n (drop from hs)) (omega (arith, len, joined.some)) joined.adjacent
+          (below_take high n (drop from hs) below),
+    )
 
 -- a sector of a run is held
 pub adjacent_held : (at n s : ℕ) (hs : List HeldSector) → AreAdjacent at (take n hs) → n ≤ length hs → at ≤ s → s < at + n → held_for hs s ≢ None
@@ -38,7 +43,14 @@ adjacent_held at (suc n) s (h ∷ hs) a le low high e = elim (cases_eq h.at s) [
 
 module _ {A : Type 0} (xs p : List A) (i : ℕ) (fits : i + length p ≤ length xs) where
   length-put : length (take i xs ++ p ++ drop (i + length p) xs) ≡ length xs
-  length-put = omega (arith, length-append (take i xs ++ p) (drop (i + length p) xs), length-append (take i xs) p, length-take-le i xs (omega arith), length-drop (i + length p) xs)
+  length-put = omega (
+    arith,
+    length-append (take i xs ++ p) (drop (i + length p) xs),
+    length-append (take i xs) p,
+    length-take-le i xs
+        (omega arith),
+    length-drop (i + length p) xs,
+  )
 
   put_append : (q : List A) → take (i + length p) (take i xs ++ p ++ drop (i + length p) xs) ++ q
       ++ drop (i + length p + length q) (take i xs ++ p ++ drop (i + length p) xs) ≡ take i xs ++ (p ++ q) ++ drop (i + (length p + length q)) xs

@@ -39,7 +39,14 @@ module _ (s sectors : ℕ) where
       let fits : 512 * h.at + 512 ≤ length bytes = omega (arith, size, b.0) in
       let new = length-with_piece bytes (512 * h.at) h.bytes (omega (arith, fits, order.1)) in
       let rest = laid_at (h.at + 1) (with_piece bytes (512 * h.at) h.bytes) hs order.2 b.1 (new ∙ size) in
-      grind (arith, nat_tests, rest, held_low (h.at + 1) s hs order.2, sector-with_sector bytes h.bytes h.at order.1 fits, sector-with_sector_other bytes h.bytes h.at s order.1 fits)
+      grind (
+        arith,
+        nat_tests,
+        rest,
+        held_low (h.at + 1) s hs order.2,
+        sector-with_sector bytes h.bytes h.at order.1 fits,
+        sector-with_sector_other bytes h.bytes h.at s order.1 fits,
+      )
 
   pub marked_at : (loose : List Bool) (hs : List HeldSector) → AreBelow sectors hs → length loose ≡ sectors
       → is_loose (marked loose hs) s ≡ (is_some (held_for hs s) || is_loose loose s)
@@ -77,7 +84,8 @@ module _ {sectors : ℕ} {hs : List HeldSector} (held : AreHeld sectors hs) wher
   marked_over_same x y lx ly same =
       let size = length-marked sectors x hs held.below lx in
       ext_get_or false (marked x hs) (marked y hs) (size ∙ sym (length-marked sectors y hs held.below ly))
-      (λ s lt. marked_at s sectors x hs held.below lx ∙ or_same (held_for hs s) _ _ (same s (omega (arith, lt, size))) ∙ sym (marked_at s sectors y hs held.below ly))
+      (λ s lt. marked_at s sectors x hs held.below lx ∙ or_same (held_for hs s) _ _ (same s (omega (arith, lt, size)))
+      ∙ sym (marked_at s sectors y hs held.below ly))
 
 -- the same sectors before others that come to one thing, over two disks
 module _ (xs : List HeldSector) {ys zs : List HeldSector} {sectors : ℕ} (one : AreHeld sectors (xs ++ ys)) (other : AreHeld sectors (xs ++ zs))
@@ -86,15 +94,18 @@ module _ (xs : List HeldSector) {ys zs : List HeldSector} {sectors : ℕ} (one :
       → laid_over x (xs ++ ys) ≡ laid_over y (xs ++ zs)
   laid_front x y lx ly same =
       image_same sectors _ _ (length-laid_over one x lx) (length-laid_over other y ly) (λ s lt. laid_here one x lx s ∙ elim (cases_held (held_for xs s)) [
-        | inl none ↦ rw (held_past s xs ys none, held_past s xs zs none) (sym (laid_here first x lx s) ∙ ap (λ bytes. sector bytes s) same ∙ laid_here second y ly s)
+        | inl none ↦ rw (held_past s xs ys none, held_past s xs zs none)
+            (sym (laid_here first x lx s) ∙ ap (λ bytes. sector bytes s) same ∙ laid_here second y ly s)
         | inr p ↦ rw (held_front s p.0 xs ys p.1, held_front s p.0 xs zs p.1) refl
       ] ∙ sym (laid_here other y ly s))
 
   pub marked_front : (x y : List Bool) → length x ≡ sectors → length y ≡ sectors → marked x ys ≡ marked y zs → marked x (xs ++ ys) ≡ marked y (xs ++ zs)
   marked_front x y lx ly same =
       let size = length-marked sectors x _ one.below lx in
-      ext_get_or false _ _ (size ∙ sym (length-marked sectors y _ other.below ly)) (λ s lt. marked_at s sectors x _ one.below lx ∙ elim (cases_held (held_for xs s)) [
-        | inl none ↦ rw (held_past s xs ys none, held_past s xs zs none) (sym (marked_at s sectors x ys first.below lx) ∙ ap (λ loose. is_loose loose s) same ∙ marked_at s sectors y zs second.below ly)
+      ext_get_or false _ _ (size ∙ sym (length-marked sectors y _ other.below ly))
+      (λ s lt. marked_at s sectors x _ one.below lx ∙ elim (cases_held (held_for xs s)) [
+        | inl none ↦ rw (held_past s xs ys none, held_past s xs zs none)
+            (sym (marked_at s sectors x ys first.below lx) ∙ ap (λ loose. is_loose loose s) same ∙ marked_at s sectors y zs second.below ly)
         | inr p ↦ rw (held_front s p.0 xs ys p.1, held_front s p.0 xs zs p.1) refl
       ] ∙ sym (marked_at s sectors y _ other.below ly))
 
@@ -130,7 +141,8 @@ module _ (at n : ℕ) {sectors : ℕ} (piece : List ℕ) {hs : List HeldSector} 
       let ls : length seen ≡ 512 * sectors = length-laid_over held bytes size in
       let room : 512 * at + length piece ≤ length seen = omega (arith, ls, whole, fits) in
       let outside = with_piece_outside seen (512 * at) piece room (512 * n) (omega (arith, whole)) in
-      image_same sectors _ _ (length-laid_over held_written bytes size) (outside.size ∙ ls) (λ s lt. laid_here held_written bytes size s ∙ elim (cases_range s) [
+      image_same sectors _ _ (length-laid_over held_written bytes size) (outside.size ∙ ls)
+      (λ s lt. laid_here held_written bytes size s ∙ elim (cases_range s) [
         | inl out ↦ rw (outside_same s out) (sym (laid_here held bytes size s) ∙ sym (sector_outside seen _ at n s outside out))
         | inr k ↦ rw (← k.2, inside_same k.0 k.1) (sym (sector-with_piece seen piece at k.0 room (omega (arith, whole, k.1))))
       ])
@@ -141,7 +153,8 @@ module _ (at n : ℕ) {sectors : ℕ} (piece : List ℕ) {hs : List HeldSector} 
       let ls : length seen ≡ sectors = length-marked sectors loose hs held.below size in
       let room : at + n ≤ length seen = omega (arith, ls, fits) in
       let lw = length-marked sectors loose (with_written at n piece hs) held_written.below size in
-      ext_get_or false _ _ (lw ∙ sym (length-with_marks seen at n room ∙ ls)) (λ s lt. marked_at s sectors loose _ held_written.below size ∙ elim (cases_range s) [
+      ext_get_or false _ _ (lw ∙ sym (length-with_marks seen at n room ∙ ls))
+      (λ s lt. marked_at s sectors loose _ held_written.below size ∙ elim (cases_range s) [
         | inl out ↦ rw (outside_same s out) (sym (marked_at s sectors loose hs held.below size) ∙ sym (is_loose-with_marks_outside seen at n room s out))
         | inr k ↦ rw (← k.2, inside_same k.0 k.1) (sym (is_loose-with_marks_inside seen at n room (at + k.0) (omega arith) (omega (arith, k.1))))
       ])

@@ -81,7 +81,8 @@ seen_run {gs = gs} {old = old} {new = new} run held left =
 
 -- what the buffer lays over what was read
 abbrev Lays : ℕ → ℕ → List HeldSector → List ℕ → List ℕ → Type 0
-Lays at n hs read out = (bytes : List ℕ) → 512 * at + n ≤ length bytes → read ≡ take n (drop (512 * at) bytes) → out ≡ take n (drop (512 * at) (laid_over bytes hs))
+Lays at n hs read out = (bytes : List ℕ) → 512 * at + n ≤ length bytes → read ≡ take n (drop (512 * at) bytes)
+    → out ≡ take n (drop (512 * at) (laid_over bytes hs))
 
 read_laid : {T E : Type 0} (sectors at n : ℕ) (result : Result T E) (hs : List HeldSector) (read out : List ℕ) (c : Option Contents)
     → 512 * at + n ≤ 512 * sectors → IfSome c (HasShape sectors) → OnOk result (Lays at n hs read out)
@@ -186,7 +187,8 @@ module _ {T E : Type 0} (at : ℕ) (piece : List ℕ) (result : Result T E) (hs 
     disk_stored : gs ≡ [] → WritesTo at piece result between new → StoresTo at piece result (seen hs old) (seen gs new)
     disk_stored is write = rw is (record {
       call = seen_run (run_then emptied.calls 1 (is_err result) old between new emptied.run write.call) held (nothing _);
-      contents = rw emptied.same at (told_map _ _ (Stores at piece result) _ _ between.contents new.contents (write_seen at piece range result) shape_between write.contents);
+      contents = rw emptied.same at (told_map _ _ (Stores at piece result) _ _ between.contents new.contents
+          (write_seen at piece range result) shape_between write.contents);
       log = refl;
     })
 
@@ -236,7 +238,8 @@ module _ {D T E : Type 0} (state : D → DiskState) (result : Result T E) (old n
       let same = rw after.down.empty at stays.same in
       rw after.down.empty (record {
         call = seen_run run held (nothing _);
-        contents = rw same at (told_map _ _ (Syncs result) _ _ after.between.contents (state new.disk).contents (λ x y shape told. sync_seen result x y told) after.sync.call.before.shape after.sync.contents);
+        contents = rw same at (told_map _ _ (Syncs result) _ _ after.between.contents (state new.disk).contents
+            (λ x y shape told. sync_seen result x y told) after.sync.call.before.shape after.sync.contents);
         log = refl;
       })
 

@@ -13,7 +13,16 @@ module _ (at : ℕ) (piece : List ℕ) (hs : List HeldSector) where
   pub length_written_more : (i n : ℕ) → IsAscending 0 hs → i ≤ n → length (with_written at i piece hs) ≤ length (with_written at n piece hs)
   length_written_more i n order le =
       let end : at + i + (n - i) ≡ at + n = omega (arith, le) in
-      omega (arith, length-with_written at i piece hs, length-with_written at n piece hs, count_range 0 (at + i) (n - i) hs order, ap (λ (m : ℕ). count_below m hs) end, count_le (at + n) hs, le)
+      omega (
+        arith,
+        length-with_written at i piece hs,
+        length-with_written at n piece hs,
+        count_range 0 (at + i)
+            (n - i) hs order,
+        ap (λ (m : ℕ). count_below m hs) end,
+        count_le (at + n) hs,
+        le,
+      )
 
   -- one more of them
   module _ (i : ℕ) (order : IsAscending 0 hs) (whole : 512 * (i + 1) ≤ length piece) where
@@ -31,7 +40,15 @@ module _ (at : ℕ) (piece : List ℕ) (hs : List HeldSector) where
         let below = held_written_below at i piece hs enough order s in
         let above = held_written_above at i piece hs enough order s in
         let inside = held_written_inside at i piece hs enough order (s - at) in
-        grind (arith, below, above, inside, held_written_below at (i + 1) piece hs whole order s, held_written_above at (i + 1) piece hs whole order s, held_written_inside at (i + 1) piece hs whole order (s - at))
+        grind (
+          arith,
+          below,
+          above,
+          inside,
+          held_written_below at (i + 1) piece hs whole order s,
+          held_written_above at (i + 1) piece hs whole order s,
+          held_written_inside at (i + 1) piece hs whole order (s - at),
+        )
 
     held_more : (s : ℕ) → held_for (with_written (at + i) 1 (sector piece i) (with_written at i piece hs)) s ≡ held_for (with_written at (i + 1) piece hs) s
     held_more s = elim (cases_eq (at + i) s) [
@@ -40,7 +57,8 @@ module _ (at : ℕ) (piece : List ℕ) (hs : List HeldSector) where
     ]
 
     pub written_more : with_written (at + i) 1 (sector piece i) (with_written at i piece hs) ≡ with_written at (i + 1) piece hs
-    written_more = ascending_same 0 _ _ (ascending_written (at + i) 1 _ _ (omega (arith, piece_sector)) some_order) (ascending_written at (i + 1) piece hs whole order) held_more
+    written_more = ascending_same 0 _ _ (ascending_written (at + i) 1 _ _ (omega (arith, piece_sector)) some_order)
+        (ascending_written at (i + 1) piece hs whole order) held_more
 
   -- the same as the code cuts the piece
   pub written_next : (i : ℕ) (held : List HeldSector) → IsAscending 0 hs → 512 * (i + 1) ≤ length piece → held ≡ with_written at i piece hs

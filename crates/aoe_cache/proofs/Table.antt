@@ -88,7 +88,8 @@ pub ordered_put : (e : HeldSector) (hs : List HeldSector) → length e.bytes ≡
 ordered_put e hs one whole =
     let order : IsAscending 0 (ordered hs) = ascending_ordered hs whole in
     let put : AreWhole (put_in e hs) = whole_put e hs one whole in
-    ascending_same 0 _ _ (ascending_ordered _ put) (ascending_written e.at 1 e.bytes _ (omega (arith, one)) order) (λ s. held_ordered _ put s ∙ elim (cases_eq e.at s) [
+    ascending_same 0 _ _ (ascending_ordered _ put) (ascending_written e.at 1 e.bytes _ (omega (arith, one)) order)
+    (λ s. held_ordered _ put s ∙ elim (cases_eq e.at s) [
       | inl same ↦ rw (← same) (held_put_same e hs ∙ sym (written_same e.at e.bytes _ order one))
       | inr other ↦ held_put_other e hs s other ∙ sym (held_ordered hs whole s) ∙ sym (written_other e.at e.bytes _ order one s other)
     ])

@@ -64,7 +64,8 @@ module _ {x : Host} {h : Host} {now : ℕ} (a : Advanced x h now) {outs : List D
   still-in-order =
       let up = a.gives_up.0 in
       let back : reverse h.waiting ≡ up ++ reverse x.waiting =
-      ap (λ (l : List Done). reverse l) a.gives_up.1 ∙ reverse-append x.waiting (reverse up) ∙ ap (λ (l : List Done). l ++ reverse x.waiting) (reverse-reverse up) in
+      ap (λ (l : List Done). reverse l) a.gives_up.1 ∙ reverse-append x.waiting (reverse up)
+      ∙ ap (λ (l : List Done). l ++ reverse x.waiting) (reverse-reverse up) in
       record {
         taken = o.taken;
         order = ap (λ (l : List Done). up ++ l) o.order ∙ sym (append_assoc up (reverse x.waiting) o.taken) ∙ ap (λ (l : List Done). l ++ o.taken) (sym back);
@@ -230,13 +231,15 @@ refused-why turns (outcome.AoeError error) = (λ e. cc, λ e. cc)
 refused-why turns (outcome.GaveUp first now) = (λ e. cc, λ e. cc)
 
 -- why an outcome ends a copy
-why : (turns : ℕ) (o : Outcome) (p : Plan) (steps : List Step) (e : ToolRefusal) → failure turns o ≡ Some e → Fails turns (outcomes steps) e → Breaks e p turns steps
+why : (turns : ℕ) (o : Outcome) (p : Plan) (steps : List Step) (e : ToolRefusal) → failure turns o ≡ Some e → Fails turns (outcomes steps) e
+    → Breaks e p turns steps
 why turns o p steps (tool.Refused r) is f = f
 why turns o p steps (tool.Unanswered n) is f = inr f
 why turns o p steps tool.NoMemory is f = absurd ((refused-why turns o).0 is)
 why turns o p steps tool.LinkFault is f = absurd ((refused-why turns o).1 is)
 
-module _ {c : Setting} (seen : Seen) {mid after : Option (List ℕ)} {steps : List Step} {x : Copying} (w : Window) (t : Ticked c (record seen { held = mid }) steps x)
+module _ {c : Setting} (seen : Seen) {mid after : Option (List ℕ)} {steps : List Step} {x : Copying} (w : Window)
+    (t : Ticked c (record seen { held = mid }) steps x)
     {y : Copying} (k : Keeps c t.steps' y) where
   read-so : {outs : List Done} (g : Given outs y.window w mid after) → outs ≡ outcomes t.steps' → AreRead (outcomes t.steps') (given t.steps') g.parts
   read-so g is = rw (← k.given_is, ← is) g.are
@@ -252,7 +255,8 @@ module _ {c : Setting} (seen : Seen) {mid after : Option (List ℕ)} {steps : Li
         steps' = after_gives g.parts t.steps';
         stands = stands-after seen g.parts t.steps' t.stands (read-so g refl) g.took;
         keeps = keeps;
-        given_out = λ bytes there. none-ready (outcomes t.steps') (suc w.given) w.slots.items unready (rw none at all) bytes (rw (a.outcomes_are, ← keeps.given_is) at there);
+        given_out = λ bytes there. none-ready (outcomes t.steps') (suc w.given) w.slots.items unready (rw none at all) bytes
+            (rw (a.outcomes_are, ← keeps.given_is) at there);
         waiting = none;
         goes_on = rw a.outcomes_are well;
         quiet_is = a.quiet_is ∙ t.quiet_is;
@@ -266,7 +270,11 @@ module _ {c : Setting} (seen : Seen) {mid after : Option (List ℕ)} {steps : Li
       let a = alike c.plan g.parts t.steps' in
       let s = stands-after seen g.parts t.steps' t.stands (read-so g refl) g.took in
       let still : Fails turns (outcomes (after_gives g.parts t.steps')) e = rw a.outcomes_are f in
-      record { steps = after_gives g.parts t.steps'; are = s.are; ends = (s.seen_is, why turns f.first.outcome c.plan (after_gives g.parts t.steps') e f.refuses still) }
+      record {
+        steps = after_gives g.parts t.steps';
+        are = s.are;
+        ends = (s.seen_is, why turns f.first.outcome c.plan (after_gives g.parts t.steps') e f.refuses still);
+      }
 
   -- the sink failed
   pub ends-part : (turns : ℕ) → GivenPart (outcomes t.steps') y.window mid after → Ended (Err copy.SinkFault) c turns (record seen { held = after })

@@ -37,7 +37,8 @@ pub lent-whole : (new items : List ℕ) (len : ℕ) → length new ≡ len → t
 lent-whole new items len long = take-append-le len new (drop (length new) items) (omega (arith, long)) ∙ take_all len new (omega (arith, long))
 
 -- the whole sectors of a buffer, and what is behind them
-pub piece-of : {left left' : Option (List ℕ)} (a a' buffer sectors : List ℕ) (n want : ℕ) → length buffer ≡ want → n ≤ want → Feeds left left' a a' (take n buffer)
+pub piece-of : {left left' : Option (List ℕ)} (a a' buffer sectors : List ℕ) (n want : ℕ) → length buffer ≡ want → n ≤ want
+    → Feeds left left' a a' (take n buffer)
     → (n < want → IsEnded left' × (a' ≡ [])) → sectors ≡ take (n - n % 512) buffer → IsPiece want left left' a a' sectors (n % 512)
 piece-of {left} {left'} a a' buffer sectors n want long within f short is =
     let k = n - n % 512 in

@@ -32,7 +32,8 @@ still-filled p steps steps' filled asked_is given_is = rw (asked_is, given_is) f
 
 -- what one turn brought, of a host that goes on
 pub heard-one : {c : Setting} (seen : Seen) {turns turns' : ℕ} {given_by given_by' : Option (List Turn)} {steps : List Step} {x y : Copying} {finished : Bool}
-    (w : Went c (record seen { turns = turns; given = given_by }) steps x) → GoesOn steps → IsFilled c.plan w.steps' → IsGivenOut steps → IsSent c.base c.plan w.steps' → x.host.waiting ≡ []
+    (w : Went c (record seen { turns = turns; given = given_by }) steps x) → GoesOn steps → IsFilled c.plan w.steps' → IsGivenOut steps
+    → IsSent c.base c.plan w.steps' → x.host.waiting ≡ []
     → HearsOne finished x.host y.host turns turns' given_by given_by' → y ≡ record x { host = y.host }
     → (heard : Option Heard) × Passes c (record seen { turns = turns'; given = given_by' }) steps y heard × (finished ≡ is_heard heard)
 heard-one {c} seen {turns} {turns'} {given_by} {given_by'} {steps} {x} {y} w well filled out sent none one is =
@@ -63,7 +64,8 @@ heard-one {c} seen {turns} {turns'} {given_by} {given_by'} {steps} {x} {y} w wel
           given_is = ap (λ (z : Copying). z.window.given) is ∙ k.given_is;
           reached_is = ap (λ (z : Copying). z.reached) is ∙ k.reached_is;
           all =
-              rw (waiting, ap (λ (z : Copying). z.window) is) (change-all (outcomes w.steps') (told_by heard ++ outcomes w.steps') x.host.waiting (told_by heard)
+              rw (waiting, ap (λ (z : Copying). z.window) is)
+              (change-all (outcomes w.steps') (told_by heard ++ outcomes w.steps') x.host.waiting (told_by heard)
               (λ m bytes was there.
               elim (Contains-append_cases (told_by heard) (outcomes w.steps') (read_done m bytes) there) [
                 | inl new ↦ new
@@ -99,5 +101,6 @@ was-quiet {c} {seen} {steps} {y} is x = at x.0 x.1 (sym is ∙ x.2)
     at (Some h) p e = absurd cc
 
 -- frames were sent behind commands that were submitted
-abbrev pub sent-then : {c : Setting} {seen seen' : Seen} {steps : List Step} {x y : Copying} (w : Went c seen steps x) → Went c seen' w.steps' y → Went c seen' steps y
+abbrev pub sent-then : {c : Setting} {seen seen' : Seen} {steps : List Step} {x y : Copying} (w : Went c seen steps x) → Went c seen' w.steps' y
+    → Went c seen' steps y
 sent-then w v = record { steps' = v.steps'; on = go-on-then w.on v.on; stands = v.stands; keeps = v.keeps }

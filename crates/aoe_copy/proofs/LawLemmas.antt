@@ -35,7 +35,8 @@ use Rattle.aoe_copy.specs.Steps.Step.{asks, gives, hears, sends, ticks}
 use Rattle.aoe_copy.specs.Window.{read_done}
 
 -- a change that leaves what is asked for
-pub mapped : (f : HostCommand → HostCommand) → ((c : HostCommand) → as_asked (f c) ≡ as_asked c) → (cs : List HostCommand) → map as_asked (map f cs) ≡ map as_asked cs
+pub mapped : (f : HostCommand → HostCommand) → ((c : HostCommand) → as_asked (f c) ≡ as_asked c) → (cs : List HostCommand)
+    → map as_asked (map f cs) ≡ map as_asked cs
 mapped f same [] = refl
 mapped f same (c ∷ cs) = rw (same c, mapped f same cs) refl
 
@@ -114,7 +115,8 @@ record IsHeard (base : Host) (p : Plan) (steps : List Step) (n : ℕ) (bytes : L
   ticket : heard.ticket ≡ record { 0 = n }
   says : heard.outcome ≡ outcome.Read bytes
 
-heard-later : {base : Host} {p : Plan} {steps : List Step} {n : ℕ} {bytes : List ℕ} (step : Step) → IsHeard base p steps n bytes → IsHeard base p (step ∷ steps) n bytes
+heard-later : {base : Host} {p : Plan} {steps : List Step} {n : ℕ} {bytes : List ℕ} (step : Step) → IsHeard base p steps n bytes
+    → IsHeard base p (step ∷ steps) n bytes
 heard-later step h = record {
   later = step ∷ h.later;
   frame = h.frame;
@@ -200,13 +202,15 @@ read-long span h args a bytes is says = by (has_flag h.flags 0x4) is
         let enough = leb-true (512 * span.count) (length args - 12) fits in
         ap (λ (l : List ℕ). length l) (sym bytes_are) ∙ long-range args (512 * span.count) (omega (arith, enough, long))
 
-    status : (b : Bool) → (if b then Some (answered.AtaError (slice_index args 3) (slice_index args 1)) else ata_success (op.Read span) (length args - 12)) ≡ Some a
+    status : (b : Bool) → (if b then Some (answered.AtaError (slice_index args 3) (slice_index args 1)) else ata_success (op.Read span) (length args - 12))
+        ≡ Some a
         → 12 ≤ length args → length bytes ≡ 512 * span.count
     status true e long = absurd (let a_is : answered.AtaError (slice_index args 3) (slice_index args 1) ≡ a = same_Some _ _ e in cc)
     status false e long = held (nat_le (512 * span.count) (length args - 12)) refl e long
 
     registers : (b : Bool) → nat_le 12 (length args) ≡ b
-        → (if b then (if is_failure (slice_index args 3) then Some (answered.AtaError (slice_index args 3) (slice_index args 1)) else ata_success (op.Read span) (length args - 12)) else None) ≡ Some a
+        → (if b then (if is_failure (slice_index args 3) then Some (answered.AtaError (slice_index args 3) (slice_index args 1)) else ata_success (op.Read span)
+        (length args - 12)) else None) ≡ Some a
         → length bytes ≡ 512 * span.count
     registers false there e = absurd cc
     registers true there e = status (is_failure (slice_index args 3)) e (leb-true 12 (length args) there)
@@ -233,7 +237,8 @@ response base p steps k bytes are there =
       ticket = h.ticket;
       asks = asks_is;
       says = h.says;
-      whole = option_and_then_some (λ (x : Header). cond (is_answered a.host a.command x) (answer a.command.op x (drop 24 h.frame)) None) (head h.frame) a.answer a.answers
+      whole = option_and_then_some (λ (x : Header). cond (is_answered a.host a.command x) (answer a.command.op x (drop 24 h.frame)) None)
+          (head h.frame) a.answer a.answers
           (λ x is found.
           elim (cases_Bool (is_answered a.host a.command x)) [
             | inl own ↦ read-long (span_at p k) x (drop 24 h.frame) a.answer bytes (rw (own, asks_is) at found) says

@@ -72,7 +72,8 @@ asked-law base p (writes bytes ∷ steps) are =
     let before : map as_asked (commands (log_of p steps)) ≡ writes_of p (pieces steps) ++ [] = rw reads at (asked-law base p steps are.0) in
     let many : asked steps ≡ length (pieces steps) = omega (arith, asked-count base p steps are.0, ap flushes_in reads) in
     let one : as_asked new ≡ record { ticket = ticket_at (length (pieces steps)); op = write_behind p (pieces steps) bytes } = rw many refl in
-    map-append as_asked (commands (log_of p steps)) (new ∷ []) ∙ ap (λ (l : List Submission). l ++ as_asked new ∷ []) (before ∙ append-nil (writes_of p (pieces steps)))
+    map-append as_asked (commands (log_of p steps)) (new ∷ [])
+    ∙ ap (λ (l : List Submission). l ++ as_asked new ∷ []) (before ∙ append-nil (writes_of p (pieces steps)))
     ∙ ap (λ (s : Submission). writes_of p (pieces steps) ++ s ∷ []) one
     ∙ sym (append-nil (writes_of p (bytes ∷ pieces steps)))
     ∙ ap (λ (st : Stage). writes_of p (bytes ∷ pieces steps) ++ flush_of st (length (bytes ∷ pieces steps))) (sym reads)
@@ -85,7 +86,8 @@ asked-law base p (flushes ∷ steps) are =
     let before : map as_asked (commands (log_of p steps)) ≡ writes_of p (pieces steps) ++ [] = rw are.1.1.ended at (asked-law base p steps are.0) in
     let many : asked steps ≡ length (pieces steps) = omega (arith, asked-count base p steps are.0, ap flushes_in are.1.1.ended) in
     let one : as_asked new ≡ record { ticket = ticket_at (length (pieces steps)); op = op.Flush } = rw many refl in
-    map-append as_asked (commands (log_of p steps)) (new ∷ []) ∙ ap (λ (l : List Submission). l ++ as_asked new ∷ []) (before ∙ append-nil (writes_of p (pieces steps)))
+    map-append as_asked (commands (log_of p steps)) (new ∷ [])
+    ∙ ap (λ (l : List Submission). l ++ as_asked new ∷ []) (before ∙ append-nil (writes_of p (pieces steps)))
     ∙ ap (λ (s : Submission). writes_of p (pieces steps) ++ s ∷ []) one
 asked-law base p (sends o ∷ steps) are =
     let log = log_of p steps in
@@ -111,7 +113,12 @@ window-law base p [] are = omega arith
 window-law base p (ticks answer gave_up ∷ steps) are =
     omega (arith, window-law base p steps are.0, open-ended gave_up (Advances (record { 0 = answer }) ∷ log_of p steps))
 window-law base p (writes bytes ∷ steps) are =
-    omega (arith, are.1.1.few, count-end is_open (commands (log_of p steps)) (submitted (ticket_at (asked steps)) the_device (write_behind p (pieces steps) bytes)))
+    omega (
+      arith,
+      are.1.1.few,
+      count-end is_open (commands (log_of p steps))
+          (submitted (ticket_at (asked steps)) the_device (write_behind p (pieces steps) bytes)),
+    )
 window-law base p (ends rest ∷ steps) are = window-law base p steps are.0
 window-law base p (exceeds bytes ∷ steps) are = window-law base p steps are.0
 window-law base p (flushes ∷ steps) are =
@@ -159,12 +166,17 @@ writes-alike p (bytes ∷ earlier) s s' one two is =
 all-alike : (p : Plan) (parts : List (List ℕ)) (st : Stage) (s s' : Submission) → Contains (writes_of p parts ++ flush_of st (length parts)) s
     → Contains (writes_of p parts ++ flush_of st (length parts)) s' → s.ticket.0 ≡ s'.ticket.0 → s.op ≡ s'.op
 all-alike p parts stage.Flushing s s' one two is =
-    alike-last (writes_of p parts) (record { ticket = ticket_at (length parts); op = op.Flush }) (λ x there. omega (arith, below p parts x there)) (writes-alike p parts) s
+    alike-last (writes_of p parts) (record { ticket = ticket_at (length parts); op = op.Flush }) (λ x there. omega (arith, below p parts x there))
+    (writes-alike p parts) s
     s' one two is
-all-alike p parts stage.Reading s s' one two is = writes-alike p parts s s' (rw (append-nil (writes_of p parts)) at one) (rw (append-nil (writes_of p parts)) at two) is
-all-alike p parts stage.Ended s s' one two is = writes-alike p parts s s' (rw (append-nil (writes_of p parts)) at one) (rw (append-nil (writes_of p parts)) at two) is
-all-alike p parts stage.Broken s s' one two is = writes-alike p parts s s' (rw (append-nil (writes_of p parts)) at one) (rw (append-nil (writes_of p parts)) at two) is
-all-alike p parts stage.Beyond s s' one two is = writes-alike p parts s s' (rw (append-nil (writes_of p parts)) at one) (rw (append-nil (writes_of p parts)) at two) is
+all-alike p parts stage.Reading s s' one two is = writes-alike p parts s s' (rw (append-nil (writes_of p parts)) at one)
+    (rw (append-nil (writes_of p parts)) at two) is
+all-alike p parts stage.Ended s s' one two is = writes-alike p parts s s' (rw (append-nil (writes_of p parts)) at one)
+    (rw (append-nil (writes_of p parts)) at two) is
+all-alike p parts stage.Broken s s' one two is = writes-alike p parts s s' (rw (append-nil (writes_of p parts)) at one)
+    (rw (append-nil (writes_of p parts)) at two) is
+all-alike p parts stage.Beyond s s' one two is = writes-alike p parts s s' (rw (append-nil (writes_of p parts)) at one)
+    (rw (append-nil (writes_of p parts)) at two) is
 
 one-op : (base : Host) (p : Plan) (steps : List PutStep) (c c' : HostCommand) → AreSteps base p steps → Contains (commands (log_of p steps)) c
     → Contains (commands (log_of p steps)) c' → c.ticket.0 ≡ c'.ticket.0 → c.op ≡ c'.op
@@ -205,7 +217,8 @@ gave-none dead now log [] outs gave well = refl
 gave-none dead now log (d ∷ dones) outs gave well =
     absurd (let is : failure 0 d.outcome ≡ None = All-head IsWell d (dones ++ outs) well in let up = rw (ap (λ (x : Done). x.outcome) gave.1.2) at is in cc)
 
-sent-done : (t : Ticket) (tag : ℕ) (now : Millis) (path : PathNo) (timeouts : ℕ → ℕ) (c : HostCommand) → (at_ticket t (after_send tag now path timeouts) c).done ≡ c.done
+sent-done : (t : Ticket) (tag : ℕ) (now : Millis) (path : PathNo) (timeouts : ℕ → ℕ) (c : HostCommand)
+    → (at_ticket t (after_send tag now path timeouts) c).done ≡ c.done
 sent-done t tag now path timeouts c = elim (cases_Bool (nat_eq c.ticket.0 t.0)) [ inl own ↦ rw own refl | inr other ↦ rw other refl ]
 
 -- a command that a response ended was done before, or is the response's own
@@ -293,7 +306,8 @@ write-says at bytes h args a is well = by (has_flag h.flags 0x4) is
     status false e = let a_is : answered.Written ≡ a = same_Some _ _ e in rw (← a_is) refl
 
     registers : (b : Bool)
-        → (if b then (if is_failure (slice_index args 3) then Some (answered.AtaError (slice_index args 3) (slice_index args 1)) else Some answered.Written) else None)
+        → (if b then (if is_failure (slice_index args 3) then Some (answered.AtaError (slice_index args 3) (slice_index args 1)) else Some answered.Written)
+        else None)
         ≡ Some a → outcome_of a args ≡ outcome.Written
     registers false e = absurd cc
     registers true e = status (is_failure (slice_index args 3)) e
@@ -313,7 +327,8 @@ flush-says h args a is well = by (has_flag h.flags 0x4) is
     status false e = let a_is : answered.Flushed ≡ a = same_Some _ _ e in rw (← a_is) refl
 
     registers : (b : Bool)
-        → (if b then (if is_failure (slice_index args 3) then Some (answered.AtaError (slice_index args 3) (slice_index args 1)) else Some answered.Flushed) else None)
+        → (if b then (if is_failure (slice_index args 3) then Some (answered.AtaError (slice_index args 3) (slice_index args 1)) else Some answered.Flushed)
+        else None)
         ≡ Some a → outcome_of a args ≡ outcome.Flushed
     registers false e = absurd cc
     registers true e = status (is_failure (slice_index args 3)) e
@@ -328,7 +343,8 @@ heard-says : {base : Host} {p : Plan} {steps : List PutStep} {c : HostCommand} (
     → h.heard.outcome ≡ says
 heard-says h says by =
     let a = h.answers in
-    a.says ∙ option_and_then_some (λ (x : Header). cond (is_answered a.host a.command x) (answer a.command.op x (drop 24 h.frame)) None) (head h.frame) a.answer a.answers
+    a.says ∙ option_and_then_some (λ (x : Header). cond (is_answered a.host a.command x) (answer a.command.op x (drop 24 h.frame)) None)
+    (head h.frame) a.answer a.answers
     (λ x is found.
     elim (cases_Bool (is_answered a.host a.command x)) [
       | inl own ↦ by x (drop 24 h.frame) a.answer (rw (own, h.asks) at found) (rw a.says at h.well)
@@ -376,7 +392,8 @@ module _ (base : Host) (p : Plan) (steps : List PutStep) (are : AreSteps base p 
       )
 
   all-heard : AreAcknowledged base p steps (pieces steps)
-  all-heard = writes-heard (pieces steps) (λ s there. Contains-append_left (writes_of p (pieces steps)) (flush_of (stage_of steps) (length (pieces steps))) s there)
+  all-heard = writes-heard (pieces steps)
+      (λ s there. Contains-append_left (writes_of p (pieces steps)) (flush_of (stage_of steps) (length (pieces steps))) s there)
 
   flush-heard : stage_of steps ≡ stage.Flushing → IsAcknowledged base p steps (length (pieces steps)) outcome.Flushed
   flush-heard flushing =
@@ -395,7 +412,8 @@ record Flushed (base : Host) (p : Plan) (steps : List PutStep) : Type 0 where
   all : pieces earlier ≡ pieces steps
   each : AreAcknowledged base p earlier (pieces steps)
 
-flushed-later : {base : Host} {p : Plan} {steps : List PutStep} (step : PutStep) → pieces (step ∷ steps) ≡ pieces steps → Flushed base p steps → Flushed base p (step ∷ steps)
+flushed-later : {base : Host} {p : Plan} {steps : List PutStep} (step : PutStep) → pieces (step ∷ steps) ≡ pieces steps → Flushed base p steps
+    → Flushed base p (step ∷ steps)
 flushed-later step same f = record {
   later = step ∷ f.later;
   earlier = f.earlier;

@@ -39,7 +39,8 @@ go-on-then one two = record {
 pub went-self : {c : Setting} {seen : PutSeen} {steps : List PutStep} {x : Putting} → Stands c seen (ahead x.feed) steps → Keeps c steps x → Went c seen steps x
 went-self {c} {steps = steps} stands keeps = record { steps' = steps; on = go-on-self c.plan steps; stands = stands; keeps = keeps }
 
-abbrev pub went-then : {c : Setting} {seen seen' : PutSeen} {steps : List PutStep} {x y : Putting} (w : Went c seen steps x) → Went c seen' w.steps' y → Went c seen' steps y
+abbrev pub went-then : {c : Setting} {seen seen' : PutSeen} {steps : List PutStep} {x y : Putting} (w : Went c seen steps x) → Went c seen' w.steps' y
+    → Went c seen' steps y
 went-then w v = record { steps' = v.steps'; on = go-on-then w.on v.on; stands = v.stands; keeps = v.keeps }
 
 -- no outcome came, so the copy still goes on
@@ -156,7 +157,8 @@ module _ {c : Setting} {seen : PutSeen} {a : List ℕ} {steps : List PutStep} {x
     | inr full ↦ inl (omega (arith, full, pending-open k.matches))
   ]
     where
-      by : (st : Stage) → st ≡ stage_of steps → nat_lt (length x.host.pending) most_open ≡ true → (is_reading st && nat_lt (length x.host.pending) most_open) ≢ true
+      by : (st : Stage) → st ≡ stage_of steps → nat_lt (length x.host.pending) most_open ≡ true
+          → (is_reading st && nat_lt (length x.host.pending) most_open) ≢ true
           → (is_ended st && nat_eq (length x.host.pending) 0) ≡ false → NothingLeft (stage_of steps) (open_of c.plan steps)
       by stage.Reading e few no_read no_flush = absurd (no_read few)
       by stage.Ended e few no_read no_flush =
@@ -425,15 +427,18 @@ module _ {c : Setting} (seen : PutSeen) {left left' : Option (List ℕ)} {a : Li
       }
 
   -- the input goes on behind the last sector of the device, or it ends there
-  pub past-more : {x : Putting} → want ≡ 512 → MayRead c.plan steps → room_behind c.plan (pieces steps) ≡ 0 → Keeps c steps x → y ≡ record x { feed = y.feed; stage = y.stage }
+  pub past-more : {x : Putting} → want ≡ 512 → MayRead c.plan steps → room_behind c.plan (pieces steps) ≡ 0 → Keeps c steps x
+      → y ≡ record x { feed = y.feed; stage = y.stage }
       → y.stage ≡ stage_past (length sectors + behind) → Went c (record seen { left = left' }) steps y
   past-more {x} want_is may none k is stage_is =
-      by (sectors ++ p.rest) (omega (arith, length-append sectors p.rest, p.rest_is)) (piece-fed seen s reads p) (piece-lean-past seen s reads p (omega (arith, want_is)))
+      by (sectors ++ p.rest) (omega (arith, length-append sectors p.rest, p.rest_is)) (piece-fed seen s reads p)
+      (piece-lean-past seen s reads p (omega (arith, want_is)))
     where
       host_is : y.host ≡ x.host
       host_is = ap (λ (z : Putting). z.host) is
 
-      keeps : (steps' : List PutStep) → log_of c.plan steps' ≡ log_of c.plan steps → asked steps' ≡ asked steps → pieces steps' ≡ pieces steps → y.stage ≡ stage_of steps'
+      keeps : (steps' : List PutStep) → log_of c.plan steps' ≡ log_of c.plan steps → asked steps' ≡ asked steps → pieces steps' ≡ pieces steps
+          → y.stage ≡ stage_of steps'
           → Keeps c steps' y
       keeps steps' log asked_is pieces_are stage = record {
         plan_is = ap (λ (z : Putting). z.plan) is ∙ k.plan_is;
@@ -478,7 +483,8 @@ module _ {c : Setting} (seen : PutSeen) {left left' : Option (List ℕ)} {a : Li
 feed-same : (bytes : List ℕ) (x y : Putting) → WritesSome bytes x y → y.feed ≡ x.feed
 feed-same bytes x y some = elim some [ inl none ↦ none.5 | inr one ↦ one.1.feed_is ]
 
-module _ {c : Setting} (seen : PutSeen) {left left' : Option (List ℕ)} {a : List ℕ} {steps : List PutStep} {want behind : ℕ} {sectors : List ℕ} (turns : ℕ) {x : Putting}
+module _ {c : Setting} (seen : PutSeen) {left left' : Option (List ℕ)} {a : List ℕ} {steps : List PutStep} {want behind : ℕ} {sectors : List ℕ}
+    (turns : ℕ) {x : Putting}
     (y : Putting) (s : Stands c (record seen { left = left }) a steps) (k : Keeps c steps x) (well : GoesOn steps) (may : MayRead c.plan steps)
     (p : IsPiece want left left' a (ahead x.feed) sectors behind) (want_is : want ≡ 512 * room_behind c.plan (pieces steps)) where
   few : want ≤ 8704 → (result : Result Unit CopyRefusal) (e : CopyRefusal) → e ≡ copy.Tool tool.NoMemory → Ended (Err e) c turns (record seen { left = left' })
@@ -486,7 +492,8 @@ module _ {c : Setting} (seen : PutSeen) {left left' : Option (List ℕ)} {a : Li
 
   -- what came of a piece that is shorter than it might be
   pub last-reads : want ≤ 8704 → length sectors < want → (result : Result Unit CopyRefusal) → OnOk result (WritesSome sectors x (record y { stage = x.stage }))
-      → OnOk result (y.stage ≡ stage_behind behind) → IfErr result (λ e. e ≡ copy.Tool tool.NoMemory) → ReadsOn result c turns (record seen { left = left' }) steps y
+      → OnOk result (y.stage ≡ stage_behind behind) → IfErr result (λ e. e ≡ copy.Tool tool.NoMemory)
+      → ReadsOn result c turns (record seen { left = left' }) steps y
   last-reads little less (Err e) some stage_is memory = few little (Err e) e memory
   last-reads little less (Ok done) some stage_is memory =
       let same : y.feed ≡ x.feed = feed-same sectors x (record y { stage = x.stage }) some in
@@ -513,7 +520,11 @@ flushes-more {c} {seen} {steps} {x} {y} s k well may one = (
     on = record {
       outcomes_are = refl;
       quiet_is = refl;
-      left_is = omega (arith, count-end is_open (commands (log_of c.plan steps)) (submitted (ticket_at (asked steps)) the_device op.Flush), ap flushes_left may.ended);
+      left_is = omega (
+        arith,
+        count-end is_open (commands (log_of c.plan steps)) (submitted (ticket_at (asked steps)) the_device op.Flush),
+        ap flushes_left may.ended,
+      );
     };
     stands = record {
       are = (s.are, (well, may));

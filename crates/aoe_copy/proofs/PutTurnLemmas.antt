@@ -81,7 +81,8 @@ sends-may {c} {steps} {x} host' k p =
       path = p.path log k.matches;
     }
 
-pub sends-more : {n : ℕ} {c : Setting} (seen : PutSeen) {mid after : Option (List (List ℕ))} {steps : List PutStep} {x y : Putting} {sent : Sent} {frame : List ℕ}
+pub sends-more : {n : ℕ} {c : Setting}
+    (seen : PutSeen) {mid after : Option (List (List ℕ))} {steps : List PutStep} {x y : Putting} {sent : Sent} {frame : List ℕ}
     → Sent-so n c (record seen { taken = mid }) steps x → GoesOn steps → Pulls x.host y.host sent frame → y ≡ record x { host = y.host }
     → Added mid after (frame ∷ []) → Sent-so (n + 1) c (record seen { taken = after }) steps y
 sends-more {c} seen {mid} {after} {x = x} {y} {sent} {frame} so well p is took =
@@ -94,7 +95,12 @@ sends-more {c} seen {mid} {after} {x = x} {y} {sent} {frame} so well p is took =
         on = go-on-then w.on (record { outcomes_are = refl; quiet_is = refl; left_is = omega (arith, same) });
         stands = rw (feed-of x y is) (record {
           are = (s.are, (goes-on w well, sends-may y.host w.keeps p));
-          seen_is = record { turned = t.turned; took = Added-then c.before.taken mid after (frames_of w.steps') (frame ∷ []) t.took took; told = t.told; fed = t.fed };
+          seen_is = record {
+            turned = t.turned;
+            took = Added-then c.before.taken mid after (frames_of w.steps') (frame ∷ []) t.took took;
+            told = t.told;
+            fed = t.fed;
+          };
           lean = s.lean;
           over = s.over;
           rest = s.rest;
@@ -167,10 +173,12 @@ sends-fail seen turns so well is = rw is (link-failed so.0 turns well)
 -- frames leave as many under way, and no more to be submitted
 pub still-filled : (p : Plan) (steps steps' : List PutStep) → IsFilled p steps → stage_of steps' ≡ stage_of steps → open_of p steps' ≡ open_of p steps
     → IsFilled p steps'
-still-filled p steps steps' filled stage_is open_is = elim filled [ inl full ↦ inl (omega (arith, full, open_is)) | inr none ↦ inr (rw (stage_is, open_is) none) ]
+still-filled p steps steps' filled stage_is open_is =
+    elim filled [ inl full ↦ inl (omega (arith, full, open_is)) | inr none ↦ inr (rw (stage_is, open_is) none) ]
 
 -- what one turn brought, of a host that goes on
-pub heard-one : {c : Setting} (seen : PutSeen) {turns turns' : ℕ} {given_by given_by' : Option (List Turn)} {steps : List PutStep} {x y : Putting} {finished : Bool}
+pub heard-one : {c : Setting} (seen : PutSeen) {turns turns' : ℕ} {given_by given_by' : Option (List Turn)} {steps : List PutStep} {x y : Putting}
+    {finished : Bool}
     (w : Went c (record seen { turns = turns; given = given_by }) steps x) → GoesOn steps → IsFilled c.plan w.steps' → IsSent c.base c.plan w.steps'
     → x.host.waiting ≡ [] → HearsOne finished x.host y.host turns turns' given_by given_by' → y ≡ record x { host = y.host }
     → (heard : Option Heard) × Passes c (record seen { turns = turns'; given = given_by' }) steps y heard × (finished ≡ is_heard heard)
@@ -353,7 +361,8 @@ passes-behind {heard = heard} d p = record {
 }
 
 -- the second part of a turn behind its first
-pub turns-behind : {c : Setting} {seen : PutSeen} (seen' : PutSeen) {steps : List PutStep} {x : Putting} (y : Putting) (turns : ℕ) (d : Collected c seen steps x)
+pub turns-behind : {c : Setting} {seen : PutSeen} (seen' : PutSeen) {steps : List PutStep} {x : Putting} (y : Putting) (turns : ℕ)
+    (d : Collected c seen steps x)
     (result : Result Passed CopyRefusal) → Turns result c turns seen' d.steps' y → Turns result c turns seen' steps y
 turns-behind seen' y turns d (Ok passed.Over) t = t
 turns-behind seen' y turns d (Ok passed.Answered) t = (t.0, passes-behind d t.1)

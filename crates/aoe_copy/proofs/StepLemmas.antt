@@ -163,7 +163,12 @@ sends-more {c} seen {mid} {after} {y = y} {sent} {frame} so well p is took =
         on = go-on-then w.on (record { outcomes_are = refl; given_is = refl; quiet_is = refl; left_is = sends-left c.plan w.steps' (out_of sent frame) });
         stands = record {
           are = (w.stands.are, (goes-on w well, sends-may y.host w.keeps p));
-          seen_is = record { turned = s.turned; took = Added-then c.before.taken mid after (frames_of w.steps') (frame ∷ []) s.took took; told = s.told; wrote = s.wrote };
+          seen_is = record {
+            turned = s.turned;
+            took = Added-then c.before.taken mid after (frames_of w.steps') (frame ∷ []) s.took took;
+            told = s.told;
+            wrote = s.wrote;
+          };
         };
         keeps = sends-keeps w.keeps p is;
       },

@@ -116,7 +116,8 @@ taken-fewer {bytes} {now} {later} t =
     let long : length now.slots.items ≡ suc (length later.slots.items) = ap (λ (l : List (Option (List ℕ))). length l) t.slots_are in
     omega (arith, long)
 
-module _ {outs : List Done} {old now later : Window} {held mid : Option (List ℕ)} (g : Given outs old now held mid) {bytes : List ℕ} (t : IsTaken bytes now later) where
+module _ {outs : List Done} {old now later : Window} {held mid : Option (List ℕ)} (g : Given outs old now held mid) {bytes : List ℕ}
+    (t : IsTaken bytes now later) where
   first : Contains outs (read_done (suc now.given) bytes) × AreThere outs (suc (suc now.given)) later.slots.items
   first = rw t.slots_are at g.there
 

@@ -97,5 +97,7 @@ tells_stop k (Some x) (armed, due) = (ap is_none armed, due)
 
 pub armed_fails : (arm : Arm) (calls : List Bool) (old new : DiskState) → 0 < number_of arm → IsArmed arm old → Calls calls old new → FailsFrom 1 arm calls
 unfolding FailStage StopStage
-armed_fails (Fail k) calls old new from_one armed ran = fails_from k 1 calls old new (Some k) (inl (omega arith, ap Some (omega arith))) (tells_fail k old.schedule armed) ran
-armed_fails (Stop k) calls old new from_one armed ran = stops_from k 1 calls old new (Some k) (inl (omega arith, ap Some (omega arith))) (tells_stop k old.schedule armed) ran
+armed_fails (Fail k) calls old new from_one armed ran = fails_from k 1 calls old new (Some k) (inl (omega arith, ap Some (omega arith)))
+    (tells_fail k old.schedule armed) ran
+armed_fails (Stop k) calls old new from_one armed ran = stops_from k 1 calls old new (Some k) (inl (omega arith, ap Some (omega arith)))
+    (tells_stop k old.schedule armed) ran

@@ -19,7 +19,9 @@ pub record LeftTo (k : ℕ) (how : Loss) (now settled : List ℕ) (loose : List 
 
 pub torn-with_piece : (now settled : List ℕ) → length now ≡ 512 → length settled ≡ 512 → with_piece now 256 (drop 256 settled) ≡ torn now settled
 unfolding torn
-torn-with_piece now settled en es = ap (λ (l : List ℕ). take 256 now ++ drop 256 settled ++ l) (drop_all (256 + length (drop 256 settled)) now (omega (arith, length-drop 256 settled))) ∙ append-nil (take 256 now ++ drop 256 settled)
+torn-with_piece now settled en es =
+    ap (λ (l : List ℕ). take 256 now ++ drop 256 settled ++ l) (drop_all (256 + length (drop 256 settled)) now (omega (arith, length-drop 256 settled)))
+    ∙ append-nil (take 256 now ++ drop 256 settled)
 
 length-torn : (now settled : List ℕ) → length now ≡ 512 → length settled ≡ 512 → length (torn now settled) ≡ 512
 unfolding torn
@@ -27,7 +29,9 @@ length-torn now settled en es = omega (arith, length-append (take 256 now) (drop
 
 length-mixed : (choice : ℕ) (now settled : List ℕ) → length now ≡ 512 → length settled ≡ 512 → length (mixed choice now settled) ≡ 512
 length-mixed choice now settled en es =
-    cond_both (choice == 0) now _ (λ l. length l ≡ 512) (λ _. en) (λ _. cond_both (choice == 1) settled _ (λ l. length l ≡ 512) (λ _. es) (λ _. cond_both (choice == 2) (torn now settled) spoiled_sector (λ l. length l ≡ 512)
+    cond_both (choice == 0) now _ (λ l. length l ≡ 512) (λ _. en)
+    (λ _. cond_both (choice == 1) settled _ (λ l. length l ≡ 512) (λ _. es)
+    (λ _. cond_both (choice == 2) (torn now settled) spoiled_sector (λ l. length l ≡ 512)
     (λ _. length-torn now settled en es) (λ _. length-spoiled_sector)))
 
 pub mixed_spoils : (choice : ℕ) (now settled : List ℕ) → choice ≢ 0 → choice ≢ 1 → choice ≢ 2 → mixed choice now settled ≡ spoiled_sector

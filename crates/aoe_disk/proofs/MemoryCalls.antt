@@ -14,7 +14,8 @@ use Rattle.aoe_disk.proofs.Pieces.{with_piece_outside, length-with_marks, is_loo
 use Rattle.aoe_disk.proofs.Touching.{sector_outside}
 
 abbrev pub memory : List ℕ → List ℕ → List Bool → Option Arm → Bool → ℕ → ℕ → Memory
-memory bytes settled loose arming out faults calls = record { bytes = bytes; settled = settled; loose = loose; arming = arming; out = out; faults = faults; calls = calls }
+memory bytes settled loose arming out faults calls =
+    record { bytes = bytes; settled = settled; loose = loose; arming = arming; out = out; faults = faults; calls = calls }
 
 arming_is_schedule : (arming : Option Arm) (out : Bool) → IsArming arming out → IsSchedule (schedule_of arming out)
 arming_is_schedule None out h = record { number_in = λ _. h; from_one = tt }

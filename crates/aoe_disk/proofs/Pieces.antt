@@ -63,7 +63,8 @@ module _ (loose : List Bool) (at n : ℕ) (fits : at + n ≤ length loose) where
   pub with_marks_outside : SameOutside at n loose (with_marks loose at n)
   with_marks_outside = record {
     size = length-with_marks;
-    before = ap (take at) (append_assoc (take at loose) (replicate n true) (drop (at + n) loose)) ∙ take_at (take at loose) (replicate n true ++ drop (at + n) loose) at before_marks;
+    before = ap (take at) (append_assoc (take at loose) (replicate n true) (drop (at + n) loose))
+        ∙ take_at (take at loose) (replicate n true ++ drop (at + n) loose) at before_marks;
     after = drop_at (take at loose ++ replicate n true) (drop (at + n) loose) (at + n) through_marks;
   }
 
@@ -93,13 +94,17 @@ stored xs new want n whole same e = take_at new (drop (length new) xs) n (ap len
 
 pub with_piece-whole : (xs : List ℕ) → length xs ≡ 512 → with_piece xs 0 spoiled_sector ≡ spoiled_sector
 unfolding spoiled_sector
-with_piece-whole xs e = ap (λ (l : List ℕ). spoiled_sector ++ l) (drop_all (length spoiled_sector) xs (omega (arith, length-spoiled_sector))) ∙ append-nil spoiled_sector
+with_piece-whole xs e = ap (λ (l : List ℕ). spoiled_sector ++ l) (drop_all (length spoiled_sector) xs (omega (arith, length-spoiled_sector)))
+    ∙ append-nil spoiled_sector
 
 -- the same of marks, and of a piece, that a method wrote to a field
 pub stored_marks : (loose new seen : List Bool) (len at n : ℕ) → len ≡ length loose → seen ≡ loose → new ≡ with_marks seen at n → at + n ≤ length loose
     → take len (new ++ drop (length new) loose) ≡ with_marks loose at n
-stored_marks loose new seen len at n whole same e fits = stored loose new (with_marks loose at n) len whole (length-with_marks loose at n fits) (e ∙ ap (λ (l : List Bool). with_marks l at n) same)
+stored_marks loose new seen len at n whole same e fits = stored loose new (with_marks loose at n) len whole (length-with_marks loose at n fits)
+    (e ∙ ap (λ (l : List Bool). with_marks l at n) same)
 
 pub stored_piece : (bytes new seen piece : List ℕ) (len start : ℕ) → len ≡ length bytes → seen ≡ bytes → new ≡ with_piece seen start piece
     → start + length piece ≤ length bytes → take len (new ++ drop (length new) bytes) ≡ with_piece bytes start piece
-stored_piece bytes new seen piece len start whole same e fits = stored bytes new (with_piece bytes start piece) len whole (length-with_piece bytes start piece fits) (e ∙ ap (λ (l : List ℕ). with_piece l start piece) same)
+stored_piece bytes new seen piece len start whole same e fits =
+    stored bytes new (with_piece bytes start piece) len whole (length-with_piece bytes start piece fits)
+    (e ∙ ap (λ (l : List ℕ). with_piece l start piece) same)

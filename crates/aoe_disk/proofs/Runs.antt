@@ -30,7 +30,15 @@ moves_none f (Some s) h = record {
 }
 
 pub run_none : (d : DiskState) → IsDisk d → IsRun 0 false d d
-run_none d h = record { before = h; after = h; sectors = refl; tells = refl; later = omega arith; cause = tt; schedule = moves_none d.faults d.schedule h.schedule }
+run_none d h = record {
+  before = h;
+  after = h;
+  sectors = refl;
+  tells = refl;
+  later = omega arith;
+  cause = tt;
+  schedule = moves_none d.faults d.schedule h.schedule;
+}
 
 -- a call failed, and no more are made
 
@@ -58,7 +66,15 @@ moves_stop m n b a (Some x) (Some y) le t = record {
 }
 
 pub run_stop : (m n : ℕ) (old new : DiskState) → m ≤ n → IsRun m true old new → IsRun n true old new
-run_stop m n old new le run = record { before = run.before; after = run.after; sectors = run.sectors; tells = run.tells; later = run.later; cause = run.cause; schedule = moves_stop m n old.faults new.faults old.schedule new.schedule le run.schedule }
+run_stop m n old new le run = record {
+  before = run.before;
+  after = run.after;
+  sectors = run.sectors;
+  tells = run.tells;
+  later = run.later;
+  cause = run.cause;
+  schedule = moves_stop m n old.faults new.faults old.schedule new.schedule le run.schedule;
+}
 
 -- m calls that didn't fail, and then n more
 
@@ -176,7 +192,8 @@ unfoldable pub makes_one : (call : DeviceCall) (failed : Bool) (a b : DiskState)
 makes_one call failed a b log = record { made = 1; within = omega arith; some = λ _. omega arith; all = λ _. refl; log = log }
 
 -- none of these calls failed, and others follow
-unfoldable pub makes_then : (xs ys : List DeviceCall) (failed : Bool) (a b c : DiskState) → Makes xs false a b → Makes ys failed b c → Makes (xs ++ ys) failed a c
+unfoldable pub makes_then : (xs ys : List DeviceCall) (failed : Bool) (a b c : DiskState) → Makes xs false a b → Makes ys failed b c
+    → Makes (xs ++ ys) failed a c
 makes_then xs ys failed a b c one two =
     let whole : one.made ≡ length xs = one.all refl in
     let size = length-append xs ys in

@@ -28,8 +28,10 @@ range_same (suc n) lo x y same =
     rw next (range_same n (lo + 1) x y (λ s l h. same s (omega arith) (omega arith))) in
     let one : take 512 (drop (512 * lo) x) ≡ take 512 (drop (512 * lo) y) = same lo (omega arith) (omega arith) in
     let split : (z : List ℕ) → take (512 * suc n) (drop (512 * lo) z) ≡ take 512 (drop (512 * lo) z) ++ take (512 * n) (drop (512 * lo + 512) z) =
-    λ z. ap (λ (m : ℕ). take m (drop (512 * lo) z)) size ∙ take_add 512 (512 * n) (drop (512 * lo) z) ∙ ap (λ (l : List ℕ). take 512 (drop (512 * lo) z) ++ take (512 * n) l) (drop-drop 512 (512 * lo) z) in
-    split x ∙ ap (λ (l : List ℕ). l ++ take (512 * n) (drop (512 * lo + 512) x)) one ∙ ap (λ (l : List ℕ). take 512 (drop (512 * lo) y) ++ l) rest ∙ sym (split y)
+    λ z. ap (λ (m : ℕ). take m (drop (512 * lo) z)) size ∙ take_add 512 (512 * n) (drop (512 * lo) z)
+    ∙ ap (λ (l : List ℕ). take 512 (drop (512 * lo) z) ++ take (512 * n) l) (drop-drop 512 (512 * lo) z) in
+    split x ∙ ap (λ (l : List ℕ). l ++ take (512 * n) (drop (512 * lo + 512) x)) one ∙ ap (λ (l : List ℕ). take 512 (drop (512 * lo) y) ++ l) rest
+    ∙ sym (split y)
 
 -- images that agree sector by sector are one
 pub image_same : (n : ℕ) (x y : List ℕ) → length x ≡ 512 * n → length y ≡ 512 * n → ((s : ℕ) → s < n → sector x s ≡ sector y s) → x ≡ y
@@ -73,18 +75,22 @@ sector-with_piece bytes piece at k fits inside =
     ap (λ (m : ℕ). take 512 (drop m (with_piece bytes (512 * at) piece))) from
     ∙ ap (take 512) (sym (drop-drop (512 * k) (512 * at) (with_piece bytes (512 * at) piece)))
     ∙ ap (λ (l : List ℕ). take 512 (drop (512 * k) l)) there
-    ∙ sector_front (piece ++ drop (512 * at + length piece) bytes) piece k (length piece) inside (take_at piece (drop (512 * at + length piece) bytes) (length piece) refl ∙ sym (take-length piece))
+    ∙ sector_front (piece ++ drop (512 * at + length piece) bytes) piece k (length piece) inside
+    (take_at piece (drop (512 * at + length piece) bytes) (length piece) refl ∙ sym (take-length piece))
 
 -- one sector that was written, and the others
 pub sector-with_sector : (bytes piece : List ℕ) (s : ℕ) → length piece ≡ 512 → 512 * s + 512 ≤ length bytes
     → sector (with_piece bytes (512 * s) piece) s ≡ piece
-sector-with_sector bytes piece s size fits = ap (take 512) (drop_start-with_piece bytes (512 * s) piece (omega arith)) ∙ take_at piece (drop (512 * s + length piece) bytes) 512 size
+sector-with_sector bytes piece s size fits = ap (take 512) (drop_start-with_piece bytes (512 * s) piece (omega arith))
+    ∙ take_at piece (drop (512 * s + length piece) bytes) 512 size
 
 pub sector-with_sector_other : (bytes piece : List ℕ) (s t : ℕ) → length piece ≡ 512 → 512 * s + 512 ≤ length bytes → t ≢ s
     → sector (with_piece bytes (512 * s) piece) t ≡ sector bytes t
 sector-with_sector_other bytes piece s t size fits other = elim (cases_lt t s) [
-  | inl below ↦ sector_outside bytes (with_piece bytes (512 * s) piece) s 1 t (with_piece_outside bytes (512 * s) piece (omega arith) 512 (omega arith)) (inl below)
-  | inr above ↦ sector_outside bytes (with_piece bytes (512 * s) piece) s 1 t (with_piece_outside bytes (512 * s) piece (omega arith) 512 (omega arith)) (inr (omega arith))
+  | inl below ↦ sector_outside bytes (with_piece bytes (512 * s) piece) s 1 t (with_piece_outside bytes (512 * s) piece (omega arith) 512 (omega arith))
+      (inl below)
+  | inr above ↦ sector_outside bytes (with_piece bytes (512 * s) piece) s 1 t (with_piece_outside bytes (512 * s) piece (omega arith) 512 (omega arith))
+      (inr (omega arith))
 ]
 
 pub puts_touch : (at : ℕ) (piece : List ℕ) (old new : Contents) (sectors : ℕ) → HasShape sectors old → IsRange at (length piece) sectors → Puts at piece old new

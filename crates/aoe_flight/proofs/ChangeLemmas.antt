@@ -100,10 +100,22 @@ indexed-finished {slab} k c at flying tag_out tag_in ticket_out due_out first_ou
       has_dues = taken flies by_due (λ j d. refl) updates c _ _ at (given f flies refl) due_out i.has_dues;
       has_firsts = taken flies by_first (λ j d. refl) updates c _ _ at (given f flies refl) first_out i.has_firsts;
       has_resting = added rests by_last (λ j d. refl) updates f refl refl _ _ (tested slab k c rests at flying) rest_in i.has_resting;
-      tags_room = record { room = tag_in.room ∙ tag_out.room ∙ i.tags_room.room; fits = omega (arith, long, tag_out.fewer (i.has_tags.all k c at refl), tag_in.longer, i.tags_room.fits) };
-      tickets_room = record { room = ticket_out.room ∙ i.tickets_room.room; fits = omega (arith, long, ticket_out.fewer (i.has_tickets.all k c at up), rest_in.longer, i.tickets_room.fits) };
-      dues_room = record { room = due_out.room ∙ i.dues_room.room; fits = omega (arith, long, due_out.fewer (i.has_dues.all k c at up), rest_in.longer, i.dues_room.fits) };
-      firsts_room = record { room = first_out.room ∙ i.firsts_room.room; fits = omega (arith, long, first_out.fewer (i.has_firsts.all k c at up), rest_in.longer, i.firsts_room.fits) };
+      tags_room = record {
+        room = tag_in.room ∙ tag_out.room ∙ i.tags_room.room;
+        fits = omega (arith, long, tag_out.fewer (i.has_tags.all k c at refl), tag_in.longer, i.tags_room.fits);
+      };
+      tickets_room = record {
+        room = ticket_out.room ∙ i.tickets_room.room;
+        fits = omega (arith, long, ticket_out.fewer (i.has_tickets.all k c at up), rest_in.longer, i.tickets_room.fits);
+      };
+      dues_room = record {
+        room = due_out.room ∙ i.dues_room.room;
+        fits = omega (arith, long, due_out.fewer (i.has_dues.all k c at up), rest_in.longer, i.dues_room.fits);
+      };
+      firsts_room = record {
+        room = first_out.room ∙ i.firsts_room.room;
+        fits = omega (arith, long, first_out.fewer (i.has_firsts.all k c at up), rest_in.longer, i.firsts_room.fits);
+      };
       resting_room = rest_in.room ∙ i.resting_room;
     }
 
@@ -172,7 +184,10 @@ indexed-dropped {slab} k c at done updates long capacity tag_out rest_out i =
       has_dues = passed flies by_due (λ j d. refl) updates _ out (none flies) i.has_dues;
       has_firsts = passed flies by_first (λ j d. refl) updates _ out (none flies) i.has_firsts;
       has_resting = taken rests by_last (λ j d. refl) updates c _ _ at (none rests) rest_out i.has_resting;
-      tags_room = record { room = tag_out.room ∙ i.tags_room.room ∙ sym capacity; fits = omega (arith, long, tag_out.fewer (i.has_tags.all k c at refl), i.tags_room.fits) };
+      tags_room = record {
+        room = tag_out.room ∙ i.tags_room.room ∙ sym capacity;
+        fits = omega (arith, long, tag_out.fewer (i.has_tags.all k c at refl), i.tags_room.fits);
+      };
       tickets_room = record { room = i.tickets_room.room ∙ sym capacity; fits = omega (arith, long, rest_less, i.tickets_room.fits) };
       dues_room = record { room = i.dues_room.room ∙ sym capacity; fits = omega (arith, long, rest_less, i.dues_room.fits) };
       firsts_room = record { room = i.firsts_room.room ∙ sym capacity; fits = omega (arith, long, rest_less, i.firsts_room.fits) };

@@ -23,7 +23,8 @@ lower-order = record {
 }
 
 -- what the best of a list and of the best so far has
-pub record Best (test : Outstanding → Bool) (before : Outstanding → Outstanding → Bool) (so_far : Option Outstanding) (commands : List Outstanding) (c : Outstanding) : Type 0 where
+pub record Best (test : Outstanding → Bool) (before : Outstanding → Outstanding → Bool) (so_far : Option Outstanding) (commands : List Outstanding)
+    (c : Outstanding) : Type 0 where
   pub from : (so_far ≡ Some c) ⊎ (Contains commands c × (test c ≡ true))
   pub first : (b : Outstanding) → so_far ≡ Some b → before b c ≡ false
   pub least : All (λ d. test d ≡ true → before d c ≡ false) commands

@@ -28,7 +28,8 @@ left-out slab k test entry c old new slots there kept only o = record {
       let entry_is : e ≡ entry k c = held.is ∙ ap (λ n. entry n held.command) same ∙ ap (entry k) (sym one) in
       given.1 entry_is;
   only = λ e in_new. o.only e (only e in_new).0;
-  all = λ slot d other at passes. kept (entry slot d) (λ same. other (sym (slots slot d) ∙ ap (λ (e : Entry). e.slot) same ∙ slots k c)) (o.all slot d at passes);
+  all = λ slot d other at passes. kept (entry slot d) (λ same. other (sym (slots slot d) ∙ ap (λ (e : Entry). e.slot) same ∙ slots k c))
+      (o.all slot d at passes);
 }
 
 -- none of an order stands in a slot
@@ -49,7 +50,8 @@ pub moved-but : (old new : Slab Outstanding) (k : ℕ) (slot : Option Outstandin
     → Updates old new k slot → IsOrderBut old k test entry entries → IsOrderBut new k test entry entries
 moved-but old new k slot test entry entries updates o = record {
   other = o.other;
-  only = λ e there. let held = o.only e there in record { command = held.command; there = updates.others e.slot (o.other e there) ∙ held.there; passes = held.passes; is = held.is };
+  only = λ e there. let held = o.only e there in
+      record { command = held.command; there = updates.others e.slot (o.other e there) ∙ held.there; passes = held.passes; is = held.is };
   all = λ j d other at passes. o.all j d other (sym (updates.others j other) ∙ at) passes;
 }
 

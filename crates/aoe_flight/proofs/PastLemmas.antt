@@ -33,11 +33,13 @@ pub past-finished : (latest ticket : ℕ) (commands after : List Outstanding) �
     → All (sent_by latest) commands → All (sent_by latest) after
 past-finished latest ticket commands after is past =
     rw is (All-map (sent_by latest) (change_of ticket after_finish) commands
-    (All-weaker (sent_by latest) (λ c. sent_by latest (change_of ticket after_finish c)) (λ c le. changed latest latest ticket after_finish c (flies_as ticket c) (omega arith) le le) commands past))
+    (All-weaker (sent_by latest) (λ c. sent_by latest (change_of ticket after_finish c))
+    (λ c le. changed latest latest ticket after_finish c (flies_as ticket c) (omega arith) le le) commands past))
 
 pub past-repeated : (latest ticket : ℕ) (now : Millis) (path : PathNo) (wait : Millis) (commands after : List Outstanding) → latest ≤ now.0
     → after ≡ map (change_of ticket (after_repeat now path wait)) commands
     → All (sent_by latest) commands → All (sent_by now.0) after
 past-repeated latest ticket now path wait commands after later is past =
     rw is (All-map (sent_by now.0) (change_of ticket (after_repeat now path wait)) commands
-    (All-weaker (sent_by latest) (λ c. sent_by now.0 (change_of ticket (after_repeat now path wait) c)) (λ c le. changed latest now.0 ticket (after_repeat now path wait) c (flies_as ticket c) later (omega arith) le) commands past))
+    (All-weaker (sent_by latest) (λ c. sent_by now.0 (change_of ticket (after_repeat now path wait) c))
+    (λ c le. changed latest now.0 ticket (after_repeat now path wait) c (flies_as ticket c) later (omega arith) le) commands past))

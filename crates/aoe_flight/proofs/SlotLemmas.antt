@@ -27,4 +27,9 @@ length-held (Some c ∷ slots) = sum_by-cons (λ (s : Option Outstanding). cond 
 
 pub live-shorter : (rest now : ℕ) (commands : List Outstanding) → length (live rest now commands) ≤ length commands
 live-shorter rest now commands =
-    omega (arith, length-filter (λ (c : Outstanding). not (is_over rest now c)) commands, count_by-le-length (λ (c : Outstanding). not (is_over rest now c)) commands)
+    omega (
+      arith,
+      length-filter (λ (c : Outstanding). not (is_over rest now c)) commands,
+      count_by-le-length
+          (λ (c : Outstanding). not (is_over rest now c)) commands,
+    )

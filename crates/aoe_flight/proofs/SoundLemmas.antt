@@ -106,7 +106,8 @@ flies-new ticket c commands after is flies =
     find-some (flies_as ticket) after (sym (list_any-IsPermutation (flies_as ticket) (c ∷ commands) after is) ∙ rw flies refl)
 
 abbrev pub table_of : ℕ → ℕ → ℕ → ℕ → ℕ → List Outstanding → FlightTable
-table_of room rest dead latest last_tag commands = record { room = room; rest = rest; dead = dead; latest = latest; last_tag = last_tag; commands = live rest latest commands }
+table_of room rest dead latest last_tag commands =
+    record { room = room; rest = rest; dead = dead; latest = latest; last_tag = last_tag; commands = live rest latest commands }
 
 -- the table shows its fields
 module _ {room rest dead latest last_tag : ℕ} (commands : List Outstanding) {table : FlightTable}

@@ -54,8 +54,11 @@ head-header_bytes h rest fits =
     let same = spelled (get_or h.dst.0 0 0) (get_or h.dst.0 1 0) (get_or h.dst.0 2 0) (get_or h.dst.0 3 0) (get_or h.dst.0 4 0) (get_or h.dst.0 5 0)
     (get_or h.src.0 0 0) (get_or h.src.0 1 0) (get_or h.src.0 2 0) (get_or h.src.0 3 0) (get_or h.src.0 4 0) (get_or h.src.0 5 0)
     h.version h.flags h.error h.id.major h.id.minor h.command h.tag rest fits.version fits.flags fits.major fits.tag in
-    let P : List ℕ → List ℕ → Type 0 = λ d s. head (header_bytes (record h { dst = record { 0 = d }; src = record { 0 = s } }) ++ rest) ≡ Some (record h { dst = record { 0 = d }; src = record { 0 = s } }) in
-    subst (λ (d : List ℕ). P d h.src.0) (sym (six-is h.dst.0 fits.dst)) (subst (λ (s : List ℕ). P (get_or h.dst.0 0 0 ∷ get_or h.dst.0 1 0 ∷ get_or h.dst.0 2 0 ∷ get_or h.dst.0 3 0 ∷ get_or h.dst.0 4 0 ∷ get_or h.dst.0 5 0 ∷ []) s) (sym (six-is h.src.0 fits.src)) same)
+    let P : List ℕ → List ℕ → Type 0 = λ d s. head (header_bytes (record h { dst = record { 0 = d }; src = record { 0 = s } }) ++ rest) ≡ Some
+    (record h { dst = record { 0 = d }; src = record { 0 = s } }) in
+    subst (λ (d : List ℕ). P d h.src.0) (sym (six-is h.dst.0 fits.dst))
+    (subst (λ (s : List ℕ). P (get_or h.dst.0 0 0 ∷ get_or h.dst.0 1 0 ∷ get_or h.dst.0 2 0 ∷ get_or h.dst.0 3 0 ∷ get_or h.dst.0 4 0 ∷ get_or h.dst.0 5 0 ∷
+    []) s) (sym (six-is h.src.0 fits.src)) same)
 
 pub head-spelled : (h : Header) (f : List ℕ) → f ≡ header_bytes h → Fits h → head f ≡ Some h
 head-spelled h f e fits = let P : List ℕ → Type 0 = λ g. head g ≡ Some h in subst P (append-nil (header_bytes h) ∙ sym e) (head-header_bytes h [] fits)
@@ -156,5 +159,6 @@ one-spelling h f small clear is =
     let tag_is : to_be_bytes w32 (from_be_bytes w32 (take 4 (drop 20 f))) ≡ take 4 (drop 20 f) =
     be_bytes_4 (take 4 (drop 20 f)) (from_be_bytes w32 (take 4 (drop 20 f))) four (part-small f 4 20 small) refl in
     let minor_is : take 2 (drop 18 f) ≡ get_or f 18 0 ∷ get_or f 19 0 ∷ [] = two-at f 18 (omega arith) in
-    subst P r.same (joined (take 6 f) (take 6 (drop 6 f)) (take 2 (drop 12 f)) _ (take 2 (drop 14 f)) _ (take 2 (drop 16 f)) _ (take 2 (drop 18 f)) _ (take 4 (drop 20 f)) _ (take 24 f)
+    subst P r.same (joined (take 6 f) (take 6 (drop 6 f)) (take 2 (drop 12 f)) _ (take 2 (drop 14 f)) _ (take 2 (drop 16 f)) _ (take 2 (drop 18 f)) _
+    (take 4 (drop 20 f)) _ (take 24 f)
     (pieces f) type_is flags_are (sym major_is) minor_is (sym tag_is))

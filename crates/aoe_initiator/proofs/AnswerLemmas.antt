@@ -61,7 +61,8 @@ not-answered : (host : Host) (c : HostCommand) (frame : List ℕ) (h : Header) �
 not-answered host c frame h is out = rw (is, out) refl
 
 pub untagged : (host : Host) (c : HostCommand) (frame : List ℕ) (h : Header) → head frame ≡ Some h → tagged h.tag c ≡ false → answer_to host c frame ≡ None
-untagged host c frame h is out = not-answered host c frame h is (and-false (is_response_to host h) (tagged h.tag c) (is_from (slice_get host.devices c.device.0) c.op h) out)
+untagged host c frame h is out =
+    not-answered host c frame h is (and-false (is_response_to host h) (tagged h.tag c) (is_from (slice_get host.devices c.device.0) c.op h) out)
 
 -- no command flies with a tag
 no-flyer : (cs : List HostCommand) (tag : ℕ) (c : HostCommand) → All (λ o. flies_with tag o ≡ false) (sent_of cs) → Contains cs c → tagged tag c ≡ false
@@ -74,7 +75,8 @@ no-flyer cs tag c none there = at c.sends refl
 pub all-untagged : (host : Host) (log : List Event) (frame : List ℕ) (h : Header) → head frame ≡ Some h
     → All (λ o. flies_with h.tag o ≡ false) (sent_of (commands log)) → All (λ c. answer_to host c frame ≡ None) (commands log)
 all-untagged host log frame h is none =
-    All-weaker (Contains (commands log)) (λ c. answer_to host c frame ≡ None) (λ c there. untagged host c frame h is (no-flyer (commands log) h.tag c none there)) (commands log) (All-contains_itself (commands log))
+    All-weaker (Contains (commands log)) (λ c. answer_to host c frame ≡ None)
+    (λ c there. untagged host c frame h is (no-flyer (commands log) h.tag c none there)) (commands log) (All-contains_itself (commands log))
 
 -- the command that flies with a tag
 pub record IsFlyer (cs : List HostCommand) (tag : ℕ) (t : Ticket) (c : HostCommand) : Type 0 where
@@ -121,7 +123,8 @@ only-flyer host log tag t c x m few f there flies = at x.sends refl
     at (Some s) is =
         let Q : Option Sending → Type 0 = λ o. (not x.done && has_tag tag o) ≡ true in
         let x_flies : flies_with tag (outstanding x s) ≡ true = subst Q is flies in
-        let same = tagged-once host.flight (sent_of (commands log)) tag (outstanding x s) (outstanding c f.s) m.sent few (sent-there (commands log) x s there is) x_flies (sent-there (commands log) c f.s f.there f.sends) f.flies in
+        let same = tagged-once host.flight (sent_of (commands log)) tag (outstanding x s) (outstanding c f.s) m.sent few
+        (sent-there (commands log) x s there is) x_flies (sent-there (commands log) c f.s f.there f.sends) f.flies in
         one-command (commands log) c x c.ticket.0 (only 0 (commands log) c m.tickets f.there) there (ap (λ (e : Outstanding). e.ticket.0) same) refl
 
 -- where the command that flies with the tag isn't answered, none is
@@ -133,7 +136,8 @@ none-answered host log frame h t c m is few f none =
   where
     each : (x : HostCommand) → Contains (commands log) x → answer_to host x frame ≡ None
     each x there = elim (cases_Bool (tagged h.tag x)) [
-      | inl flies ↦ let P : HostCommand → Type 0 = λ e. answer_to host e frame ≡ None in subst P (sym (only-flyer host log h.tag t c x m few f there flies)) none
+      | inl flies ↦ let P : HostCommand → Type 0 = λ e. answer_to host e frame ≡ None in
+          subst P (sym (only-flyer host log h.tag t c x m few f there flies)) none
       | inr out ↦ untagged host x frame h is out
     ]
 
@@ -143,7 +147,8 @@ pub flyer-placed : (host : Host) (log : List Event) (tag : ℕ) (t : Ticket) (c 
 flyer-placed host log tag t c m f missing =
     let waits = unfinished-there (commands log) c f.there f.waits in
     let inside = rw (← m.pending) at waits in
-    let found = Contains-map_from (λ (p : Pending). record { ticket = p.ticket; device = p.device; op = p.op }) host.pending (record { ticket = c.ticket; device = c.device; op = c.op }) inside in
+    let found = Contains-map_from (λ (p : Pending). record { ticket = p.ticket; device = p.device; op = p.op }) host.pending
+    (record { ticket = c.ticket; device = c.device; op = c.op }) inside in
     let other : nat_eq found.0.ticket.0 t.0 ≡ false = not-placed (λ (p : Pending). nat_eq p.ticket.0 t.0) host.pending found.0 missing found.1 in
     let same : found.0.ticket ≡ t = ap (λ (w : Waiting). w.ticket) found.2 ∙ f.ticket in
     let is : nat_eq found.0.ticket.0 t.0 ≡ true = eq-eqb found.0.ticket.0 t.0 (ap (λ (u : Ticket). u.0) same) in
@@ -155,7 +160,8 @@ pub flyer-pending : (host : Host) (log : List Event) (tag at : ℕ) (t : Ticket)
 flyer-pending host log tag at t c p m f found there =
     let is_ticket : p.ticket.0 ≡ t.0 = eqb-true p.ticket.0 t.0 (placed (λ (q : Pending). nat_eq q.ticket.0 t.0) host.pending at p found there) in
     let other = pending-command (commands log) host.pending at p m.pending there in
-    let same : other.0 ≡ c = one-command (commands log) c other.0 t.0 (only 0 (commands log) c m.tickets f.there) other.1.there (ap (λ (u : Ticket). u.0) other.1.ticket ∙ is_ticket) (ap (λ (u : Ticket). u.0) f.ticket) in
+    let same : other.0 ≡ c = one-command (commands log) c other.0 t.0 (only 0 (commands log) c m.tickets f.there) other.1.there
+    (ap (λ (u : Ticket). u.0) other.1.ticket ∙ is_ticket) (ap (λ (u : Ticket). u.0) f.ticket) in
     rw (← same) other.1
 
 pub not-from : (host : Host) (log : List Event) (frame : List ℕ) (h : Header) (p : Pending) (c : HostCommand) → IsPending (commands log) p c
@@ -182,7 +188,8 @@ answered-by host log frame h t p c a pending f is hears from says =
     let device : c.device.0 ≡ p.device.0 = ap (λ (d : DeviceNo). d.0) pending.device in
     let here : is_from (slice_get host.devices c.device.0) c.op h ≡ true = rw (device, pending.op) from in
     let yes_answered : is_answered host c h ≡ true =
-    all-true (is_response_to host h) (tagged h.tag c) (is_from (slice_get host.devices c.device.0) c.op h) hears (flyer-tagged (commands log) h.tag t c f) here in
+    all-true (is_response_to host h) (tagged h.tag c) (is_from (slice_get host.devices c.device.0) c.op h) hears
+    (flyer-tagged (commands log) h.tag t c f) here in
     rw (is, yes_answered) (rw pending.op says)
 
 pub not-from-at : (host : Host) (log : List Event) (frame : List ℕ) (h : Header) (t : Ticket) (at : ℕ) (from : Bool) (c : HostCommand) → Matches log host
@@ -194,7 +201,8 @@ not-from-at host log frame h t at from c m is few f found out says =
   where
     by_place : (o : Option Pending) → slice_get host.pending at ≡ o → IfSome o (λ p. from ≡ is_from (slice_get host.devices p.device.0) p.op h)
         → answer_to host c frame ≡ None
-    by_place None missing says_so = absurd (omega (arith, get-past host.pending at missing, placed-inside (λ (q : Pending). nat_eq q.ticket.0 t.0) host.pending at found))
+    by_place None missing says_so =
+        absurd (omega (arith, get-past host.pending at missing, placed-inside (λ (q : Pending). nat_eq q.ticket.0 t.0) host.pending at found))
     by_place (Some p) there says_so = not-from host log frame h p c (flyer-pending host log h.tag at t c p m f found there) is (sym says_so ∙ out)
 
 pub none-says : (host : Host) (log : List Event) (frame : List ℕ) (h : Header) (t : Ticket) (at : ℕ) (p : Pending) (c : HostCommand) → Matches log host
@@ -231,7 +239,8 @@ no-path host log h at p from m there hears is_true says none =
     let remote = place-of d.0.about.remotes.items h.src d.2 in
     let L : List Mac → Type 0 = λ l. slice_get l local.0 ≡ Some h.dst in
     let R : List Mac → Type 0 = λ l. slice_get l remote.0 ≡ Some h.src in
-    absurd (never_so (local.0 * length d.0.paths.remotes + remote.0) (pair-of-number d.0.paths local.0 remote.0 _ h.dst h.src refl (subst L (sym has.locals) local.1) (subst R (sym has.remotes) remote.1)))
+    absurd (never_so (local.0 * length d.0.paths.remotes + remote.0)
+    (pair-of-number d.0.paths local.0 remote.0 _ h.dst h.src refl (subst L (sym has.locals) local.1) (subst R (sym has.remotes) remote.1)))
 
 came-on : (host : Host) (log : List Event) (frame : List ℕ) (h : Header) (p : Pending) (c : HostCommand) (path : PathNo) → Matches log host
     → IsPending (commands log) p c → head frame ≡ Some h → is_from (slice_get host.devices p.device.0) p.op h ≡ true

@@ -29,7 +29,8 @@ pub is-placed : (host : Host) (log : List Event) (t : Ticket) (c : HostCommand) 
     → c.ticket.0 ≡ t.0 → place t host.pending ≢ None
 is-placed host log t c m there waits ticket missing =
     let entry : Waiting = record { ticket = c.ticket; device = c.device; op = c.op } in
-    let found = Contains-map_from (λ (p : Pending). record { ticket = p.ticket; device = p.device; op = p.op }) host.pending entry (rw m.pending (unfinished-there (commands log) c there waits)) in
+    let found = Contains-map_from (λ (p : Pending). record { ticket = p.ticket; device = p.device; op = p.op }) host.pending entry
+    (rw m.pending (unfinished-there (commands log) c there waits)) in
     let other = not-placed (λ (p : Pending). nat_eq p.ticket.0 t.0) host.pending found.0 missing found.1 in
     let same : found.0.ticket.0 ≡ t.0 = ap (λ (w : Waiting). w.ticket.0) found.2 ∙ ticket in
     let impossible : true ≡ false = sym (eq-eqb found.0.ticket.0 t.0 same) ∙ other in
@@ -42,7 +43,8 @@ pub pending-of : (host : Host) (log : List Event) (t : Ticket) (at : ℕ) (p : P
 pending-of host log t at p c m found there inside same =
     let is_ticket : p.ticket.0 ≡ t.0 = eqb-true _ _ (placed (λ (q : Pending). nat_eq q.ticket.0 t.0) host.pending at p found there) in
     let other = pending-command (commands log) host.pending at p m.pending there in
-    let is : other.0 ≡ c = one-command (commands log) c other.0 t.0 (only 0 (commands log) c m.tickets inside) other.1.there (ap (λ (u : Ticket). u.0) other.1.ticket ∙ is_ticket) same in
+    let is : other.0 ≡ c = one-command (commands log) c other.0 t.0 (only 0 (commands log) c m.tickets inside) other.1.there
+    (ap (λ (u : Ticket). u.0) other.1.ticket ∙ is_ticket) same in
     rw (← is) other.1
 
 pub find-flies : (test : Outstanding → Bool) (xs : List Outstanding) (c : Outstanding) → Contains xs c → test c ≡ true → IsSome (find test xs)
@@ -81,7 +83,8 @@ module _ (life now : ℕ) (cs : List HostCommand) where
       → Contains (clear_tickets life now (entered_at n cs)) c.ticket.0
   clear-here n c there at_n is =
       let entered = Contains-map as_entered _ c (Contains-filter (is_at n) cs c there (eq-eqb c.device.0 n at_n)) in
-      Contains-map (λ (d : Command). d.ticket.0) _ (as_entered c) (Contains-filter (is_clear life now (entered_at n cs)) _ (as_entered c) entered (rw (← at_n) is))
+      Contains-map (λ (d : Command). d.ticket.0) _ (as_entered c)
+      (Contains-filter (is_clear life now (entered_at n cs)) _ (as_entered c) entered (rw (← at_n) is))
 
   clear-there : (n k : ℕ) (devices : List Device) (c : HostCommand) → Contains cs c → c.device.0 ≡ n + k → k < length devices → is_clear_at life now cs c ≡ true
       → Contains (all_clear life now cs n devices) c.ticket.0
@@ -117,7 +120,8 @@ clear_in host log = all_clear host.life.requests.0 host.clock (commands log) 0 h
 clear-all : (host : Host) (log : List Event) (c : HostCommand) → Matches log host → Contains (commands log) c
     → is_clear_at host.life.requests.0 host.clock (commands log) c ≡ true → Contains (clear_in host log) c.ticket.0
 clear-all host log c m there is =
-    clear-there host.life.requests.0 host.clock (commands log) 0 c.device.0 host.devices c there (omega arith) (All-contains (λ x. x.device.0 < length host.devices) (commands log) c m.attached there) is
+    clear-there host.life.requests.0 host.clock (commands log) 0 c.device.0 host.devices c there (omega arith)
+    (All-contains (λ x. x.device.0 < length host.devices) (commands log) c m.attached there) is
 
 -- the clear command with the lowest ticket
 pub record IsLowestClear (host : Host) (log : List Event) (t : Ticket) (c : HostCommand) : Type 0 where
@@ -132,7 +136,8 @@ lowest-clear host log t m lowest =
       record {
         is = found.1;
         first = All-weaker (Contains (commands log)) (λ other. is_clear_at host.life.requests.0 host.clock (commands log) other ≡ true → t.0 ≤ other.ticket.0)
-            (λ other inside is. All-contains (λ n. t.0 ≤ n) (clear_in host log) other.ticket.0 lowest.1 (clear-all host log other m inside is)) (commands log) (All-contains_itself (commands log));
+            (λ other inside is. All-contains (λ n. t.0 ≤ n) (clear_in host log) other.ticket.0 lowest.1 (clear-all host log other m inside is)) (commands log)
+            (All-contains_itself (commands log));
       },
     )
 
@@ -158,7 +163,8 @@ quiet-full host time full log m none = record { nothing_due = none; nothing_clea
 quiet-clear : (host : Host) (log : List Event) (lowest : Option Ticket) → Matches log host → All (λ o. is_due host.clock o ≡ false) (sent_of (commands log))
     → IsLowest (clear_in host log) lowest
     → IfSome lowest (λ t. place t host.pending ≡ None) → IsQuiet host (commands log)
-quiet-clear host log None m none lowest missing = record { nothing_due = none; nothing_clear = inr (All-weaker (Contains (commands log)) _ each (commands log) (All-contains_itself (commands log))) }
+quiet-clear host log None m none lowest missing =
+    record { nothing_due = none; nothing_clear = inr (All-weaker (Contains (commands log)) _ each (commands log) (All-contains_itself (commands log))) }
   where
     each : (c : HostCommand) → Contains (commands log) c → is_clear_at host.life.requests.0 host.clock (commands log) c ≡ false
     each c there = false_from_ne_true _ (λ is. let impossible = rw lowest at (clear-all host log c m there is) in omega (arith, impossible.1))
@@ -166,13 +172,17 @@ quiet-clear host log (Some t) m none lowest missing =
     let found = lowest-clear host log t m lowest in
     let c = found.0 in
     let clear = found.1.is in
-    absurd (is-placed host log t c m clear.there (waits c (clear-unsent host.life.requests.0 host.clock (commands log) c clear.clear) clear.there) clear.same missing)
+    absurd (is-placed host log t c m clear.there
+    (waits c (clear-unsent host.life.requests.0 host.clock (commands log) c clear.clear) clear.there) clear.same missing)
   where
     waits : (c : HostCommand) → c.sends ≡ None → Contains (commands log) c → c.done ≡ false
-    waits c unsent there = false_from_ne_true _ (λ done. let flew = rw unsent at (All-contains (λ x. x.done ≡ true → IsSome x.sends) (commands log) c m.flew there done) in cc)
+    waits c unsent there = false_from_ne_true _
+        (λ done. let flew = rw unsent at (All-contains (λ x. x.done ≡ true → IsSome x.sends) (commands log) c m.flew there done) in cc)
 
 pub quiet-exit : {T : Type 0} (o : Option T) (old : Host) → InTime old
-    → (is_full old ≡ false → (lowest : Option Ticket) × ((life : ℕ) (cs : List HostCommand) → RecallAll life cs 0 old.devices → IsLowest (all_clear life old.clock cs 0 old.devices) lowest) × IfSome lowest (λ t. place t old.pending ≡ None))
+    → (is_full old ≡ false → (lowest : Option Ticket)
+    × ((life : ℕ) (cs : List HostCommand) → RecallAll life cs 0 old.devices → IsLowest (all_clear life old.clock cs 0 old.devices) lowest)
+    × IfSome lowest (λ t. place t old.pending ≡ None))
     → IfNone o (IsQuietIdle old)
 quiet-exit (Some x) old time stuck = tt
 quiet-exit None old time stuck = λ log m none. elim (cases_Bool (is_full old)) [

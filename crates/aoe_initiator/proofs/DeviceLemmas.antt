@@ -29,13 +29,15 @@ hold-sent t entered ticket now later recalls = recalls-after_stage t.life t.late
 
 hold-finished : (t : HoldTable) (entered : List Command) (ticket : ℕ) → Recalls t entered
     → Recalls (after_finish t ticket) (after_stage ticket stage_finished entered)
-hold-finished t entered ticket recalls = recalls-after_stage t.life t.latest t.latest ticket stage_finished t.commands entered (omega arith) (λ last. refl) recalls
+hold-finished t entered ticket recalls = recalls-after_stage t.life t.latest t.latest ticket stage_finished t.commands entered (omega arith)
+    (λ last. refl) recalls
 
 hold-at : (t : HoldTable) (entered : List Command) (now : ℕ) → t.latest ≤ now → Recalls t entered → Recalls (at_time t now) entered
 hold-at t entered now later recalls = live-same t.life t.latest now t.commands entered later recalls
 
 hold-entered : (t : HoldTable) (entered : List Command) (c : Command) → Recalls t entered → Recalls (with_command t c) (entered ++ c ∷ [])
-hold-entered t entered c recalls = recalls-enter t.life t.latest c (live t.life t.latest t.commands) entered (live-live t.life t.latest t.latest t.commands (omega arith) ∙ recalls)
+hold-entered t entered c recalls = recalls-enter t.life t.latest c (live t.life t.latest t.commands) entered
+    (live-live t.life t.latest t.latest t.commands (omega arith) ∙ recalls)
 
 recalls-of : (t : HoldTable) (one other : List Command) → one ≡ other → Recalls t one → Recalls t other
 recalls-of t one other same recalls = recalls ∙ ap (live t.life t.latest) same
@@ -57,7 +59,8 @@ pub All-change_at : (P : Device → Type 0) (n : ℕ) (change : Device → Devic
     → All P (change_at n change devices)
 All-change_at P n change [] keeps all = all
 All-change_at P zero change (d ∷ devices) keeps all = All-cons P (change d) devices (keeps d (All-head P d devices all)) (All-tail P d devices all)
-All-change_at P (suc n) change (d ∷ devices) keeps all = All-cons P d (change_at n change devices) (All-head P d devices all) (All-change_at P n change devices keeps (All-tail P d devices all))
+All-change_at P (suc n) change (d ∷ devices) keeps all = All-cons P d (change_at n change devices) (All-head P d devices all)
+    (All-change_at P n change devices keeps (All-tail P d devices all))
 
 -- an element that was read and changed is put back
 pub set-change_at : (devices : List Device) (n : ℕ) (d : Device) (change : Device → Device) → n < length devices → d ≡ get_or devices n d
@@ -75,9 +78,11 @@ recall-elsewhere life n t tag now path ts cs [] before recalls = recalls
 recall-elsewhere life n t tag now path ts cs (d ∷ devices) before recalls = (
   recalls.0,
   recalls-of d.holds _ _ (sym (entered-others n t (command_sent tag now path ts) cs (send-keeps tag now path ts)
-      (All-weaker (λ x. x.ticket.0 ≡ t.0 → x.device.0 < n) (λ x. x.ticket.0 ≡ t.0 → x.device.0 ≢ n) (λ x less same at_n. absurd (omega (arith, less same, at_n))) cs before))) recalls.1,
+      (All-weaker (λ x. x.ticket.0 ≡ t.0 → x.device.0 < n) (λ x. x.ticket.0 ≡ t.0 → x.device.0 ≢ n)
+      (λ x less same at_n. absurd (omega (arith, less same, at_n))) cs before))) recalls.1,
   recall-elsewhere life (n + 1) t tag now path ts cs devices
-      (All-weaker (λ x. x.ticket.0 ≡ t.0 → x.device.0 < n) (λ x. x.ticket.0 ≡ t.0 → x.device.0 < n + 1) (λ x less same. omega (arith, less same)) cs before) recalls.2,
+      (All-weaker (λ x. x.ticket.0 ≡ t.0 → x.device.0 < n) (λ x. x.ticket.0 ≡ t.0 → x.device.0 < n + 1) (λ x less same. omega (arith, less same)) cs before)
+      recalls.2,
 )
 
 pub recall-sent : (life n k : ℕ) (t : Ticket) (tag : ℕ) (now : Millis) (path : PathNo) (ts : ℕ → ℕ) (missed : Option PathNo) (cs : List HostCommand)
@@ -87,16 +92,20 @@ pub recall-sent : (life n k : ℕ) (t : Ticket) (tag : ℕ) (now : Millis) (path
 recall-sent life n k t tag now path ts missed cs [] place open_ times recalls = recalls
 recall-sent life n zero t tag now path ts missed cs (d ∷ devices) place open_ times recalls = (
   recalls.0,
-  recalls-of (after_send d.holds t.0 now) _ _ (sym (entered-sent n t tag now path ts cs open_)) (hold-sent d.holds (entered_at n cs) t.0 now (All-head (λ e. e.holds.latest ≤ now.0) d devices times) recalls.1),
+  recalls-of (after_send d.holds t.0 now) _ _ (sym (entered-sent n t tag now path ts cs open_))
+      (hold-sent d.holds (entered_at n cs) t.0 now (All-head (λ e. e.holds.latest ≤ now.0) d devices times) recalls.1),
   recall-elsewhere life (n + 1) t tag now path ts cs devices
-      (All-weaker (λ x. x.ticket.0 ≡ t.0 → x.device.0 ≡ n + zero) (λ x. x.ticket.0 ≡ t.0 → x.device.0 < n + 1) (λ x is same. omega (arith, is same)) cs place) recalls.2,
+      (All-weaker (λ x. x.ticket.0 ≡ t.0 → x.device.0 ≡ n + zero) (λ x. x.ticket.0 ≡ t.0 → x.device.0 < n + 1) (λ x is same. omega (arith, is same)) cs place)
+      recalls.2,
 )
 recall-sent life n (suc k) t tag now path ts missed cs (d ∷ devices) place open_ times recalls = (
   recalls.0,
   recalls-of d.holds _ _ (sym (entered-others n t (command_sent tag now path ts) cs (send-keeps tag now path ts)
-      (All-weaker (λ x. x.ticket.0 ≡ t.0 → x.device.0 ≡ n + suc k) (λ x. x.ticket.0 ≡ t.0 → x.device.0 ≢ n) (λ x is same at_n. absurd (omega (arith, is same, at_n))) cs place))) recalls.1,
+      (All-weaker (λ x. x.ticket.0 ≡ t.0 → x.device.0 ≡ n + suc k) (λ x. x.ticket.0 ≡ t.0 → x.device.0 ≢ n)
+      (λ x is same at_n. absurd (omega (arith, is same, at_n))) cs place))) recalls.1,
   recall-sent life (n + 1) k t tag now path ts missed cs devices
-      (All-weaker (λ x. x.ticket.0 ≡ t.0 → x.device.0 ≡ n + suc k) (λ x. x.ticket.0 ≡ t.0 → x.device.0 ≡ n + 1 + k) (λ x is same. omega (arith, is same)) cs place)
+      (All-weaker (λ x. x.ticket.0 ≡ t.0 → x.device.0 ≡ n + suc k) (λ x. x.ticket.0 ≡ t.0 → x.device.0 ≡ n + 1 + k)
+      (λ x is same. omega (arith, is same)) cs place)
       open_ (All-tail (λ e. e.holds.latest ≤ now.0) d devices times) recalls.2,
 )
 
@@ -108,9 +117,11 @@ recall-elsewhere-ended life n t cs [] before recalls = recalls
 recall-elsewhere-ended life n t cs (d ∷ devices) before recalls = (
   recalls.0,
   recalls-of d.holds _ _ (sym (entered-others n t after_end cs end-keeps
-      (All-weaker (λ x. x.ticket.0 ≡ t.0 → x.device.0 < n) (λ x. x.ticket.0 ≡ t.0 → x.device.0 ≢ n) (λ x less same at_n. absurd (omega (arith, less same, at_n))) cs before))) recalls.1,
+      (All-weaker (λ x. x.ticket.0 ≡ t.0 → x.device.0 < n) (λ x. x.ticket.0 ≡ t.0 → x.device.0 ≢ n)
+      (λ x less same at_n. absurd (omega (arith, less same, at_n))) cs before))) recalls.1,
   recall-elsewhere-ended life (n + 1) t cs devices
-      (All-weaker (λ x. x.ticket.0 ≡ t.0 → x.device.0 < n) (λ x. x.ticket.0 ≡ t.0 → x.device.0 < n + 1) (λ x less same. omega (arith, less same)) cs before) recalls.2,
+      (All-weaker (λ x. x.ticket.0 ≡ t.0 → x.device.0 < n) (λ x. x.ticket.0 ≡ t.0 → x.device.0 < n + 1) (λ x less same. omega (arith, less same)) cs before)
+      recalls.2,
 )
 
 pub recall-ended : (life n k : ℕ) (t : Ticket) (came : Option Arrival) (cs : List HostCommand) (devices : List Device)
@@ -121,14 +132,17 @@ recall-ended life n zero t came cs (d ∷ devices) place recalls = (
   recalls.0,
   recalls-of (after_finish d.holds t.0) _ _ (sym (entered-ended n t cs)) (hold-finished d.holds (entered_at n cs) t.0 recalls.1),
   recall-elsewhere-ended life (n + 1) t cs devices
-      (All-weaker (λ x. x.ticket.0 ≡ t.0 → x.device.0 ≡ n + zero) (λ x. x.ticket.0 ≡ t.0 → x.device.0 < n + 1) (λ x is same. omega (arith, is same)) cs place) recalls.2,
+      (All-weaker (λ x. x.ticket.0 ≡ t.0 → x.device.0 ≡ n + zero) (λ x. x.ticket.0 ≡ t.0 → x.device.0 < n + 1) (λ x is same. omega (arith, is same)) cs place)
+      recalls.2,
 )
 recall-ended life n (suc k) t came cs (d ∷ devices) place recalls = (
   recalls.0,
   recalls-of d.holds _ _ (sym (entered-others n t after_end cs end-keeps
-      (All-weaker (λ x. x.ticket.0 ≡ t.0 → x.device.0 ≡ n + suc k) (λ x. x.ticket.0 ≡ t.0 → x.device.0 ≢ n) (λ x is same at_n. absurd (omega (arith, is same, at_n))) cs place))) recalls.1,
+      (All-weaker (λ x. x.ticket.0 ≡ t.0 → x.device.0 ≡ n + suc k) (λ x. x.ticket.0 ≡ t.0 → x.device.0 ≢ n)
+      (λ x is same at_n. absurd (omega (arith, is same, at_n))) cs place))) recalls.1,
   recall-ended life (n + 1) k t came cs devices
-      (All-weaker (λ x. x.ticket.0 ≡ t.0 → x.device.0 ≡ n + suc k) (λ x. x.ticket.0 ≡ t.0 → x.device.0 ≡ n + 1 + k) (λ x is same. omega (arith, is same)) cs place) recalls.2,
+      (All-weaker (λ x. x.ticket.0 ≡ t.0 → x.device.0 ≡ n + suc k) (λ x. x.ticket.0 ≡ t.0 → x.device.0 ≡ n + 1 + k)
+      (λ x is same. omega (arith, is same)) cs place) recalls.2,
 )
 
 -- ---- a submission
@@ -151,7 +165,8 @@ pub recall-entered : (life n k : ℕ) (cs : List HostCommand) (t : Ticket) (devi
 recall-entered life n k cs t device op [] place recalls = recalls
 recall-entered life n zero cs t device op (d ∷ devices) place recalls = (
   recalls.0,
-  recalls-of (with_command d.holds (new_command t (kind_of op) (span_of op))) _ _ (sym (entered-submitted n cs t device op (omega (arith, place)))) (hold-entered d.holds (entered_at n cs) (new_command t (kind_of op) (span_of op)) recalls.1),
+  recalls-of (with_command d.holds (new_command t (kind_of op) (span_of op))) _ _ (sym (entered-submitted n cs t device op (omega (arith, place))))
+      (hold-entered d.holds (entered_at n cs) (new_command t (kind_of op) (span_of op)) recalls.1),
   recall-elsewhere-entered life (n + 1) cs t device op devices (omega (arith, place)) recalls.2,
 )
 recall-entered life n (suc k) cs t device op (d ∷ devices) place recalls = (
@@ -183,12 +198,14 @@ lower-append xs ys (Some a) (Some b) la lb = at (nat_lt b.0 a.0) refl
     at true is =
         let less : b.0 < a.0 = ltb-true b.0 a.0 is in (
           Contains-append_right xs ys b.0 lb.0,
-          All-append (λ other. b.0 ≤ other) xs ys (All-weaker (λ other. a.0 ≤ other) (λ other. b.0 ≤ other) (λ other above. omega (arith, less, above)) xs la.1) lb.1,
+          All-append (λ other. b.0 ≤ other) xs ys
+              (All-weaker (λ other. a.0 ≤ other) (λ other. b.0 ≤ other) (λ other above. omega (arith, less, above)) xs la.1) lb.1,
         )
     at false is =
         let le : a.0 ≤ b.0 = ltb-false b.0 a.0 is in (
           Contains-append_left xs ys a.0 la.0,
-          All-append (λ other. a.0 ≤ other) xs ys la.1 (All-weaker (λ other. b.0 ≤ other) (λ other. a.0 ≤ other) (λ other above. omega (arith, le, above)) ys lb.1),
+          All-append (λ other. a.0 ≤ other) xs ys la.1
+              (All-weaker (λ other. b.0 ≤ other) (λ other. a.0 ≤ other) (λ other above. omega (arith, le, above)) ys lb.1),
         )
 
 recall-get : (life n : ℕ) (cs : List HostCommand) (devices : List Device) (i : ℕ) (d : Device) → i < length devices → RecallAll life cs n devices
@@ -211,7 +228,8 @@ clear-more life now n cs (x ∷ devices) zero inside =
 clear-more life now n cs (x ∷ devices) (suc i) inside =
     let rest = clear-more life now (n + 1) cs devices i (omega (arith, inside)) in
     let same : n + suc i ≡ n + 1 + i = omega arith in
-    rw (same, rest) (sym (append_assoc (clear_tickets life now (entered_at n cs)) (all_clear life now cs (n + 1) (take i devices)) (clear_tickets life now (entered_at (n + 1 + i) cs))))
+    rw (same, rest) (sym (append_assoc (clear_tickets life now (entered_at n cs)) (all_clear life now cs (n + 1) (take i devices))
+    (clear_tickets life now (entered_at (n + 1 + i) cs))))
 
 -- one more device has its turn
 pub mapped-get : (f : Device → Device) (xs : List Device) (i : ℕ) (d : Device) → i < length xs → get_or (map f (take i xs) ++ drop i xs) i d ≡ get_or xs i d
@@ -250,7 +268,8 @@ lowest-after xs i now item lowest found after inside read before here is life cs
     let of_item = rw (← read) at known in
     let found_is : IsLowest (clear_tickets life now (entered_at (0 + i) cs)) found = rw (← of_item.0) (here (entered_at (0 + i) cs) of_item.1) in
     let next : i + 1 ≡ suc i = add-one i in
-    rw (next, is) (rw (clear-more life now 0 cs xs i inside) (lower-append (all_clear life now cs 0 (take i xs)) (clear_tickets life now (entered_at (0 + i) cs)) lowest found (before life cs recalls) found_is))
+    rw (next, is) (rw (clear-more life now 0 cs xs i inside)
+    (lower-append (all_clear life now cs 0 (take i xs)) (clear_tickets life now (entered_at (0 + i) cs)) lowest found (before life cs recalls) found_is))
 
 -- what the search at one device gives
 pub lowest-of : (table : HoldTable) (now : ℕ) (found : Option Ticket) → IfSome found

@@ -109,7 +109,11 @@ sent-mapped : (change : HostCommand → HostCommand) (f : Outstanding → Outsta
     → All (λ c. as_sent (change c) ≡ option_map f (as_sent c)) cs → sent_of (map change cs) ≡ map f (sent_of cs)
 sent-mapped change f [] all = refl
 sent-mapped change f (c ∷ cs) all =
-    rw (All-head (λ x. as_sent (change x) ≡ option_map f (as_sent x)) c cs all, sent-mapped change f cs (All-tail (λ x. as_sent (change x) ≡ option_map f (as_sent x)) c cs all))
+    rw (
+      All-head (λ x. as_sent (change x) ≡ option_map f (as_sent x)) c cs all,
+      sent-mapped change f cs
+          (All-tail (λ x. as_sent (change x) ≡ option_map f (as_sent x)) c cs all),
+    )
     (sym (map-cons_option f (as_sent c) (sent_of cs)))
 
 made : Ticket → DeviceNo → Op → Option Sending → Bool → HostCommand
@@ -132,13 +136,15 @@ sent-ended-one t ticket device op (Some s) done = elim (cases_Bool (nat_eq ticke
 ]
   where
     ended : (d : Bool) → Some (outstanding (record { ticket = ticket; device = device; op = op; sends = Some s; done = true }) s)
-        ≡ Some (cond (not d && true) (after_finish (outstanding (record { ticket = ticket; device = device; op = op; sends = Some s; done = d }) s)) (outstanding (record { ticket = ticket; device = device; op = op; sends = Some s; done = d }) s))
+        ≡ Some (cond (not d && true) (after_finish (outstanding (record { ticket = ticket; device = device; op = op; sends = Some s; done = d }) s))
+        (outstanding (record { ticket = ticket; device = device; op = op; sends = Some s; done = d }) s))
     ended true = refl
     ended false = refl
 
 pub sent-ended : (t : Ticket) (cs : List HostCommand) → sent_of (map (at_ticket t after_end) cs) ≡ map (change_of t.0 after_finish) (sent_of cs)
 unfolding made
-sent-ended t cs = sent-mapped (at_ticket t after_end) (change_of t.0 after_finish) cs (λ k d below. sent-ended-one t (get_or cs k d).ticket (get_or cs k d).device (get_or cs k d).op (get_or cs k d).sends (get_or cs k d).done)
+sent-ended t cs = sent-mapped (at_ticket t after_end) (change_of t.0 after_finish) cs
+    (λ k d below. sent-ended-one t (get_or cs k d).ticket (get_or cs k d).device (get_or cs k d).op (get_or cs k d).sends (get_or cs k d).done)
 
 sent-repeated-one : (t : Ticket) (tag : ℕ) (now : Millis) (path : PathNo) (ts : ℕ → ℕ) (s : Sending) (device : DeviceNo) (op : Op)
     → as_sent (after_send tag now path ts (made t device op (Some s) false))
@@ -165,7 +171,8 @@ pub sent-repeated : (c : HostCommand) (s : Sending) (tag : ℕ) (now : Millis) (
 unfolding made
 sent-repeated c s tag now path ts cs sends flying alone =
     sent-mapped (at_ticket c.ticket (after_send tag now path ts)) (change_of c.ticket.0 f) cs
-    (All-weaker (λ x. x.ticket.0 ≡ c.ticket.0 → x ≡ c) (λ x. as_sent (at_ticket c.ticket (after_send tag now path ts) x) ≡ option_map (change_of c.ticket.0 f) (as_sent x)) each cs alone)
+    (All-weaker (λ x. x.ticket.0 ≡ c.ticket.0 → x ≡ c)
+    (λ x. as_sent (at_ticket c.ticket (after_send tag now path ts) x) ≡ option_map (change_of c.ticket.0 f) (as_sent x)) each cs alone)
   where
     f : Outstanding → Outstanding
     f = after_repeat now path (record { 0 = wait_of (ts c.device.0) (s.count + 1) })
@@ -217,7 +224,8 @@ sent-started n c tag now path ts (x ∷ cs) up there fresh waits = elim (Contain
         → SameCommands (launched c.ticket tag now path (record { 0 = wait_of (ts c.device.0) 1 }) ∷ cons_option o (sent_of cs))
         (cons_option o (sent_of (map (at_ticket c.ticket (after_send tag now path ts)) cs)))
     with_front None rest = rest
-    with_front (Some o) rest = λ test. count-swap test (launched c.ticket tag now path (record { 0 = wait_of (ts c.device.0) 1 })) o (sent_of cs) (sent_of (map (at_ticket c.ticket (after_send tag now path ts)) cs)) (rest test)
+    with_front (Some o) rest = λ test. count-swap test (launched c.ticket tag now path (record { 0 = wait_of (ts c.device.0) 1 })) o (sent_of cs)
+        (sent_of (map (at_ticket c.ticket (after_send tag now path ts)) cs)) (rest test)
 
 pub sent-submitted : (cs : List HostCommand) (t : Ticket) (device : DeviceNo) (op : Op) → sent_of (cs ++ submitted t device op ∷ []) ≡ sent_of cs
 sent-submitted cs t device op = filter_map-append as_sent cs (submitted t device op ∷ []) ∙ append-nil (sent_of cs)
@@ -250,7 +258,8 @@ pub entered-others : (n : ℕ) (t : Ticket) (change : HostCommand → HostComman
 entered-others n t change [] keeps all = refl
 entered-others n t change (c ∷ cs) keeps all =
     rw (at-kept n t change c keeps)
-    (at (is_at n c) refl (All-head (λ x. x.ticket.0 ≡ t.0 → x.device.0 ≢ n) c cs all) (entered-others n t change cs keeps (All-tail (λ x. x.ticket.0 ≡ t.0 → x.device.0 ≢ n) c cs all)))
+    (at (is_at n c) refl (All-head (λ x. x.ticket.0 ≡ t.0 → x.device.0 ≢ n) c cs all)
+    (entered-others n t change cs keeps (All-tail (λ x. x.ticket.0 ≡ t.0 → x.device.0 ≢ n) c cs all)))
   where
     same : is_at n c ≡ true → (c.ticket.0 ≡ t.0 → c.device.0 ≢ n) → at_ticket t change c ≡ c
     same here elsewhere =
@@ -280,14 +289,17 @@ pub entered-sent : (n : ℕ) (t : Ticket) (tag : ℕ) (now : Millis) (path : Pat
     → entered_at n (map (at_ticket t (after_send tag now path ts)) cs) ≡ after_stage t.0 (stage_sent now) (entered_at n cs)
 entered-sent n t tag now path ts cs waits =
     entered-mapped n t (after_send tag now path ts) (with_stage t.0 (stage_sent now)) cs (send-keeps tag now path ts)
-    (All-weaker (λ x. x.ticket.0 ≡ t.0 → x.done ≡ false) (λ x. is_at n x ≡ true → as_entered (at_ticket t (after_send tag now path ts) x) ≡ with_stage t.0 (stage_sent now) (as_entered x)) (λ x open_ _. each x open_) cs waits)
+    (All-weaker (λ x. x.ticket.0 ≡ t.0 → x.done ≡ false)
+    (λ x. is_at n x ≡ true → as_entered (at_ticket t (after_send tag now path ts) x) ≡ with_stage t.0 (stage_sent now) (as_entered x))
+    (λ x open_ _. each x open_) cs waits)
   where
     each : (x : HostCommand) → (x.ticket.0 ≡ t.0 → x.done ≡ false) → as_entered (at_ticket t (after_send tag now path ts) x)
         ≡ with_stage t.0 (stage_sent now) (as_entered x)
     each x open_ = elim (cases_Bool (nat_eq x.ticket.0 t.0)) [
       | inl same ↦
           let waits_still : x.done ≡ false = open_ (eqb-true x.ticket.0 t.0 same) in
-          rw (same, waits_still) (ap (λ (g : Stage). record { ticket = x.ticket; kind = kind_of x.op; span = span_of x.op; stage = g }) (stage-sent-one now tag path (ts x.device.0) x.sends))
+          rw (same, waits_still) (ap (λ (g : Stage). record { ticket = x.ticket; kind = kind_of x.op; span = span_of x.op; stage = g })
+          (stage-sent-one now tag path (ts x.device.0) x.sends))
       | inr other ↦ rw other refl
     ]
 
@@ -297,7 +309,8 @@ entered-ended n t cs = entered-mapped n t after_end (with_stage t.0 stage_finish
   where
     each : (x : HostCommand) → as_entered (at_ticket t after_end x) ≡ with_stage t.0 stage_finished (as_entered x)
     each x = elim (cases_Bool (nat_eq x.ticket.0 t.0)) [
-      | inl same ↦ rw same (ap (λ (g : Stage). record { ticket = x.ticket; kind = kind_of x.op; span = span_of x.op; stage = g }) (stage-ended-one x.sends x.done))
+      | inl same ↦ rw same (ap (λ (g : Stage). record { ticket = x.ticket; kind = kind_of x.op; span = span_of x.op; stage = g })
+          (stage-ended-one x.sends x.done))
       | inr other ↦ rw other refl
     ]
 
@@ -325,7 +338,14 @@ unfinished-sent t tag now path ts [] = refl
 unfinished-sent t tag now path ts (c ∷ cs) = at (nat_eq c.ticket.0 t.0) c.done (unfinished-sent t tag now path ts cs)
   where
     at : (b d : Bool) → unfinished (map (at_ticket t (after_send tag now path ts)) cs) ≡ unfinished cs
-        → unfinished (cond b (record { ticket = c.ticket; device = c.device; op = c.op; sends = Some (one_more tag now path (ts c.device.0) c.sends); done = d }) (record { ticket = c.ticket; device = c.device; op = c.op; sends = c.sends; done = d }) ∷ map (at_ticket t (after_send tag now path ts)) cs)
+        → unfinished (cond b (record {
+          ticket = c.ticket;
+          device = c.device;
+          op = c.op;
+          sends = Some (one_more tag now path (ts c.device.0) c.sends);
+          done = d;
+        }) (record { ticket = c.ticket; device = c.device; op = c.op; sends = c.sends; done = d }) ∷ map
+        (at_ticket t (after_send tag now path ts)) cs)
         ≡ unfinished (record { ticket = c.ticket; device = c.device; op = c.op; sends = c.sends; done = d } ∷ cs)
     at true true rest = rest
     at false true rest = rest
@@ -397,8 +417,10 @@ unfinished-ended n t (c ∷ cs) at d up inside is = by_done c.done refl at insid
     by_done : (b : Bool) → c.done ≡ b → (k : ℕ)
         → k < length {A = Waiting}
         (map (λ e. record { ticket = e.ticket; device = e.device; op = e.op }) (cond (not b) (c ∷ filter (λ e. not e.done) cs) (filter (λ e. not e.done) cs)))
-        → (get_or {A = Waiting} (map (λ e. record { ticket = e.ticket; device = e.device; op = e.op }) (cond (not b) (c ∷ filter (λ e. not e.done) cs) (filter (λ e. not e.done) cs))) k d).ticket.0 ≡ t.0
-        → ((j : ℕ) → j < length (unfinished cs) → (get_or (unfinished cs) j d).ticket.0 ≡ t.0 → remove (unfinished cs) j ≡ unfinished (map (at_ticket t after_end) cs))
+        → (get_or {A = Waiting} (map (λ e. record { ticket = e.ticket; device = e.device; op = e.op })
+        (cond (not b) (c ∷ filter (λ e. not e.done) cs) (filter (λ e. not e.done) cs))) k d).ticket.0 ≡ t.0
+        → ((j : ℕ) → j < length (unfinished cs) → (get_or (unfinished cs) j d).ticket.0 ≡ t.0
+        → remove (unfinished cs) j ≡ unfinished (map (at_ticket t after_end) cs))
         → remove {X = Waiting}
         (map (λ e. record { ticket = e.ticket; device = e.device; op = e.op }) (cond (not b) (c ∷ filter (λ e. not e.done) cs) (filter (λ e. not e.done) cs))) k
         ≡ unfinished (map (at_ticket t after_end) (c ∷ cs))
@@ -414,7 +436,8 @@ unfinished-ended n t (c ∷ cs) at d up inside is = by_done c.done refl at insid
         let above : c.ticket.0 < (get_or (unfinished cs) k d).ticket.0 = above-waits c.ticket.0 cs up.1 k d inside_rest in
         let other : nat_eq c.ticket.0 t.0 ≡ false = ne_eqb c.ticket.0 t.0 (λ equal. absurd (omega (arith, above, there, equal))) in
         let stays : at_ticket t after_end c ≡ c = rw other refl in
-        let kept : unfinished (at_ticket t after_end c ∷ map (at_ticket t after_end) cs) ≡ record { ticket = c.ticket; device = c.device; op = c.op } ∷ unfinished (map (at_ticket t after_end) cs) =
+        let kept : unfinished (at_ticket t after_end c ∷ map (at_ticket t after_end) cs)
+        ≡ record { ticket = c.ticket; device = c.device; op = c.op } ∷ unfinished (map (at_ticket t after_end) cs) =
         ap (λ (x : HostCommand). unfinished (x ∷ map (at_ticket t after_end) cs)) stays ∙ keep c (map (at_ticket t after_end) cs) open_ in
         ap (λ (l : List Waiting). record { ticket = c.ticket; device = c.device; op = c.op } ∷ l) (rest k inside_rest there) ∙ sym kept
 

@@ -167,16 +167,19 @@ matches-ended log host new at path outcome s m closes flew =
     (λ x is same. omega (arith, ap (λ (e : HostCommand). e.device.0) (is same), ap (λ (d : DeviceNo). d.0) found.1.device)) cs is_c in
     let entry : Waiting = record { ticket = p.ticket; device = p.device; op = p.op } in
     let there : slice_get (unfinished cs) at ≡ Some entry =
-    ap (λ (l : List Waiting). slice_get l at) (sym m.pending) ∙ slice_get-map (λ (q : Pending). record { ticket = q.ticket; device = q.device; op = q.op }) host.pending at
+    ap (λ (l : List Waiting). slice_get l at) (sym m.pending)
+    ∙ slice_get-map (λ (q : Pending). record { ticket = q.ticket; device = q.device; op = q.op }) host.pending at
     ∙ ap (option_map (λ (q : Pending). record { ticket = q.ticket; device = q.device; op = q.op })) closes.there in
     let waiting : waiting_of (remove host.pending at) ≡ unfinished (map (at_ticket p.ticket after_end) cs) =
     remove-map (λ (q : Pending). record { ticket = q.ticket; device = q.device; op = q.op }) host.pending at
     ∙ ap (λ (l : List Waiting). remove l at) m.pending
-    ∙ unfinished-ended 0 p.ticket cs at entry m.tickets (get-within (unfinished cs) at entry there) (ap (λ (w : Waiting). w.ticket.0) (get_or_from_slice_get (unfinished cs) at entry entry there)) in
+    ∙ unfinished-ended 0 p.ticket cs at entry m.tickets (get-within (unfinished cs) at entry there)
+    (ap (λ (w : Waiting). w.ticket.0) (get_or_from_slice_get (unfinished cs) at entry entry there)) in
     let sent : RecallsSent (after_change host.flight p.ticket.0 after_finish host.flight.latest) (sent_of (map (at_ticket p.ticket after_end) cs)) =
     rw (sent-ended p.ticket cs) (recalls-change host.flight _ (sent_of cs) p.ticket.0 after_finish host.flight.latest refl m.sent (omega arith)) in
     let flown : All (λ x. x.done ≡ true → IsSome x.sends) (map (at_ticket p.ticket after_end) cs) =
-    All-map (λ x. x.done ≡ true → IsSome x.sends) (at_ticket p.ticket after_end) cs (λ k d below. flown_one (get_or cs k d) (m.flew k d below) (is_c k d below) (some-of c.sends s (flew c found.1))) in
+    All-map (λ x. x.done ≡ true → IsSome x.sends) (at_ticket p.ticket after_end) cs
+    (λ k d below. flown_one (get_or cs k d) (m.flew k d below) (is_c k d below) (some-of c.sends s (flew c found.1))) in
     let met : with_ticket p.ticket cs ≡ Some c = found-one 0 cs c p.ticket m.tickets found.1.there ticket_same in
     let D : ℕ → ℕ → Option Sending → Type 0 =
     λ k now o. HaveAll host.ports (Ends p.ticket path ∷ log) (change_at k (device_finished p.ticket (arrival_on now path o)) host.devices) in
@@ -193,7 +196,8 @@ matches-ended log host new at path outcome s m closes flew =
       time = m.time;
       tickets = ascends-kept 0 p.ticket after_end cs end-keeps m.tickets;
       last = kept-last p.ticket after_end cs host.last_ticket end-keeps m.last;
-      attached = kept-attached p.ticket after_end cs (length host.devices) _ (length-change_at p.device.0 (device_finished p.ticket (arrival_on host.clock path (Some s))) host.devices) end-keeps m.attached;
+      attached = kept-attached p.ticket after_end cs (length host.devices) _
+          (length-change_at p.device.0 (device_finished p.ticket (arrival_on host.clock path (Some s))) host.devices) end-keeps m.attached;
       flew = flown;
       pending = waiting;
       rest = m.rest;
@@ -237,7 +241,8 @@ matches-sent log host c p tag path flight m is times rest room dead sent =
     All-weaker (λ x. x.ticket.0 ≡ p.ticket.0 → x ≡ c) (λ x. x.ticket.0 ≡ p.ticket.0 → x.device.0 ≡ 0 + p.device.0)
     (λ x only_c same. omega (arith, ap (λ (e : HostCommand). e.device.0) (only_c same), ap (λ (d : DeviceNo). d.0) is.device)) cs is_c in
     let waits : All (λ x. x.ticket.0 ≡ p.ticket.0 → x.done ≡ false) cs =
-    All-weaker (λ x. x.ticket.0 ≡ p.ticket.0 → x ≡ c) (λ x. x.ticket.0 ≡ p.ticket.0 → x.done ≡ false) (λ x only_c same. ap (λ (e : HostCommand). e.done) (only_c same) ∙ is.waits) cs is_c in
+    All-weaker (λ x. x.ticket.0 ≡ p.ticket.0 → x ≡ c) (λ x. x.ticket.0 ≡ p.ticket.0 → x.done ≡ false)
+    (λ x only_c same. ap (λ (e : HostCommand). e.done) (only_c same) ∙ is.waits) cs is_c in
     let flown : All (λ x. x.done ≡ true → IsSome x.sends) (map (at_ticket p.ticket (after_send tag now path ts)) cs) =
     kept-all (λ x. x.done ≡ true → IsSome x.sends) p.ticket (after_send tag now path ts) cs (λ x before. flown_one x before) m.flew in
     let met : with_ticket p.ticket cs ≡ Some c = found-one 0 cs c p.ticket m.tickets is.there ticket_same in
@@ -247,15 +252,19 @@ matches-sent log host c p tag path flight m is times rest room dead sent =
     record {
       time = m.time;
       tickets = ascends-kept 0 p.ticket (after_send tag (record { 0 = clock log }) path ts) cs (send-keeps tag (record { 0 = clock log }) path ts) m.tickets;
-      last = kept-last p.ticket (after_send tag (record { 0 = clock log }) path ts) cs host.last_ticket (send-keeps tag (record { 0 = clock log }) path ts) m.last;
-      attached = kept-attached p.ticket (after_send tag (record { 0 = clock log }) path ts) cs (length host.devices) _ (length-change_at p.device.0 (device_sent p.ticket now (path_before c.sends) path) host.devices) (send-keeps tag (record { 0 = clock log }) path ts) m.attached;
+      last = kept-last p.ticket (after_send tag (record { 0 = clock log }) path ts) cs host.last_ticket
+          (send-keeps tag (record { 0 = clock log }) path ts) m.last;
+      attached = kept-attached p.ticket (after_send tag (record { 0 = clock log }) path ts) cs (length host.devices) _
+          (length-change_at p.device.0 (device_sent p.ticket now (path_before c.sends) path) host.devices)
+          (send-keeps tag (record { 0 = clock log }) path ts) m.attached;
       flew = rw (← m.time) flown;
       pending = m.pending ∙ sym (unfinished-sent p.ticket tag (record { 0 = clock log }) path ts cs);
       rest = rest ∙ m.rest;
       room = room ∙ m.room;
       dead = dead ∙ m.dead;
       sent = rw (← m.time) sent;
-      entered = rw (← m.time) (recall-sent host.life.requests.0 0 p.device.0 p.ticket tag now path ts (path_before c.sends) cs host.devices place waits times m.entered);
+      entered = rw (← m.time) (recall-sent host.life.requests.0 0 p.device.0 p.ticket tag now path ts
+          (path_before c.sends) cs host.devices place waits times m.entered);
       paths = have;
     }
   where
@@ -296,9 +305,12 @@ matches-submitted log host new t device op room m is inside same =
     }) = record {
       time = m.time;
       tickets = ascends-push 0 cs c m.tickets (omega (arith, is)) below;
-      last = All-push (λ x. x.ticket.0 ≤ t.0) cs c (All-weaker (λ x. x.ticket.0 < t.0) (λ x. x.ticket.0 ≤ t.0) (λ x less. omega (arith, less)) cs below) (omega arith);
+      last = All-push (λ x. x.ticket.0 ≤ t.0) cs c (All-weaker (λ x. x.ticket.0 < t.0) (λ x. x.ticket.0 ≤ t.0) (λ x less. omega (arith, less)) cs below)
+          (omega arith);
       attached = All-push (λ x. x.device.0 < length (change_at device.0 (device_entered (new_command t (kind_of op) (span_of op))) host.devices)) cs c
-          (All-weaker (λ x. x.device.0 < length host.devices) (λ x. x.device.0 < length (change_at device.0 (device_entered (new_command t (kind_of op) (span_of op))) host.devices)) (λ x less. omega (arith, less, devices_same)) cs m.attached) (omega (arith, inside, devices_same));
+          (All-weaker (λ x. x.device.0 < length host.devices)
+          (λ x. x.device.0 < length (change_at device.0 (device_entered (new_command t (kind_of op) (span_of op))) host.devices))
+          (λ x less. omega (arith, less, devices_same)) cs m.attached) (omega (arith, inside, devices_same));
       flew = All-push (λ x. x.done ≡ true → IsSome x.sends) cs c m.flew (λ done. absurd cc);
       pending = waiting;
       rest = m.rest;
@@ -306,7 +318,8 @@ matches-submitted log host new t device op room m is inside same =
       dead = m.dead;
       sent = rw (sent-submitted cs t device op) m.sent;
       entered = recall-entered host.life.requests.0 0 device.0 cs t device op host.devices (omega arith) m.entered;
-      paths = have-kept host.ports log (Submits t device op ∷ log) device.0 (device_entered (new_command t (kind_of op) (span_of op))) host.devices (λ n. refl) (λ d. refl) (λ d. refl) m.paths;
+      paths = have-kept host.ports log (Submits t device op ∷ log) device.0 (device_entered (new_command t (kind_of op) (span_of op))) host.devices (λ n. refl)
+          (λ d. refl) (λ d. refl) m.paths;
     } in
     rw same after
 
@@ -326,7 +339,9 @@ recall-attached life n cs [] d all fresh recalls =
 recall-attached life n cs (x ∷ devices) d all fresh recalls = (
   recalls.0,
   recalls.1,
-  recall-attached life (n + 1) cs devices d (All-weaker (λ c. c.device.0 < n + length (x ∷ devices)) (λ c. c.device.0 < n + 1 + length devices) (λ c less. omega (arith, less)) cs all) fresh recalls.2,
+  recall-attached life (n + 1) cs devices d
+      (All-weaker (λ c. c.device.0 < n + length (x ∷ devices)) (λ c. c.device.0 < n + 1 + length devices) (λ c less. omega (arith, less)) cs all) fresh
+      recalls.2,
 )
 
 pub matches-attached : (log : List Event) (host new : Host) (d : Device) → Matches log host → d.holds ≡ nothing_entered host.life.requests.0
@@ -338,14 +353,17 @@ matches-attached log host new d m fresh paths same =
       time = m.time;
       tickets = m.tickets;
       last = m.last;
-      attached = All-weaker (λ c. c.device.0 < length host.devices) (λ c. c.device.0 < length (host.devices ++ d ∷ [])) (λ c less. omega (arith, less, more)) cs m.attached;
+      attached = All-weaker (λ c. c.device.0 < length host.devices) (λ c. c.device.0 < length (host.devices ++ d ∷ []))
+          (λ c less. omega (arith, less, more)) cs m.attached;
       flew = m.flew;
       pending = m.pending;
       rest = m.rest;
       room = m.room;
       dead = m.dead;
       sent = m.sent;
-      entered = recall-attached host.life.requests.0 0 cs host.devices d (All-weaker (λ c. c.device.0 < length host.devices) (λ c. c.device.0 < 0 + length host.devices) (λ c less. omega (arith, less)) cs m.attached) fresh m.entered;
+      entered = recall-attached host.life.requests.0 0 cs host.devices d
+          (All-weaker (λ c. c.device.0 < length host.devices) (λ c. c.device.0 < 0 + length host.devices) (λ c less. omega (arith, less)) cs m.attached) fresh
+          m.entered;
       paths = have-attached host.ports log host.devices d m.attached paths m.paths;
     } in
     rw same after
@@ -390,7 +408,8 @@ matches-devices log host m times = record {
   time = m.time;
   tickets = m.tickets;
   last = m.last;
-  attached = All-weaker (λ c. c.device.0 < length host.devices) (λ c. c.device.0 < length (map (device_at host.clock) host.devices)) (λ c less. omega (arith, less, length-map host.devices (device_at host.clock))) (commands log) m.attached;
+  attached = All-weaker (λ c. c.device.0 < length host.devices) (λ c. c.device.0 < length (map (device_at host.clock) host.devices))
+      (λ c less. omega (arith, less, length-map host.devices (device_at host.clock))) (commands log) m.attached;
   flew = m.flew;
   pending = m.pending;
   rest = m.rest;

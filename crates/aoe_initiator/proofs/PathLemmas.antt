@@ -57,7 +57,8 @@ have-changed : (ports : List Mac) (log later : List Event) (k : ℕ) (change : D
 have-changed ports log later k change devices others here have n = elim (cases_Bool (nat_eq n k)) [
   | inl same ↦
       let is : n ≡ k = eqb-true n k same in
-      rw is (rw (slice-changed k change devices) (if-some-map (slice_get devices k) change (HasPaths ports (path_log log k)) (HasPaths ports (path_log later k)) here (have k)))
+      rw is (rw (slice-changed k change devices)
+      (if-some-map (slice_get devices k) change (HasPaths ports (path_log log k)) (HasPaths ports (path_log later k)) here (have k)))
   | inr out ↦
       let other : n ≢ k = λ same. (let is : nat_eq n k ≡ true = eq-eqb n k same in absurd cc) in
       rw (slice-others n k change devices other) (rw (others n other) (have n))
@@ -79,7 +80,8 @@ pub have-at : (ports : List Mac) (log : List Event) (now : ℕ) (devices : List 
 have-at ports log now devices have n =
     let P : Option Device → Type 0 = λ o. IfSome o (HasPaths ports (path_log log n)) in
     subst P (sym (slice_get-map (device_at now) devices n))
-    (if-some-map (slice_get devices n) (device_at now) (HasPaths ports (path_log log n)) (HasPaths ports (path_log log n)) (λ d has. record { locals = has.locals; remotes = has.remotes; recalls = has.recalls }) (have n))
+    (if-some-map (slice_get devices n) (device_at now) (HasPaths ports (path_log log n)) (HasPaths ports (path_log log n))
+    (λ d has. record { locals = has.locals; remotes = has.remotes; recalls = has.recalls }) (have n))
 
 -- ---- the command of an event
 
@@ -110,7 +112,8 @@ recalls-marked table happened (Some s) r = recalls-missed table happened s.path.
 recalls-routed : (table : PathTable) (happened : List PathEvent) (sends : Option Sending) (path : PathNo) → Recalls table happened
     → Recalls (after_choice (path_before sends) path table) (Chosen path.0 ∷ missed_by sends happened)
 recalls-routed table happened sends path r =
-    recalls-chosen (record table { marks = marks_after (path_before sends) table.marks }) (missed_by sends happened) path.0 (recalls-marked table happened sends r)
+    recalls-chosen (record table { marks = marks_after (path_before sends) table.marks }) (missed_by sends happened) path.0
+    (recalls-marked table happened sends r)
 
 pub have-sent : (ports : List Mac) (log : List Event) (c : HostCommand) (t : Ticket) (tag : ℕ) (now : Millis) (path : PathNo) (devices : List Device)
     → with_ticket t (commands log) ≡ Some c → HaveAll ports log devices
@@ -153,7 +156,8 @@ pub route-next : (host : Host) (n : ℕ) (happened : List PathEvent) (d : Device
 route-next host n happened d sends route has there routed =
     let table : PathTable = record d.paths { marks = marks_after (path_before sends) d.paths.marks } in
     let count : path_count d.paths ≡ paths_to host n = rw (there, has.locals, has.remotes) refl in
-    routed.next ∙ next-recalled table (missed_by sends happened) (recalls-marked d.paths happened sends has.recalls) ∙ ap (λ (k : ℕ). next_of k (missed_by sends happened)) count
+    routed.next ∙ next-recalled table (missed_by sends happened) (recalls-marked d.paths happened sends has.recalls)
+    ∙ ap (λ (k : ℕ). next_of k (missed_by sends happened)) count
 
 pub route-timeout : (ports : List Mac) (happened : List PathEvent) (d : Device) (missed : Option PathNo) (route : Route) → HasPaths ports happened d
     → IsRoute d missed route → route.timeout.0 ≡ timeout_on happened route.path.0
@@ -184,7 +188,11 @@ have-ended ports log c t (Some path) devices found have =
         let at_it : is_at c.device.0 c ≡ true = eq-eqb c.device.0 c.device.0 refl in
         let is : path_log (Ends t (Some path) ∷ log) c.device.0 ≡ Answered path.0 (trip_of (clock log) c.sends) ∷ path_log log c.device.0 =
         rw (found, at_it) refl in
-        rw is (record { locals = has.locals; remotes = has.remotes; recalls = recalls-answered d.paths (path_log log c.device.0) path.0 (trip_of (clock log) c.sends) has.recalls })
+        rw is (record {
+          locals = has.locals;
+          remotes = has.remotes;
+          recalls = recalls-answered d.paths (path_log log c.device.0) path.0 (trip_of (clock log) c.sends) has.recalls;
+        })
 
 -- ---- an attachment
 
@@ -205,12 +213,18 @@ below-before : (n : ℕ) (t : Ticket) (change : HostCommand → HostCommand) (cs
 below-before n t change [] keeps all = All-nil (λ x. x.device.0 < n)
 below-before n t change (c ∷ cs) keeps all =
     All-cons (λ x. x.device.0 < n) c cs
-    (omega (arith, All-head (λ x. x.device.0 < n) (at_ticket t change c) (map (at_ticket t change) cs) all, ap (λ (d : DeviceNo). d.0) (kept-device t change c keeps)))
+    (omega (
+      arith,
+      All-head (λ x. x.device.0 < n) (at_ticket t change c) (map (at_ticket t change) cs) all,
+      ap (λ (d : DeviceNo). d.0)
+          (kept-device t change c keeps),
+    ))
     (below-before n t change cs keeps (All-tail (λ x. x.device.0 < n) (at_ticket t change c) (map (at_ticket t change) cs) all))
 
 below-front : (n : ℕ) (cs : List HostCommand) (c : HostCommand) → All (λ x. x.device.0 < n) (cs ++ c ∷ []) → All (λ x. x.device.0 < n) cs
 below-front n [] c all = All-nil (λ x. x.device.0 < n)
-below-front n (x ∷ cs) c all = All-cons (λ y. y.device.0 < n) x cs (All-head (λ y. y.device.0 < n) x (cs ++ c ∷ []) all) (below-front n cs c (All-tail (λ y. y.device.0 < n) x (cs ++ c ∷ []) all))
+below-front n (x ∷ cs) c all = All-cons (λ y. y.device.0 < n) x cs (All-head (λ y. y.device.0 < n) x (cs ++ c ∷ []) all)
+    (below-front n cs c (All-tail (λ y. y.device.0 < n) x (cs ++ c ∷ []) all))
 
 -- nothing happened on the paths to a device without commands
 nothing-happened : (n : ℕ) (log : List Event) → All (λ c. c.device.0 < n) (commands log) → path_log log n ≡ []

@@ -29,7 +29,8 @@ pub sent-one : (host : Host) (log : List Event) (o : Outstanding) (c : HostComma
     → Contains (commands log) c → c.sends ≡ Some s → o.ticket.0 ≡ c.ticket.0 → o ≡ outstanding c s
 sent-one host log o c s m inside there sends same =
     let from = sent-from (commands log) o inside in
-    let is : from.0 ≡ c = one-command (commands log) c from.0 c.ticket.0 (only 0 (commands log) c m.tickets there) from.1.there (ap (λ (e : Outstanding). e.ticket.0) (sym from.1.is) ∙ same) refl in
+    let is : from.0 ≡ c = one-command (commands log) c from.0 c.ticket.0 (only 0 (commands log) c m.tickets there) from.1.there
+    (ap (λ (e : Outstanding). e.ticket.0) (sym from.1.is) ∙ same) refl in
     let some : Some from.1.s ≡ Some s = sym from.1.sends ∙ ap (λ (e : HostCommand). e.sends) is ∙ sends in
     let sending : from.1.s ≡ s = cc in
     from.1.is ∙ rw (is, sending) refl
@@ -85,7 +86,8 @@ module _ {host new : Host} {log : List Event} {t : Ticket} {sent : Sent} {frame 
         there = c.1.flies.there;
         ticket = c.1.ticket ∙ sym is_ticket;
         bytes = rw (c.1.pending.op, c.1.pending.device, ap (λ (s : Sent). s.tag) repeats.is, is_path)
-            (route-spelled host p.op p.device (path_log log p.device.0) repeats.device (Some repeats.flying.path) repeats.route repeats.flying.tag frame has repeats.held repeats.routed repeats.bytes);
+            (route-spelled host p.op p.device (path_log log p.device.0) repeats.device
+            (Some repeats.flying.path) repeats.route repeats.flying.tag frame has repeats.held repeats.routed repeats.bytes);
       }
 
   pub repeat-path : IsOnNextPath host log sent
@@ -97,7 +99,8 @@ module _ {host new : Host} {log : List Event} {t : Ticket} {sent : Sent} {frame 
         command = c.0;
         there = c.1.flies.there;
         ticket = c.1.ticket ∙ sym is_ticket;
-        next = ap (λ (q : PathNo). q.0) is_path ∙ rw c.1.pending.device (route-next host n (path_log log n) repeats.device c.0.sends repeats.route has repeats.held routed);
+        next = ap (λ (q : PathNo). q.0) is_path
+            ∙ rw c.1.pending.device (route-next host n (path_log log n) repeats.device c.0.sends repeats.route has repeats.held routed);
       }
 
   pub repeat-sends : InTime host → Matches (Sends sent.ticket sent.tag sent.path ∷ log) new
@@ -114,7 +117,8 @@ module _ {host new : Host} {log : List Event} {t : Ticket} {sent : Sent} {frame 
       let s = is.flies.s in
       let p_is : p.ticket ≡ t = sym is.pending.ticket ∙ is.ticket in
       let timeout : repeats.route.timeout.0 ≡ ts c.device.0 =
-      route-timeout host.ports (path_log log p.device.0) repeats.device (Some f.path) repeats.route has repeats.routed ∙ ap (λ (d : DeviceNo). ts d.0) (sym is.pending.device) in
+      route-timeout host.ports (path_log log p.device.0) repeats.device (Some f.path) repeats.route has repeats.routed
+      ∙ ap (λ (d : DeviceNo). ts d.0) (sym is.pending.device) in
       let sends_is : f.sends ≡ min s.count 32 = ap (λ (g : Flying). g.sends) is.flies.flying in
       let twice : min f.sends 32 ≡ min s.count 32 = omega (arith, sends_is) in
       let wait : ℕ = wait_of repeats.route.timeout.0 (min f.sends 32 + 1) in
@@ -125,15 +129,22 @@ module _ {host new : Host} {log : List Event} {t : Ticket} {sent : Sent} {frame 
       recalls-change host.flight _ (sent_of cs) t.0 change host.clock refl m.sent time.flight in
       let mapped = sent-repeated c s sent.tag now path ts cs is.flies.sends is.flies.waits (only 0 cs c m.tickets is.flies.there) in
       let mapped_t = rw is.ticket at (rw (← wait_is) at mapped) in
-      let whole = matches-sent log host c p sent.tag path (after_change host.flight t.0 change host.clock) m is.pending time.devices refl refl refl (rw (p_is, mapped_t) changed) in
-      let T : Ticket → Option PathNo → Type 0 = λ u o. Matches (Sends u sent.tag path ∷ log) (record host { flight = after_change host.flight t.0 change host.clock; devices = change_at p.device.0 (device_sent u now o path) host.devices }) in
+      let whole = matches-sent log host c p sent.tag path (after_change host.flight t.0 change host.clock) m is.pending time.devices refl refl refl
+      (rw (p_is, mapped_t) changed) in
+      let T : Ticket → Option PathNo → Type 0 =
+      λ u o. Matches (Sends u sent.tag path ∷ log)
+      (record host {
+        flight = after_change host.flight t.0 change host.clock;
+        devices = change_at p.device.0 (device_sent u now o path) host.devices;
+      }) in
       let at_t : T t (Some f.path) = subst (λ (u : Ticket). T u (Some f.path)) p_is (subst (λ (o : Option PathNo). T p.ticket o) is.missed whole) in
       rw (is_ticket, is_path) (rw (← repeats.after) at at_t)
 
 pub left-repeated : (old new : Host) (t : Ticket) (frame : List ℕ) (o : Option Sent) → IfSome o (λ sent. Repeats old t sent frame new) → IfNone o (new ≡ old)
     → IsLeft old new
 left-repeated old new t frame None some none = rw none (left-same old)
-left-repeated old new t frame (Some sent) some none = left-changed old new _ some.command.device.0 t (record { 0 = old.clock }) (Some some.flying.path) some.route.path some.after
+left-repeated old new t frame (Some sent) some none = left-changed old new _ some.command.device.0 t (record { 0 = old.clock })
+    (Some some.flying.path) some.route.path some.after
 
 -- the first due command has the ticket
 abbrev pub IsFirstDue : Host → Ticket → Type 0

@@ -57,7 +57,8 @@ times-of now last devices all = All-weaker (IsAttached now last) (λ d. d.holds.
 
 ready-more : (n m : ℕ) (pending : List Pending) → n ≤ m → All (IsSendable n) pending → All (IsSendable m) pending
 ready-more n m pending more all =
-    All-weaker (IsSendable n) (IsSendable m) (λ p ready. record { inside = omega (arith, ready.inside, more); spelled = ready.spelled; room = ready.room }) pending all
+    All-weaker (IsSendable n) (IsSendable m)
+    (λ p ready. record { inside = omega (arith, ready.inside, more); spelled = ready.spelled; room = ready.room }) pending all
 
 ordered-remove : (xs : List Pending) (i : ℕ) → i < length xs → IsInOrder xs → IsInOrder (remove xs i)
 ordered-remove [] i inside order = absurd (omega (arith, inside))
@@ -103,7 +104,8 @@ sound-cleared ports now last flight devices changed pending waiting capacity is 
       port = s.port;
       differ = s.differ;
       time = s.time;
-      attached = All-map (IsAttached now last) (device_at now) devices (All-weaker (IsAttached now last) (λ d. IsAttached now last (device_at now d)) (attached-at now last) devices s.attached);
+      attached = All-map (IsAttached now last) (device_at now) devices
+          (All-weaker (IsAttached now last) (λ d. IsAttached now last (device_at now d)) (attached-at now last) devices s.attached);
       ready = ready-more (length devices) (length (map (device_at now) devices)) pending (omega (arith, same)) s.ready;
       order = s.order;
       given = s.given;
@@ -115,7 +117,8 @@ pub sound-closed : (ports : List Mac) (now last n at : ℕ) (t : Ticket) (came :
     → after.latest ≤ now → changed ≡ change_at n (device_finished t came) devices → left ≡ remove pending at → more ≡ waiting ++ done ∷ []
     → capacity_after ≡ capacity → at < length pending
     → IsConsistent ports now last flight devices pending waiting capacity → IsConsistent ports now last after changed left more capacity_after
-sound-closed ports now last n at t came flight after devices changed pending left waiting more done capacity capacity_after time is left_is more_is same_capacity inside s =
+sound-closed ports now last n at t came flight after devices changed pending left waiting more done capacity capacity_after time is left_is more_is
+    same_capacity inside s =
     let P : List Device → List Pending → List Done → ℕ → Type 0 = λ ds ps ws c. IsConsistent ports now last after ds ps ws c in
     let same : length (change_at n (device_finished t came) devices) ≡ length devices = length-change_at n (device_finished t came) devices in
     let one_more : length (waiting ++ done ∷ []) ≡ length waiting + 1 = length-append waiting (done ∷ []) in
@@ -124,7 +127,8 @@ sound-closed ports now last n at t came flight after devices changed pending lef
       differ = s.differ;
       time = time;
       attached = All-change_at (IsAttached now last) n (device_finished t came) devices (attached-finished now last t came) s.attached;
-      ready = ready-more (length devices) (length (change_at n (device_finished t came) devices)) (remove pending at) (omega (arith, same)) (All-remove (IsSendable (length devices)) pending at inside s.ready);
+      ready = ready-more (length devices) (length (change_at n (device_finished t came) devices)) (remove pending at) (omega (arith, same))
+          (All-remove (IsSendable (length devices)) pending at inside s.ready);
       order = ordered-remove pending at inside s.order;
       given = All-remove (λ p. p.ticket.0 ≤ last) pending at inside s.given;
       reserved = omega (arith, s.reserved, length-remove pending at inside, one_more);
@@ -154,10 +158,13 @@ pub sound-submitted : (ports : List Mac) (now last next n : ℕ) (flight : Fligh
     → next ≡ last + 1 → c.ticket.0 ≡ next → changed ≡ change_at n (device_entered c) devices → more ≡ pending ++ p ∷ [] → same_waiting ≡ waiting
     → length waiting + length pending + 1 ≤ capacity_after → p.ticket.0 ≡ next → IsSendable (length devices) p
     → IsConsistent ports now last flight devices pending waiting capacity → IsConsistent ports now next flight changed more same_waiting capacity_after
-sound-submitted ports now last next n flight devices changed c pending more p waiting same_waiting capacity capacity_after next_is ticket_is is more_is waiting_is room new ready s =
+sound-submitted ports now last next n flight devices changed c pending more p waiting same_waiting capacity capacity_after next_is ticket_is is more_is
+    waiting_is room new ready s =
     let same : length (change_at n (device_entered c) devices) ≡ length devices = length-change_at n (device_entered c) devices in
     let one_more : length (pending ++ p ∷ []) ≡ length pending + 1 = length-append pending (p ∷ []) in
-    let later : All (IsAttached now next) devices = All-weaker (IsAttached now last) (IsAttached now next) (λ d a. attached-later now last now next d (omega arith) (omega (arith, next_is)) a) devices s.attached in
+    let later : All (IsAttached now next) devices =
+    All-weaker (IsAttached now last) (IsAttached now next)
+    (λ d a. attached-later now last now next d (omega arith) (omega (arith, next_is)) a) devices s.attached in
     let whole : IsConsistent ports now next flight (change_at n (device_entered c) devices) (pending ++ p ∷ []) waiting capacity_after = record {
       port = s.port;
       differ = s.differ;
@@ -167,7 +174,8 @@ sound-submitted ports now last next n flight devices changed c pending more p wa
           (ready-more (length devices) (length (change_at n (device_entered c) devices)) pending (omega (arith, same)) s.ready)
           (record { inside = omega (arith, ready.inside, same); spelled = ready.spelled; room = ready.room });
       order = ordered-push pending p last s.order s.given (omega (arith, next_is, new));
-      given = All-push (λ q. q.ticket.0 ≤ next) pending p (All-weaker (λ q. q.ticket.0 ≤ last) (λ q. q.ticket.0 ≤ next) (λ q below. omega (arith, next_is, below)) pending s.given) (omega (arith, new));
+      given = All-push (λ q. q.ticket.0 ≤ next) pending p
+          (All-weaker (λ q. q.ticket.0 ≤ last) (λ q. q.ticket.0 ≤ next) (λ q below. omega (arith, next_is, below)) pending s.given) (omega (arith, new));
       reserved = omega (arith, room, one_more);
     } in
     rw (is, more_is, waiting_is) whole

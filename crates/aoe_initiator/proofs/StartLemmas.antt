@@ -52,13 +52,15 @@ pub spelled-same : (host new : Host) (op : Op) (device : DeviceNo) (path : PathN
 spelled-same host new op device path tag same =
     let frame_for : Attached → Option (List ℕ) =
     λ about. option_map (λ pair. request op about.id pair.1 pair.0 tag) (pair_at host.ports about.remotes.items path.0) in
-    rw same.ports (and-then-part (λ (d : Device). d.about) frame_for _ ∙ ap (option_and_then frame_for) (about-slice _ _ device.0 same.devices) ∙ sym (and-then-part (λ (d : Device). d.about) frame_for _))
+    rw same.ports (and-then-part (λ (d : Device). d.about) frame_for _ ∙ ap (option_and_then frame_for) (about-slice _ _ device.0 same.devices)
+    ∙ sym (and-then-part (λ (d : Device). d.about) frame_for _))
 
 -- and so does the number of paths
 paths-same : (host new : Host) (n : ℕ) → IsSame host new → paths_to new n ≡ paths_to host n
 paths-same host new n same =
     let paths : Attached → ℕ = λ about. length host.ports * length about.remotes.items in
-    rw same.ports (map-or-part (λ (d : Device). d.about) paths 0 _ ∙ ap (λ o. option_map_or paths o 0) (about-slice _ _ n same.devices) ∙ sym (map-or-part (λ (d : Device). d.about) paths 0 _))
+    rw same.ports (map-or-part (λ (d : Device). d.about) paths 0 _ ∙ ap (λ o. option_map_or paths o 0) (about-slice _ _ n same.devices)
+    ∙ sym (map-or-part (λ (d : Device). d.about) paths 0 _))
 
 pub about-mapped : (f : Device → Device) (devices : List Device) → ((d : Device) → (f d).about ≡ d.about)
     → map (λ (d : Device). d.about) (map f devices) ≡ map (λ (d : Device). d.about) devices
@@ -75,12 +77,28 @@ pub left-same : (host : Host) → IsLeft host host
 left-same host = record { same = record { ports = refl; life = refl; room = refl; dead = refl; devices = refl }; clock = refl; last = refl; waiting = refl }
 
 pub left-then : {a b c : Host} → IsLeft a b → IsLeft b c → IsLeft a c
-left-then one two = record { same = same-then _ _ _ one.same two.same; clock = two.clock ∙ one.clock; last = two.last ∙ one.last; waiting = two.waiting ∙ one.waiting }
+left-then one two = record {
+  same = same-then _ _ _ one.same two.same;
+  clock = two.clock ∙ one.clock;
+  last = two.last ∙ one.last;
+  waiting = two.waiting ∙ one.waiting;
+}
 
 pub left-changed : (old new : Host) (flight : FlightTable) (n : ℕ) (t : Ticket) (now : Millis) (missed : Option PathNo) (path : PathNo)
     → new ≡ record old { flight = flight; devices = change_at n (device_sent t now missed path) old.devices } → IsLeft old new
 left-changed old new flight n t now missed path is =
-    rw is (record { same = record { ports = refl; life = refl; room = refl; dead = refl; devices = about-change_at n (device_sent t now missed path) old.devices (λ d. refl) }; clock = refl; last = refl; waiting = refl })
+    rw is (record {
+      same = record {
+        ports = refl;
+        life = refl;
+        room = refl;
+        dead = refl;
+        devices = about-change_at n (device_sent t now missed path) old.devices (λ d. refl);
+      };
+      clock = refl;
+      last = refl;
+      waiting = refl;
+    })
 
 -- where the search for a clear command went over the devices, or had no room
 pub left-cleared : (old new : Host) → new ≡ record old { devices = new.devices }
@@ -127,7 +145,8 @@ start-quiet None old h t at cleared full = absurd (still-room cleared full)
 pub left-launched : (old h new : Host) (t : Ticket) (at : ℕ) (frame : List ℕ) (o : Option Sent) → IsCleared old h t at
     → IfSome o (λ sent. Launches h t at sent frame new) → IfNone o (is_full h ≡ true) → IsLeft h new
 left-launched old h new t at frame None cleared some full = absurd (still-room cleared full)
-left-launched old h new t at frame (Some sent) cleared some full = left-changed h new new.flight some.command.device.0 t (record { 0 = h.clock }) None some.route.path some.after
+left-launched old h new t at frame (Some sent) cleared some full =
+    left-changed h new new.flight some.command.device.0 t (record { 0 = h.clock }) None some.route.path some.after
 
 module _ {old h new : Host} {log : List Event} {t : Ticket} {at : ℕ} {sent : Sent} {frame : List ℕ} (m : Matches log old) (cleared : IsCleared old h t at)
     (launches : Launches h t at sent frame new) where
@@ -190,7 +209,8 @@ module _ {old h new : Host} {log : List Event} {t : Ticket} {at : ℕ} {sent : S
     start-frame =
         let p = launches.command in
         let c = started in
-        let bytes = route-spelled h p.op p.device (path_log log p.device.0) launches.device None launches.route sent.tag frame has launches.held launches.routed launches.bytes in
+        let bytes = route-spelled h p.op p.device
+        (path_log log p.device.0) launches.device None launches.route sent.tag frame has launches.held launches.routed launches.bytes in
         record {
           command = c.0;
           there = c.1.there;
@@ -221,13 +241,20 @@ module _ {old h new : Host} {log : List Event} {t : Ticket} {at : ℕ} {sent : S
         let is = found.1 in
         let p_is : p.ticket ≡ t = sym is.pending.ticket ∙ is.ticket in
         let timeout : launches.route.timeout.0 ≡ ts c.device.0 =
-        route-timeout h.ports (path_log log p.device.0) launches.device None launches.route has launches.routed ∙ ap (λ (d : DeviceNo). ts d.0) (sym is.pending.device) in
+        route-timeout h.ports (path_log log p.device.0) launches.device None launches.route has launches.routed
+        ∙ ap (λ (d : DeviceNo). ts d.0) (sym is.pending.device) in
         let recalls = rw timeout at launches.recalls in
         let more = rw is.ticket at (sent-started 0 c sent.tag (record { 0 = h.clock }) path ts cs m.tickets is.there is.fresh is.pending.waits) in
         let recalled : RecallsSent new.flight (sent_of (map (at_ticket t (after_send sent.tag (record { 0 = h.clock }) path ts)) cs)) =
-        λ test. recalls (sent_of cs) m_h.sent test ∙ same-filter (λ c. not (is_over new.flight.rest new.flight.latest c)) (launched t sent.tag (record { 0 = h.clock }) path (record { 0 = wait_of (ts c.device.0) 1 }) ∷ sent_of cs) (sent_of (map (at_ticket t (after_send sent.tag (record { 0 = h.clock }) path ts)) cs)) more test in
-        let whole = matches-sent log h c p sent.tag path new.flight m_h is.pending time.devices (ap (λ (f : FlightTable). f.rest) launches.flight) (ap (λ (f : FlightTable). f.room) launches.flight) (ap (λ (f : FlightTable). f.dead) launches.flight) (rw p_is recalled) in
-        let T : Ticket → Option Sending → Type 0 = λ u o. Matches (Sends u sent.tag path ∷ log) (record h { flight = new.flight; devices = change_at p.device.0 (device_sent u (record { 0 = h.clock }) (path_before o) path) h.devices }) in
+        λ test. recalls (sent_of cs) m_h.sent test
+        ∙ same-filter (λ c. not (is_over new.flight.rest new.flight.latest c))
+        (launched t sent.tag (record { 0 = h.clock }) path (record { 0 = wait_of (ts c.device.0) 1 }) ∷ sent_of cs)
+        (sent_of (map (at_ticket t (after_send sent.tag (record { 0 = h.clock }) path ts)) cs)) more test in
+        let whole = matches-sent log h c p sent.tag path new.flight m_h is.pending time.devices (ap (λ (f : FlightTable). f.rest) launches.flight)
+        (ap (λ (f : FlightTable). f.room) launches.flight) (ap (λ (f : FlightTable). f.dead) launches.flight) (rw p_is recalled) in
+        let T : Ticket → Option Sending → Type 0 =
+        λ u o. Matches (Sends u sent.tag path ∷ log)
+        (record h { flight = new.flight; devices = change_at p.device.0 (device_sent u (record { 0 = h.clock }) (path_before o) path) h.devices }) in
         let at_t : T t None = subst (λ (u : Ticket). T u None) p_is (subst (λ (o : Option Sending). T p.ticket o) is.fresh whole) in
         rw (is_ticket, is_path) (rw (← launches.after) at at_t)
 

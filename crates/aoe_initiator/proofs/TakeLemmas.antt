@@ -51,7 +51,8 @@ aloft host c frame a is = by_header (head frame) is
 
     by_answered : (h : Header) (b : Bool) → is_answered host c h ≡ b → cond b (answer c.op h (drop 24 frame)) None ≡ Some a → IsAloft c
     by_answered h true yes_answered given =
-        let outer = and_parts (is_response_to host h && (not c.done && has_tag h.tag c.sends)) (is_from (slice_get host.devices c.device.0) c.op h) yes_answered in
+        let outer = and_parts (is_response_to host h && (not c.done && has_tag h.tag c.sends))
+        (is_from (slice_get host.devices c.device.0) c.op h) yes_answered in
         let inner = and_parts (is_response_to host h) (not c.done && has_tag h.tag c.sends) outer.0 in
         by_sends h.tag c.sends refl inner.1
     by_answered h false not_answered given = absurd cc
@@ -91,15 +92,26 @@ takes-closed host new log frame at path s a ticket m closes ticket_is c sends th
     let W : Ticket → Type 0 = λ t. new.waiting ≡ host.waiting ++ record { ticket = t; outcome = outcome_of a (drop 24 frame) } ∷ [] in
     let waiting : new.waiting ≡ host.waiting ++ record { ticket = p.ticket; outcome = outcome_of a (drop 24 frame) } ∷ [] =
     ap (λ (h : Host). h.waiting) closes.after in
-    let M : Ticket → Type 0 = λ t. Matches (Ends t (Some path) ∷ log) new in
-    (c, a, path, there, sym (mine ∙ of_c), answered, came, subst W (sym mine) waiting, subst M (sym mine) (matches-ended log host new at (Some path) (outcome_of a (drop 24 frame)) s m closes flew))
+    let M : Ticket → Type 0 = λ t. Matches (Ends t (Some path) ∷ log) new in (
+      c,
+      a,
+      path,
+      there,
+      sym (mine ∙ of_c),
+      answered,
+      came,
+      subst W (sym mine) waiting,
+      subst M (sym mine)
+          (matches-ended log host new at (Some path) (outcome_of a (drop 24 frame)) s m closes flew),
+    )
 
 pub takes-finished : (host new : Host) (log : List Event) (frame : List ℕ) (at : ℕ) (t : Ticket) (path : PathNo) (f : Flying) (a : Answer) (ticket : Ticket)
     → Matches log host → place t host.pending ≡ Some at
     → option_map (λ c. c.flying) (find (flies_as t.0) host.flight.commands) ≡ Some f
     → Closes host at (Some (record { path = path; trip = trip_from host.clock f })) (outcome_of a (drop 24 frame)) new
     → IfSome (slice_get host.pending at) (λ p. ticket ≡ p.ticket)
-    → ((c : HostCommand) × Contains (commands log) c × IfSome (slice_get host.pending at) (λ p. p.ticket ≡ c.ticket) × (answer_to host c frame ≡ Some a) × CameOn host c frame path) → Takes host frame log (Finished ticket) new
+    → ((c : HostCommand) × Contains (commands log) c × IfSome (slice_get host.pending at) (λ p. p.ticket ≡ c.ticket) × (answer_to host c frame ≡ Some a)
+    × CameOn host c frame path) → Takes host frame log (Finished ticket) new
 takes-finished host new log frame at t path f a ticket m placed_at flies closes ticket_is found =
     let c = found.0 in
     let p = closes.command in
@@ -108,13 +120,15 @@ takes-finished host new log frame at t path f a ticket m placed_at flies closes 
     let up = aloft host c frame a found.3 in
     let flying = flying-command host.flight (commands log) t f m.sent flies in
     let is_ticket : p.ticket.0 ≡ t.0 = eqb-true p.ticket.0 t.0 (placed (λ (q : Pending). nat_eq q.ticket.0 t.0) host.pending at p placed_at closes.there) in
-    let is_c : flying.0 ≡ c = one-command (commands log) c flying.0 c.ticket.0 (only 0 (commands log) c m.tickets found.1) flying.1.there (flying.1.same ∙ sym is_ticket ∙ ap (λ (u : Ticket). u.0) of_p) refl in
+    let is_c : flying.0 ≡ c = one-command (commands log) c flying.0 c.ticket.0 (only 0 (commands log) c m.tickets found.1) flying.1.there
+    (flying.1.same ∙ sym is_ticket ∙ ap (λ (u : Ticket). u.0) of_p) refl in
     let some : Some flying.1.s ≡ Some up.s = sym flying.1.sends ∙ ap (λ (e : HostCommand). e.sends) is_c ∙ up.sends in
     let sending : flying.1.s ≡ up.s = cc in
     let first : f.first ≡ up.s.first = ap (λ (g : Flying). g.first) flying.1.flying ∙ ap (λ (s : Sending). s.first) sending in
     let sends : f.sends ≡ min up.s.count 32 = ap (λ (g : Flying). g.sends) flying.1.flying ∙ ap (λ (s : Sending). min s.count 32) sending in
     let C : Option Millis → Type 0 = λ trip. Closes host at (Some (record { path = path; trip = trip })) (outcome_of a (drop 24 frame)) new in
-    takes-closed host new log frame at path up.s a ticket m (subst C (trip-same host.clock f up.s first sends) closes) ticket_is c up.sends found.1 found.2 found.3 found.4
+    takes-closed host new log frame at path up.s a ticket m
+    (subst C (trip-same host.clock f up.s first sends) closes) ticket_is c up.sends found.1 found.2 found.3 found.4
 
 -- what the end of a command leaves
 pub record IsLeftBut (old new : Host) : Type 0 where
@@ -126,7 +140,13 @@ pub left-closed : (old new : Host) (at : ℕ) (came : Option Arrival) (outcome :
 left-closed old new at came outcome closes =
     let P : Host → Type 0 = λ h. IsLeftBut old h in
     subst P (sym closes.after) (record {
-      same = record { ports = refl; life = refl; room = refl; dead = refl; devices = about-change_at closes.command.device.0 (device_finished closes.command.ticket came) old.devices (λ d. refl) };
+      same = record {
+        ports = refl;
+        life = refl;
+        room = refl;
+        dead = refl;
+        devices = about-change_at closes.command.device.0 (device_finished closes.command.ticket came) old.devices (λ d. refl);
+      };
       clock = refl;
       last = refl;
     })
@@ -145,7 +165,8 @@ expired-flies dead now table t found =
 
 -- it is pending
 pub expired-placed : (host : Host) (log : List Event) (t : Ticket) → Matches log host
-    → ((sent : List Outstanding) → Recalls host.flight sent → (o : Outstanding) × (o.ticket ≡ t) × IsFirst (is_expired host.flight.dead host.clock) lower sent o) → place t host.pending ≡ None → {P : Type 0} → P
+    → ((sent : List Outstanding) → Recalls host.flight sent
+    → (o : Outstanding) × (o.ticket ≡ t) × IsFirst (is_expired host.flight.dead host.clock) lower sent o) → place t host.pending ≡ None → {P : Type 0} → P
 expired-placed host log t m first missing =
     let found = first (sent_of (commands log)) m.sent in
     let o = found.0 in
@@ -162,16 +183,19 @@ ended_now host t f = record { ticket = t; outcome = GaveUp f.first (record { 0 =
 pub gave-up-once : (host new : Host) (log : List Event) (t : Ticket) (at : ℕ) (f : Flying) → Matches log host → place t host.pending ≡ Some at
     → option_map (λ c. c.flying) (find (flies_as t.0) host.flight.commands) ≡ Some f
     → (closes : Closes host at None (GaveUp f.first (record { 0 = host.clock })) new)
-    → ((sent : List Outstanding) → Recalls host.flight sent → (o : Outstanding) × (o.ticket ≡ t) × IsFirst (is_expired host.flight.dead host.clock) lower sent o)
+    → ((sent : List Outstanding) → Recalls host.flight sent
+    → (o : Outstanding) × (o.ticket ≡ t) × IsFirst (is_expired host.flight.dead host.clock) lower sent o)
     → Matches (Ends closes.command.ticket None ∷ log) new
-    × ((o : Outstanding) × IsFirst (is_expired host.dead host.clock) lower (sent_of (commands log)) o × (ended_now host closes.command.ticket f ≡ given_up host.clock o))
+    × ((o : Outstanding) × IsFirst (is_expired host.dead host.clock) lower (sent_of (commands log)) o
+    × (ended_now host closes.command.ticket f ≡ given_up host.clock o))
 gave-up-once host new log t at f m found flies closes first =
     let flying = flying-command host.flight (commands log) t f m.sent flies in
     let c = flying.0 in
     let p = closes.command in
     let is_ticket : p.ticket.0 ≡ t.0 = eqb-true p.ticket.0 t.0 (placed (λ (q : Pending). nat_eq q.ticket.0 t.0) host.pending at p found closes.there) in
     let flew : (d : HostCommand) → IsPending (commands log) p d → d.sends ≡ Some flying.1.s = λ d pending.
-    let same : d ≡ c = one-command (commands log) c d t.0 (only 0 (commands log) c m.tickets flying.1.there) pending.there (ap (λ (u : Ticket). u.0) pending.ticket ∙ is_ticket) flying.1.same in
+    let same : d ≡ c = one-command (commands log) c d t.0 (only 0 (commands log) c m.tickets flying.1.there) pending.there
+    (ap (λ (u : Ticket). u.0) pending.ticket ∙ is_ticket) flying.1.same in
     ap (λ (e : HostCommand). e.sends) same ∙ flying.1.sends in
     let of_first = first (sent_of (commands log)) m.sent in
     let o = of_first.0 in
@@ -189,8 +213,10 @@ GaveUpBy old now host = (dones : List Done) × (host.waiting ≡ old.waiting ++ 
     × ((log : List Event) → Matches log old → GaveUpInTurn old.dead host.clock (Advances now ∷ log) dones × Matches (ended dones (Advances now ∷ log)) host)
 
 pub gave-up-more : (old host new : Host) (now : Millis) (t : Ticket) (at : ℕ) → host.dead ≡ old.dead → GaveUpBy old now host → place t host.pending ≡ Some at
-    → ((f : Flying) × (option_map (λ c. c.flying) (find (flies_as t.0) host.flight.commands) ≡ Some f) × Closes host at None (GaveUp f.first (record { 0 = host.clock })) new)
-    → ((sent : List Outstanding) → Recalls host.flight sent → (o : Outstanding) × (o.ticket ≡ t) × IsFirst (is_expired host.flight.dead host.clock) lower sent o) → GaveUpBy old now new
+    → ((f : Flying) × (option_map (λ c. c.flying) (find (flies_as t.0) host.flight.commands) ≡ Some f)
+    × Closes host at None (GaveUp f.first (record { 0 = host.clock })) new)
+    → ((sent : List Outstanding) → Recalls host.flight sent
+    → (o : Outstanding) × (o.ticket ≡ t) × IsFirst (is_expired host.flight.dead host.clock) lower sent o) → GaveUpBy old now new
 gave-up-more old host new now t at dead_same before found closed first =
     let f = closed.0 in
     let closes = closed.2 in
@@ -199,13 +225,15 @@ gave-up-more old host new now t at dead_same before found closed first =
     let clock_same : new.clock ≡ host.clock = ap (λ (h : Host). h.clock) closes.after in
     let waiting : new.waiting ≡ host.waiting ++ done ∷ [] = ap (λ (h : Host). h.waiting) closes.after in
     let all : new.waiting ≡ old.waiting ++ reverse (done ∷ dones) =
-    waiting ∙ ap (λ (l : List Done). l ++ done ∷ []) before.1 ∙ append_assoc old.waiting (reverse dones) (done ∷ []) ∙ ap (λ (l : List Done). old.waiting ++ l) (sym (reverse-cons done dones)) in (
+    waiting ∙ ap (λ (l : List Done). l ++ done ∷ []) before.1 ∙ append_assoc old.waiting (reverse dones) (done ∷ [])
+    ∙ ap (λ (l : List Done). old.waiting ++ l) (sym (reverse-cons done dones)) in (
       done ∷ dones,
       all,
       λ log m.
           let earlier = before.2 log m in
           let once_more = gave-up-once host new (ended dones (Advances now ∷ log)) t at f earlier.1 found closed.1 closes first in
           let C : ℕ → Type 0 = λ n. GaveUpInTurn old.dead n (Advances now ∷ log) (done ∷ dones) in
-          let D : ℕ → Type 0 = λ n. (o : Outstanding) × IsFirst (is_expired n host.clock) lower (sent_of (commands (ended dones (Advances now ∷ log)))) o × (done ≡ given_up host.clock o) in
+          let D : ℕ → Type 0 = λ n. (o : Outstanding) × IsFirst (is_expired n host.clock) lower (sent_of (commands (ended dones (Advances now ∷ log)))) o
+          × (done ≡ given_up host.clock o) in
           (subst C (sym clock_same) (earlier.0, subst D dead_same once_more.1), once_more.0),
     )

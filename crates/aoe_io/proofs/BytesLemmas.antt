@@ -77,7 +77,8 @@ Gave-piece left xs ys piece d n left_is same piece_is =
     let P : List ℕ → Type 0 = λ zs. piece ≡ take n (take (length zs - d) (drop d zs)) in
     let Q : List ℕ → Type 0 = λ zs. piece ≡ take n zs in
     let front : piece ≡ take n (drop d xs) = subst Q (take_rest xs d) (subst P same piece_is) in
-    ap Some (left_is ∙ sym (take-append-drop n (drop d xs)) ∙ ap (λ (t : List ℕ). take n (drop d xs) ++ t) (drop-drop n d xs) ∙ ap (λ (t : List ℕ). t ++ drop (d + n) xs) (sym front))
+    ap Some (left_is ∙ sym (take-append-drop n (drop d xs)) ∙ ap (λ (t : List ℕ). take n (drop d xs) ++ t) (drop-drop n d xs)
+    ∙ ap (λ (t : List ℕ). t ++ drop (d + n) xs) (sym front))
 
 pub TookSome-both : (a b c : Option (List ℕ)) (p q r xs : List ℕ) → p ++ q ≡ xs → r ≡ q → Took a b p → TookSome b c r → TookSome a c xs
 TookSome-both a b c p q r xs whole same first second =

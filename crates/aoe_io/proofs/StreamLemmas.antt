@@ -30,7 +30,8 @@ pub record First (rest : List ℕ) (gs : List (List ℕ)) : Type 0 where
 
 pub first-frame : (f rest : List ℕ) (gs : List (List ℕ)) → IsFrame f → All IsFrame gs → framed f ++ rest ≡ stream gs → First rest gs
 first-frame f rest [] is all e = absurd (cc)
-first-frame f rest (g ∷ gs) is all e = record { some = omega arith; behind = (one-frame f g rest (stream gs) is (All-get_or IsFrame (g ∷ gs) 0 [] (omega arith) all) e).1 }
+first-frame f rest (g ∷ gs) is all e =
+    record { some = omega arith; behind = (one-frame f g rest (stream gs) is (All-get_or IsFrame (g ∷ gs) 0 [] (omega arith) all) e).1 }
 
 -- bytes that begin with a frame aren't broken
 frame-whole : (f rest : List ℕ) → IsFrame f → IsBroken (framed f ++ rest) → ⊥

@@ -31,14 +31,16 @@ module _ {D : Type 0} (state : D → DiskState) where
       → Logs (calls.close_gate old.place old.is_closed ∷ []) (state old.disk) (state new.disk) → Clears state failed old new
   unfolding makes_one makes_stop
   clears_failed r e failed old new is f known log = rw f (record {
-    calls = makes_stop (calls.close_gate old.place old.is_closed ∷ []) (Sync ∷ []) (state old.disk) (state new.disk) (makes_one _ true (state old.disk) (state new.disk) log);
+    calls = makes_stop (calls.close_gate old.place old.is_closed ∷ []) (Sync ∷ []) (state old.disk) (state new.disk)
+        (makes_one _ true (state old.disk) (state new.disk) log);
     closed = (rw is at known) ∙ or_none old.is_closed;
   })
 
   pub clears_done : (failed : Bool) (old new : Mounted D) (b : DiskState) → new.is_closed ≡ true
       → Logs (calls.close_gate old.place old.is_closed ∷ []) (state old.disk) b → Logs (Sync ∷ []) b (state new.disk) → Clears state failed old new
   unfolding makes_two makes_one makes_then
-  clears_done failed old new b closed one two = record { calls = makes_two (calls.close_gate old.place old.is_closed) Sync failed (state old.disk) b (state new.disk) one two; closed = closed }
+  clears_done failed old new b closed one two =
+      record { calls = makes_two (calls.close_gate old.place old.is_closed) Sync failed (state old.disk) b (state new.disk) one two; closed = closed }
 
 -- before the gate is written open it stays known to be closed, but for a first call that failed
 stays_closed : (n : ℕ) (was : Bool) → 2 ≤ n → n < 5 → closed_after n was ≡ true

@@ -21,7 +21,8 @@ use Rattle.aoe_keep.proofs.Slots.{gate_same, body_same, left_same}
 use Rattle.aoe_keep.proofs.Told.{both_map, told_last, told_then}
 
 -- what a body spells it spells by one format
-spelled_by : (o : Option Format) (bytes : List ℕ) (b : Written) → option_and_then (λ f. decode_by f bytes) o ≡ Some b → (f : Format) × (decode_by f bytes ≡ Some b)
+spelled_by : (o : Option Format) (bytes : List ℕ) (b : Written) → option_and_then (λ f. decode_by f bytes) o ≡ Some b
+    → (f : Format) × (decode_by f bytes ≡ Some b)
 spelled_by None bytes b e = absurd cc
 spelled_by (Some f) bytes b e = (f, e)
 
@@ -29,7 +30,8 @@ spelled_by (Some f) bytes b e = (f, e)
 turn_small_by : (f : Format) (bytes : List ℕ) (b : Written) → decode_by f bytes ≡ Some b → b.turn < 3
 unfolding decode_by is_valid
 turn_small_by f bytes b e =
-    let w = cond_some (starts_with nat_eq bytes (start f) && is_valid f (slice_index bytes 5) (config_len bytes) (slice_index bytes 8) (slice_index bytes 9) (mark_in f bytes) (drop (head_len f) bytes)) _ b e in
+    let w = cond_some (starts_with nat_eq bytes (start f) && is_valid f (slice_index bytes 5) (config_len bytes) (slice_index bytes 8) (slice_index bytes 9)
+    (mark_in f bytes) (drop (head_len f) bytes)) _ b e in
     let valid = (and_parts (starts_with nat_eq bytes (start f)) _ w.0).1 in
     let less : slice_index bytes 5 < 3 = ltb-true _ 3 (and_parts (nat_lt (slice_index bytes 5) 3) _ (and_parts _ _ valid).0).0 in
     let same : slice_index bytes 5 ≡ b.turn = ap (λ (p : Written). p.turn) w.1 in
@@ -144,7 +146,10 @@ always_found lists a b told = told_last (λ x y. (found x.bytes ≡ Ok lists) ×
 pub always_format : (place : Option Place) (is_closed : Bool) (lists : Settings) (a b : Option Contents)
     → IfSome a (λ x. placement (slot x.bytes 0) (slot x.bytes 1) ≡ (place, is_closed)) → BothTell (λ x y. (found x.bytes ≡ Ok lists) × Settles x y) a b
     → IfSome b (λ y. (image : List ℕ) → CanLeave y image → format_found image ≡ format_at place)
-always_format place is_closed lists a b stands told = told_then _ _ _ a b (λ x y (p : placement (slot x.bytes 0) (slot x.bytes 1) ≡ (place, is_closed)) (h : (found x.bytes ≡ Ok lists) × Settles x y). λ image left.
+always_format place is_closed lists a b stands told =
+    told_then _ _ _ a b (λ x y (p : placement (slot x.bytes 0) (slot x.bytes 1) ≡ (place, is_closed))
+    (h : (found x.bytes ≡ Ok lists) × Settles x y). λ image left.
     let kept = settles_kept x y h.1 in
-    (λ i. format_at (placement (slot_left y kept image 0 left i) (slot_left y kept image 1 left i)).0) ∙ ap format_found h.1.bytes ∙ ap (λ (q : Option Place × Bool). format_at q.0) p)
+    (λ i. format_at (placement (slot_left y kept image 0 left i) (slot_left y kept image 1 left i)).0) ∙ ap format_found h.1.bytes
+    ∙ ap (λ (q : Option Place × Bool). format_at q.0) p)
     stands told

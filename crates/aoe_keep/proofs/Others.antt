@@ -31,14 +31,26 @@ own_then a b c one two = record {
 
 pub gate_others : {T E : Type 0} (sectors k : ℕ) (opens : Bool) (result : Result T E) (old new : DiskState) → k ≤ 1
     → BothTell (WritesGate sectors k opens result) old.contents new.contents → KeepsOthers old new
-gate_others sectors k opens result old new small told = record { contents = both_map (WritesGate sectors k opens result) (Touches 0 16) old.contents new.contents (λ x y w. touch_own (8 * k) 1 x y (omega (arith, small)) w.touches) told }
+gate_others sectors k opens result old new small told =
+    record {
+      contents = both_map (WritesGate sectors k opens result) (Touches 0 16) old.contents new.contents
+          (λ x y w. touch_own (8 * k) 1 x y (omega (arith, small)) w.touches) told;
+    }
 
 pub body_others : {T E : Type 0} (k : ℕ) (piece : List ℕ) (result : Result T E) (old new : DiskState) → k ≤ 1
     → BothTell (WritesBody k piece result) old.contents new.contents → KeepsOthers old new
-body_others k piece result old new small told = record { contents = both_map (WritesBody k piece result) (Touches 0 16) old.contents new.contents (λ x y w. touch_own (8 * k + 1) 7 x y (omega (arith, small)) w.touches) told }
+body_others k piece result old new small told =
+    record {
+      contents = both_map (WritesBody k piece result) (Touches 0 16) old.contents new.contents
+          (λ x y w. touch_own (8 * k + 1) 7 x y (omega (arith, small)) w.touches) told;
+    }
 
 pub sync_others : {T E : Type 0} (result : Result T E) (old new : DiskState) → BothTell (Syncs result) old.contents new.contents → KeepsOthers old new
-sync_others result old new told = record { contents = both_map (Syncs result) (Touches 0 16) old.contents new.contents (λ x y w. calm_touches 0 16 x y (syncs_calm result x y w)) told }
+sync_others result old new told =
+    record { contents = both_map (Syncs result) (Touches 0 16) old.contents new.contents (λ x y w. calm_touches 0 16 x y (syncs_calm result x y w)) told }
 
 pub others_then : (a b c : DiskState) → KeepsOthers a b → KeepsOthers b c → KeepsOthers a c
-others_then a b c one two = record { contents = both_then (Touches 0 16) (Touches 0 16) (Touches 0 16) a.contents b.contents c.contents own_then one.contents two.contents }
+others_then a b c one two = record {
+  contents =
+      both_then (Touches 0 16) (Touches 0 16) (Touches 0 16) a.contents b.contents c.contents own_then one.contents two.contents;
+}

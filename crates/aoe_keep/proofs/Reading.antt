@@ -94,13 +94,15 @@ module _ (f : Format) (body rest : List ℕ) (n m r mark : ℕ) (en : n ≡ conf
       → x ≡ fields_of n m r mark rest → Some (record { format = f.number; turn = slice_index body 5; lists = x }) ≡ decode_by f body
   unfolding decode_by
   decode_valid x s e ex =
-      ap (λ (y : Settings). let w : Written = record { format = f.number; turn = slice_index body 5; lists = y } in Some w) (ex ∙ (λ i. fields_of (en i) (em i) (er i) (ek i) (is i)))
+      ap (λ (y : Settings). let w : Written = record { format = f.number; turn = slice_index body 5; lists = y } in Some w)
+      (ex ∙ (λ i. fields_of (en i) (em i) (er i) (ek i) (is i)))
       ∙ sym (cond-true _ _ None (and_from _ _ s (valid_same true e)))
 
 -- a body that spells lists is their spelling
 
 fields_whole : (n m r mark : ℕ) (rest : List ℕ) → n + 6 * m + 6 * r ≤ length rest → list_all (λ b. b == 0) (drop (n + 6 * m + 6 * r) rest) ≡ true
-    → rest ≡ (fields_of n m r mark rest).config ++ flat_map (λ a. a.0) (fields_of n m r mark rest).masks ++ flat_map (λ a. a.0) (fields_of n m r mark rest).reserves
+    → rest ≡ (fields_of n m r mark rest).config ++ flat_map (λ a. a.0) (fields_of n m r mark rest).masks ++ flat_map (λ a. a.0)
+    (fields_of n m r mark rest).reserves
     ++ replicate (length rest - (n + 6 * m + 6 * r)) 0
 unfolding fields_of
 fields_whole n m r mark rest fits zeros =
@@ -180,7 +182,8 @@ spelling_of f body n m r mark is size bytes en em er ek starts valid =
     let begins : body ≡ start f ++ drop 5 body = (starts_is {E = nat_eq} Decides-eqb body (start f) true (sym starts)).0 refl in
     let marked : drop 10 body ≡ mark_bytes f (mark == 1) ++ rest = rw (← ek) at (marks f body size (rw ek at sizes.small)) in
     assembled f body (get_or body 5 0) (get_or body 6 0) (get_or body 7 0) (get_or body 8 0) (get_or body 9 0) rest s (length rest - (n + 6 * m + 6 * r)) size
-    (begins ∙ (λ i. start f ++ numbers body size i) ∙ (λ i. start f ++ (get_or body 5 0 ∷ get_or body 6 0 ∷ get_or body 7 0 ∷ get_or body 8 0 ∷ get_or body 9 0 ∷ marked i)))
+    (begins ∙ (λ i. start f ++ numbers body size i)
+    ∙ (λ i. start f ++ (get_or body 5 0 ∷ get_or body 6 0 ∷ get_or body 7 0 ∷ get_or body 8 0 ∷ get_or body 9 0 ∷ marked i)))
     written_len (length-pieces m (drop n rest) ∙ em) (length-pieces r (drop (n + 6 * m) rest) ∙ er) (fields_whole n m r mark rest fits zeros)
 
 pub one_spelling : (f : Format) (body : List ℕ) (b : Written) → IsFormat f → length body ≡ 3584 → All (λ b. b < 256) body → decode_by f body ≡ Some b
@@ -193,7 +196,8 @@ one_spelling f body b is size bytes e =
     let mark = mark_in f body in
     let rest = drop (head_len f) body in
     let valid = is_valid f (slice_index body 5) n m r mark rest in
-    let w = cond_some (starts_with nat_eq body (start f) && valid) (record { format = f.number; turn = slice_index body 5; lists = fields_of n m r mark rest }) b e in
+    let w = cond_some (starts_with nat_eq body (start f) && valid)
+    (record { format = f.number; turn = slice_index body 5; lists = fields_of n m r mark rest }) b e in
     let both = and_parts (starts_with nat_eq body (start f)) valid w.0 in
     spelling_of f body n m r mark is size bytes refl refl refl refl both.0 both.1 ∙ ap (λ (x : Written). spelling f x.turn x.lists) w.1
 

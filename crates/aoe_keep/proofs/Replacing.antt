@@ -33,8 +33,11 @@ outcome_next (Some p) lists next = rw (eq-eqb (next_turn p.turn) (next_turn p.tu
 spare_some : (k t n m : ℕ) (lists : Settings) (c : Contents) → k < 2 → t < 3 → StaysOpen c k (record { format = n; turn = t; lists = lists })
     → IsSpare (Some (record { slot = 1 - k; turn = next_turn t; format = m })) false c
 spare_some k t n m lists c lk lt holds =
-    let back : k ≡ 1 - (1 - k) = omega (arith, lk) in
-    (record { format = n; turn = t; lists = lists }, record { body = rw back at holds.body; turn = (lt, λ e. omega (arith, lt, e)) }, inr (rw back at holds.gate))
+    let back : k ≡ 1 - (1 - k) = omega (arith, lk) in (
+      record { format = n; turn = t; lists = lists },
+      record { body = rw back at holds.body; turn = (lt, λ e. omega (arith, lt, e)) },
+      inr (rw back at holds.gate),
+    )
 
 spare_after : (place : Option Place) (lists : Settings) (c : Contents) → IsSteady place lists c → IsSpare (next_place place) (is_unplaced place) c
 spare_after None lists c steady = (steady.1.gate, inl steady.1)
@@ -45,11 +48,13 @@ placed_of : (image : List ℕ) (a b : Option (Option Written)) → slot image 0 
 placed_of image a b ea eb = λ i. format_at (placement (ea i) (eb i)).0
 
 first_follows : (t n m : ℕ) (lists next : Settings) → t < 3
-    → format_at (placement (Some (Some (record { format = n; turn = t; lists = lists }))) (Some (Some (record { format = m; turn = next_turn t; lists = next })))).0 ≡ m
+    → format_at (placement (Some (Some (record { format = n; turn = t; lists = lists })))
+    (Some (Some (record { format = m; turn = next_turn t; lists = next })))).0 ≡ m
 first_follows t n m lists next lt = rw (ne_eqb t (next_turn (next_turn t)) (λ e. omega (arith, lt, e))) refl
 
 second_follows : (t n m : ℕ) (lists next : Settings)
-    → format_at (placement (Some (Some (record { format = m; turn = next_turn t; lists = next }))) (Some (Some (record { format = n; turn = t; lists = lists })))).0 ≡ m
+    → format_at (placement (Some (Some (record { format = m; turn = next_turn t; lists = next })))
+    (Some (Some (record { format = n; turn = t; lists = lists })))).0 ≡ m
 second_follows t n m lists next = rw (eq-eqb (next_turn t) (next_turn t) refl) refl
 
 latest_at : (k t n : ℕ) (lists next : Settings) (c : Contents) (image : List ℕ) → k < 2 → t < 3 → StaysOpen c k (record { format = n; turn = t; lists = lists })
@@ -84,7 +89,10 @@ module _ (place : Option Place) (lists next : Settings) where
   module _ (sectors : ℕ) (room : 16 ≤ sectors) (c d : Contents) (shape : HasShape sectors c) (kept : IsKept place false lists c)
       (touch : Touches (8 * spare place) 1 c d) where
     ready : IsChoosable place d kept.spare.0
-    ready = record { body = body_touch (8 * spare place) 1 c d touch (spare place) kept.spare.0 (λ s l h. inr (omega arith)) kept.spare.1.body; turn = kept.spare.1.turn }
+    ready = record {
+      body = body_touch (8 * spare place) 1 c d touch (spare place) kept.spare.0 (λ s l h. inr (omega arith)) kept.spare.1.body;
+      turn = kept.spare.1.turn;
+    }
 
     steady : IsSteady place lists d
     steady = steady_touch place lists (8 * spare place) 1 c d gate_within touch kept.steady
@@ -127,7 +135,8 @@ module _ (place : Option Place) (lists next : Settings) where
   }
 
   pub cleared_calm : (c d : Contents) → IsCleared place lists c → Calms c d → IsCleared place lists d
-  cleared_calm c d cleared calm = record { steady = steady_calm c d calm place lists cleared.steady; closed = closed_calm c d calm (spare place) cleared.closed }
+  cleared_calm c d cleared calm =
+      record { steady = steady_calm c d calm place lists cleared.steady; closed = closed_calm c d calm (spare place) cleared.closed }
 
   pub stage_done : (c d : Contents) → IsCleared place lists c → decode (body c.bytes (spare place)) ≡ Some (next_body place next)
       → Settles c d → IsStaged place lists next d
@@ -163,7 +172,8 @@ module _ (place : Option Place) (lists next : Settings) where
     opened gate = record { steady = steady_staged; gate = gate; body = body_staged }
 
   pub last_failed : (before c d : Contents) → IsOpened place lists next c → Calms c d → IsInterrupted place false lists next before d
-  last_failed before c d o calm = half_open before d (steady_calm c d calm place lists o.steady) (body_calm c d calm (spare place) (next_body place next) o.body) (inr (gate_calm c d calm (spare place) true o.gate))
+  last_failed before c d o calm = half_open before d (steady_calm c d calm place lists o.steady)
+      (body_calm c d calm (spare place) (next_body place next) o.body) (inr (gate_calm c d calm (spare place) true o.gate))
 
   pub replaced : (c d : Contents) → IsOpened place lists next c → Settles c d → IsReplaced place next d
   replaced c d o settles =
@@ -179,7 +189,8 @@ module _ (place : Option Place) (lists next : Settings) where
         kept = record { steady = (small, turn_after_small place, holds); spare = spare_after place lists d steady };
         finds = λ image left. (
           next,
-          found_by place lists d image (Some (next_body place next)) steady left (open_after d (spare place) (next_body place next) image holds left) (other_turn place lists d steady)
+          found_by place lists d image (Some (next_body place next)) steady left (open_after d (spare place) (next_body place next) image holds left)
+              (other_turn place lists d steady)
               ∙ ap (λ (x : Settings). let r : Result Settings ℕ = Ok x in r) (outcome_next place lists next),
           refl,
         );

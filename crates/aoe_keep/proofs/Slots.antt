@@ -86,16 +86,22 @@ found_of image a b ea eb = λ i. choice (ea i) (eb i)
 
 found_some : (k t n : ℕ) (lists : Settings) (c : Contents) (image : List ℕ) (o : Option Written) → k < 2 → t < 3
     → StaysOpen c k (record { format = n; turn = t; lists = lists }) → CanLeave c image
-    → slot image (1 - k) ≡ seen o → IsRival (Some (record { slot = k; turn = t; format = n })) o → found image ≡ Ok (outcome (Some (record { slot = k; turn = t; format = n })) lists o)
-found_some zero t n lists c image None lk lt holds left e rival = found_of image _ _ (open_after c 0 (record { format = n; turn = t; lists = lists }) image holds left) e
-found_some zero t n lists c image (Some b) lk lt holds left e rival = found_of image _ _ (open_after c 0 (record { format = n; turn = t; lists = lists }) image holds left) e ∙ first_holds t n lists b lt rival.0 rival.1
-found_some (suc zero) t n lists c image None lk lt holds left e rival = found_of image _ _ e (open_after c 1 (record { format = n; turn = t; lists = lists }) image holds left)
-found_some (suc zero) t n lists c image (Some b) lk lt holds left e rival = found_of image _ _ e (open_after c 1 (record { format = n; turn = t; lists = lists }) image holds left) ∙ second_holds t n lists b lt rival.0 rival.1
+    → slot image (1 - k) ≡ seen o → IsRival (Some (record { slot = k; turn = t; format = n })) o
+    → found image ≡ Ok (outcome (Some (record { slot = k; turn = t; format = n })) lists o)
+found_some zero t n lists c image None lk lt holds left e rival =
+    found_of image _ _ (open_after c 0 (record { format = n; turn = t; lists = lists }) image holds left) e
+found_some zero t n lists c image (Some b) lk lt holds left e rival =
+    found_of image _ _ (open_after c 0 (record { format = n; turn = t; lists = lists }) image holds left) e ∙ first_holds t n lists b lt rival.0 rival.1
+found_some (suc zero) t n lists c image None lk lt holds left e rival =
+    found_of image _ _ e (open_after c 1 (record { format = n; turn = t; lists = lists }) image holds left)
+found_some (suc zero) t n lists c image (Some b) lk lt holds left e rival =
+    found_of image _ _ e (open_after c 1 (record { format = n; turn = t; lists = lists }) image holds left) ∙ second_holds t n lists b lt rival.0 rival.1
 found_some (suc (suc k)) t n lists c image o lk lt holds left e rival = absurd (omega (arith, lk))
 
 pub found_by : (place : Option Place) (lists : Settings) (c : Contents) (image : List ℕ) (o : Option Written) → IsSteady place lists c → CanLeave c image
     → slot image (spare place) ≡ seen o → IsRival place o → found image ≡ Ok (outcome place lists o)
-found_by None lists c image None steady left e rival = found_of image _ _ e (closed_after c 1 image steady.1 left) ∙ ap (λ (x : Settings). let r : Result Settings ℕ = Ok x in r) (sym steady.0)
+found_by None lists c image None steady left e rival = found_of image _ _ e (closed_after c 1 image steady.1 left)
+    ∙ ap (λ (x : Settings). let r : Result Settings ℕ = Ok x in r) (sym steady.0)
 found_by None lists c image (Some b) steady left e rival = found_of image _ _ e (closed_after c 1 image steady.1 left)
 found_by (Some p) lists c image o steady left e rival = found_some p.slot p.turn p.format lists c image o steady.0 steady.1 steady.2 left e rival
 

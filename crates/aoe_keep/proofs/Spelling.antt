@@ -59,7 +59,8 @@ module _ (f : Format) (turn : ℕ) (s : Settings) (fits : Fits f turn s) (pad : 
       (s.config ++ flat_map (λ a. a.0) s.masks ++ flat_map (λ a. a.0) s.reserves ++ replicate pad 0) ≡ s
   unfolding fields_of
   fields_back =
-      let p = part s.config (flat_map (λ a. a.0) s.masks) (flat_map (λ a. a.0) s.reserves) (replicate pad 0) (length s.config) (6 * length s.masks) refl (length_joined s.masks fits.six_masks) in
+      let p = part s.config (flat_map (λ a. a.0) s.masks) (flat_map (λ a. a.0) s.reserves) (replicate pad 0) (length s.config) (6 * length s.masks) refl
+      (length_joined s.masks fits.six_masks) in
       let m = ap (λ (l : List ℕ). addresses (first_chunks 6 (length s.masks) l)) p.0 ∙ addresses_back s.masks _ fits.six_masks in
       let r = ap (λ (l : List ℕ). addresses (first_chunks 6 (length s.reserves) l)) p.1 ∙ addresses_back s.reserves _ fits.six_reserves in
       λ i. record { config = p.2 i; masks = m i; reserves = r i; read_only = mark_read s.read_only i }
@@ -67,13 +68,22 @@ module _ (f : Format) (turn : ℕ) (s : Settings) (fits : Fits f turn s) (pad : 
   end_back : drop (length s.config + 6 * length s.masks + 6 * length s.reserves)
       (s.config ++ flat_map (λ a. a.0) s.masks ++ flat_map (λ a. a.0) s.reserves ++ replicate pad 0) ≡ replicate pad 0
   end_back = drop_at (s.config ++ flat_map (λ a. a.0) s.masks ++ flat_map (λ a. a.0) s.reserves) (replicate pad 0) _
-      (omega (arith, length-append (s.config ++ flat_map (λ a. a.0) s.masks) (flat_map (λ a. a.0) s.reserves), length-append s.config (flat_map (λ a. a.0) s.masks), length_joined s.masks fits.six_masks, length_joined s.reserves fits.six_reserves))
+      (omega (
+        arith,
+        length-append (s.config ++ flat_map (λ a. a.0) s.masks) (flat_map (λ a. a.0) s.reserves),
+        length-append s.config
+            (flat_map (λ a. a.0) s.masks),
+        length_joined s.masks fits.six_masks,
+        length_joined s.reserves fits.six_reserves,
+      ))
 
   valid_back : is_valid f turn (length s.config) (length s.masks) (length s.reserves) (mark_number s.read_only)
       (s.config ++ flat_map (λ a. a.0) s.masks ++ flat_map (λ a. a.0) s.reserves ++ replicate pad 0) ≡ true
   unfolding is_valid
   valid_back =
-      and_from _ _ (and_from _ _ (lt-ltb turn 3 fits.known_turn) (and_from _ _ (le-leb _ max_config fits.config) (and_from _ _ (le-leb _ f.most fits.masks) (and_from _ _ (le-leb _ f.most fits.reserves) (mark_small s.read_only)))))
+      and_from _ _ (and_from _ _ (lt-ltb turn 3 fits.known_turn)
+      (and_from _ _ (le-leb _ max_config fits.config)
+      (and_from _ _ (le-leb _ f.most fits.masks) (and_from _ _ (le-leb _ f.most fits.reserves) (mark_small s.read_only)))))
       (rw (fields_back, end_back) (and_from _ _ fits.unique_masks (and_from _ _ fits.unique_reserves (zeros pad))))
 
 -- a body names its format in the fifth byte
@@ -124,7 +134,8 @@ unfolding spelling
 config_spelled f turn s few = from_be_bytes-to_be_bytes_2 (length s.config) (omega (arith, few))
 
 numbers_spelled : (f : Format) (turn : ℕ) (s : Settings)
-    → (slice_index (spelling f turn s) 5 ≡ turn) × (slice_index (spelling f turn s) 8 ≡ length s.masks) × (slice_index (spelling f turn s) 9 ≡ length s.reserves)
+    → (slice_index (spelling f turn s) 5 ≡ turn) × (slice_index (spelling f turn s) 8 ≡ length s.masks)
+    × (slice_index (spelling f turn s) 9 ≡ length s.reserves)
 unfolding spelling
 numbers_spelled f turn s = (refl, refl, refl)
 
@@ -143,20 +154,39 @@ reads_back f turn s fits =
     all ∙ cond-true _ _ None (and_from _ _ (begins f turn s) (valid_back f turn s fits pad)) ∙ ap (with turn) (fields_back f turn s fits pad)
 
 -- and by the format that it names
-pub decodes : (turn : ℕ) (s : Settings) → Fits format_2 turn s → decode (spelling format_2 turn s) ≡ Some (record { format = format_2.number; turn = turn; lists = s })
+pub decodes : (turn : ℕ) (s : Settings) → Fits format_2 turn s
+    → decode (spelling format_2 turn s) ≡ Some (record { format = format_2.number; turn = turn; lists = s })
 decodes turn s fits =
     ap (λ (k : ℕ). option_and_then (λ f. decode_by f (spelling format_2 turn s)) (format_named k)) (names format_2 turn s) ∙ reads_back format_2 turn s fits
 
 pub length-written : (f : Format) (turn : ℕ) (s : Settings) → All (λ a. length a.0 ≡ 6) s.masks → All (λ a. length a.0 ≡ 6) s.reserves
     → length (written f turn s) ≡ head_len f + length s.config + 6 * length s.masks + 6 * length s.reserves
 length-written f turn s sm sr =
-    omega (arith, length-head f turn s, length-append (head_of f turn s ++ s.config ++ flat_map (λ a. a.0) s.masks) (flat_map (λ a. a.0) s.reserves), length-append (head_of f turn s ++ s.config) (flat_map (λ a. a.0) s.masks), length-append (head_of f turn s) s.config, length_joined s.masks sm, length_joined s.reserves sr)
+    omega (
+      arith,
+      length-head f turn s,
+      length-append (head_of f turn s ++ s.config ++ flat_map (λ a. a.0) s.masks) (flat_map (λ a. a.0) s.reserves),
+      length-append (head_of f turn s ++ s.config) (flat_map (λ a. a.0) s.masks),
+      length-append (head_of f turn s) s.config,
+      length_joined s.masks sm,
+      length_joined s.reserves sr,
+    )
 
 pub length-spelling : (f : Format) (turn : ℕ) (s : Settings) → IsFormat f → Fits f turn s → length (spelling f turn s) ≡ 3584
 unfolding spelling
 length-spelling f turn s is fits =
     let all = written f turn s in
-    omega (arith, length-append all (replicate (3584 - length all) 0), length-replicate {A = ℕ} (3584 - length all) 0, length-written f turn s fits.six_masks fits.six_reserves, fits.config, fits.masks, fits.reserves, is.room)
+    omega (
+      arith,
+      length-append all (replicate (3584 - length all) 0),
+      length-replicate {A = ℕ}
+          (3584 - length all) 0,
+      length-written f turn s fits.six_masks fits.six_reserves,
+      fits.config,
+      fits.masks,
+      fits.reserves,
+      is.room,
+    )
 
 -- what was appended, piece by piece, is the spelling
 pub spelled : (f : Format) (turn : ℕ) (s : Settings) (a b c d e : List ℕ) → a ≡ head_of f turn s → b ≡ a ++ s.config → c ≡ b ++ flat_map (λ a. a.0) s.masks

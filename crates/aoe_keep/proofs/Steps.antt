@@ -46,7 +46,8 @@ steady_touch (Some p) lists lo n old new within touch steady =
       record {
         gate = gate_same new.bytes old.bytes p.slot (λ s l h. touch.same s (out s (omega arith) (omega arith))) ∙ steady.2.gate;
         kept = λ s l h. touch.kept s (out s (omega arith) (omega arith)) (steady.2.kept s l h);
-        body = body_touch lo n old new touch p.slot (record { format = p.format; turn = p.turn; lists = lists }) (λ s l h. out s (omega arith) (omega arith)) steady.2.body;
+        body = body_touch lo n old new touch p.slot (record { format = p.format; turn = p.turn; lists = lists })
+            (λ s l h. out s (omega arith) (omega arith)) steady.2.body;
       },
     )
 
@@ -71,7 +72,8 @@ module _ (old new : Contents) (calm : Calms old new) where
   finds_calm P finds = λ image left. finds image (left_calm image left)
 
   pub steady_calm : (place : Option Place) (lists : Settings) → IsSteady place lists old → IsSteady place lists new
-  steady_calm place lists steady = steady_touch place lists (8 * spare place) 0 old new (record { low = omega arith; high = omega arith }) (calm_touches _ 0 old new calm) steady
+  steady_calm place lists steady = steady_touch place lists (8 * spare place) 0 old new (record { low = omega arith; high = omega arith })
+      (calm_touches _ 0 old new calm) steady
 
   -- what is known of a closed gate stays known
   pub kept_calm : (place : Option Place) (lists : Settings) → IsKept place true lists old → IsKept place true lists new

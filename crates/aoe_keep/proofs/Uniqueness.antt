@@ -22,7 +22,8 @@ twice (x ∷ list) a rest e = at (same_address x a) refl e (λ h. twice list a r
     at : (t : Bool) → same_address x a ≡ t → (t || holds list a) ≡ true → (holds list a ≡ true → all_unique (list ++ a ∷ rest) ≡ false)
         → (not (holds (list ++ a ∷ rest) x) && all_unique (list ++ a ∷ rest)) ≡ false
     at true same e later =
-        let again : holds (list ++ a ∷ rest) x ≡ true = list_any-append (λ b. same_address b x) list (a ∷ rest) ∙ ap (λ t. holds list x || (t || holds rest x)) (same_address-comm a x ∙ same) ∙ or_right (holds list x) true refl in
+        let again : holds (list ++ a ∷ rest) x ≡ true = list_any-append (λ b. same_address b x) list (a ∷ rest)
+        ∙ ap (λ t. holds list x || (t || holds rest x)) (same_address-comm a x ∙ same) ∙ or_right (holds list x) true refl in
         ap (λ t. not t && all_unique (list ++ a ∷ rest)) again
     at false same e later = and_right _ _ (later e)
 

@@ -33,7 +33,12 @@ module _ (sectors k : ℕ) (room : 16 ≤ sectors) (small : k ≤ 1) (piece : Li
   gate_written opens (Err r) size first spoils =
       let range = gate_range k (length piece) sectors size small room in
       let one : length piece / 512 ≡ 1 = omega (arith, size) in
-      record { shape = shape; touches = rw one at (spoils_touch (8 * k) (length piece) c d sectors shape range spoils); loose = is_set one spoils.loose; gate = tt }
+      record {
+        shape = shape;
+        touches = rw one at (spoils_touch (8 * k) (length piece) c d sectors shape range spoils);
+        loose = is_set one spoils.loose;
+        gate = tt;
+      }
 
   body_written : {T E : Type 0} (result : Result T E) → length piece ≡ 3584 → Writes (8 * k + 1) piece result c d → WritesBody k piece result c d
   body_written (Ok r) size puts =

@@ -75,5 +75,8 @@ first_places-append (x ∷ list) a = at (holds list a) (first_places-append list
         → x ∷ without (first_places (list ++ a ∷ [])) x ≡ cond (u || t) (x ∷ without (first_places list) x) ((x ∷ without (first_places list) x) ++ a ∷ [])
     at true e true s = ap (λ (l : List Mac). x ∷ without l x) e
     at true e false s = ap (λ (l : List Mac). x ∷ without l x) e
-    at false e true s = ap (λ (l : List Mac). x ∷ without l x) e ∙ ap (λ (l : List Mac). x ∷ l) (filter-append (λ b. not (same_address b x)) (first_places list) (a ∷ [])) ∙ rw (same_address-comm a x, s, append-nil (without (first_places list) x)) refl
-    at false e false s = ap (λ (l : List Mac). x ∷ without l x) e ∙ ap (λ (l : List Mac). x ∷ l) (filter-append (λ b. not (same_address b x)) (first_places list) (a ∷ [])) ∙ rw (same_address-comm a x, s) refl
+    at false e true s = ap (λ (l : List Mac). x ∷ without l x) e
+        ∙ ap (λ (l : List Mac). x ∷ l) (filter-append (λ b. not (same_address b x)) (first_places list) (a ∷ []))
+        ∙ rw (same_address-comm a x, s, append-nil (without (first_places list) x)) refl
+    at false e false s = ap (λ (l : List Mac). x ∷ without l x) e
+        ∙ ap (λ (l : List Mac). x ∷ l) (filter-append (λ b. not (same_address b x)) (first_places list) (a ∷ [])) ∙ rw (same_address-comm a x, s) refl

@@ -42,7 +42,8 @@ pub ChangesOnly-config_result : (s : Settings) (facts : Facts) (command : Config
 ChangesOnly-config_result s facts Read string = tt
 ChangesOnly-config_result s facts Test string = either s (bytes_eq s.config string) _ _ tt tt
 ChangesOnly-config_result s facts TestPrefix string = either s (starts_with nat_eq s.config string) _ _ tt tt
-ChangesOnly-config_result s facts Set string = either s (length s.config == 0 || bytes_eq s.config string) _ _ (IfChange-success_of s (record s { config = string }) (config_args facts Set string)) tt
+ChangesOnly-config_result s facts Set string = either s (length s.config == 0 || bytes_eq s.config string) _ _
+    (IfChange-success_of s (record s { config = string }) (config_args facts Set string)) tt
 ChangesOnly-config_result s facts ForceSet string = IfChange-success_of s (record s { config = string }) (config_args facts ForceSet string)
 
 outcome : (s : Settings) (r : Result (List Mac) MaskError) → ChangesOnly s (mask_edit s r)
@@ -56,5 +57,7 @@ ChangesOnly-mask_result s Edit directives = outcome s (after_directives s.masks 
 pub ChangesOnly-reserve_result : (s : Settings) (source : Mac) (command : ReserveCommand) (given : List Mac)
     → ChangesOnly s (reserve_result s source command given)
 ChangesOnly-reserve_result s source ReadReserves given = tt
-ChangesOnly-reserve_result s source SetReserves given = either s (may_use s source) _ _ (IfChange-success_of s (record s { reserves = first_places given }) (reserve_args SetReserves (first_places given))) tt
-ChangesOnly-reserve_result s source ForceReserves given = IfChange-success_of s (record s { reserves = first_places given }) (reserve_args ForceReserves (first_places given))
+ChangesOnly-reserve_result s source SetReserves given =
+    either s (may_use s source) _ _ (IfChange-success_of s (record s { reserves = first_places given }) (reserve_args SetReserves (first_places given))) tt
+ChangesOnly-reserve_result s source ForceReserves given = IfChange-success_of s (record s { reserves = first_places given })
+    (reserve_args ForceReserves (first_places given))

@@ -50,7 +50,9 @@ same_settings-reserves s reserves =
     rw (same_bytes-refl s.config, same_addresses-refl s.masks, same_mark-refl s.read_only) (and_true (pointwise same_address reserves s.reserves))
 
 pub IfChange-success_of : (old next : Settings) (args : List ℕ) → IfChange (success_of old next args) (λ n. n ≢ old)
-IfChange-success_of old next args = at (same_settings next old) (λ e same. let P : Settings → Type 0 = λ s. same_settings s old ≡ false in true_or_false (sym (same_settings-refl old) ∙ subst P same e))
+IfChange-success_of old next args =
+    at (same_settings next old) (λ e same. let P : Settings → Type 0 = λ s. same_settings s old ≡ false in
+    true_or_false (sym (same_settings-refl old) ∙ subst P same e))
   where
     at : (t : Bool) → (t ≡ false → next ≢ old) → IfChange (cond t (reply_of args) (Change next args)) (λ n. n ≢ old)
     at true others = tt
@@ -77,5 +79,8 @@ same_settings-Decides a b =
     let three = Decides-and (config && masks) reserves two (same_addresses-Decides a.reserves b.reserves) in
     let parts = Decides-and (config && masks && reserves) (beq a.read_only b.read_only) three (booleans_Decides a.read_only b.read_only) in (
       (λ e. let p = parts.0 e in same_parts a b p.0.0.0 p.0.0.1 p.0.1 p.1),
-      (λ e. parts.1 (((ap (λ (s : Settings). s.config) e, ap (λ (s : Settings). s.masks) e), ap (λ (s : Settings). s.reserves) e), ap (λ (s : Settings). s.read_only) e)),
+      (λ e. parts.1 (
+        ((ap (λ (s : Settings). s.config) e, ap (λ (s : Settings). s.masks) e), ap (λ (s : Settings). s.reserves) e),
+        ap (λ (s : Settings). s.read_only) e,
+      )),
     )

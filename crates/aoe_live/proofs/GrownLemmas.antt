@@ -25,7 +25,8 @@ Aside h m = Adds is_aside h m
 pub handed : (s : Setup) (frame : ℕ) (station : Station) (h m : List Entry) → Follows s (Hand frame station ∷ []) h m → Aside h m
 handed s frame station h m (n, group, is) =
     subst (Adds is_aside h) (sym is)
-    (adds-more is_aside h group.entered n (enters-adds s h (Hand frame station) group.got group.entered tt group.enters) (turns-add s s.hosts group.got group.entered n group.turns))
+    (adds-more is_aside h group.entered n (enters-adds s h (Hand frame station) group.got group.entered tt group.enters)
+    (turns-add s s.hosts group.got group.entered n group.turns))
 
 -- time that goes by
 pub ticked : (s : Setup) (ms : ℕ) (h m : List Entry) → Follows s (Tick ms ∷ []) h m → Aside (Ticked ms ∷ h) m
@@ -71,7 +72,8 @@ one-leaves _ k t = record { clock_is = refl; submissions_are = refl }
 
 leaves : (h m : List Entry) → Aside h m → Left h m
 leaves h m a =
-    adds-keep is_aside (Left h) (λ e k t x. let y = one-leaves e k t in record { clock_is = y.clock_is ∙ x.clock_is; submissions_are = y.submissions_are ∙ x.submissions_are }) h m a
+    adds-keep is_aside (Left h) (λ e k t x. let y = one-leaves e k t in
+    record { clock_is = y.clock_is ∙ x.clock_is; submissions_are = y.submissions_are ∙ x.submissions_are }) h m a
     (record { clock_is = refl; submissions_are = refl })
 
 pub aside-clock : (h m : List Entry) → Aside h m → clock m ≡ clock h

@@ -170,16 +170,29 @@ asks-of e dev op h m is a =
     let time = aside-clock (a.entry ∷ h) m a.aside in
     elim a.is [
       | inl (name, ticket, same) ↦
-          record { new = tail.0; tail = tail.1; time = time ∙ ap (λ x. clock (x ∷ h)) same; what = inr (record { dev = dev; op = op }, is, subs ∙ ap (λ x. submissions (x ∷ h)) same) }
-      | inr (name, refusal, same) ↦ record { new = tail.0; tail = tail.1; time = time ∙ ap (λ x. clock (x ∷ h)) same; what = inl (subs ∙ ap (λ x. submissions (x ∷ h)) same) }
+          record {
+            new = tail.0;
+            tail = tail.1;
+            time = time ∙ ap (λ x. clock (x ∷ h)) same;
+            what = inr (record { dev = dev; op = op }, is, subs ∙ ap (λ x. submissions (x ∷ h)) same);
+          }
+      | inr (name, refusal, same) ↦ record {
+        new = tail.0;
+        tail = tail.1;
+        time = time ∙ ap (λ x. clock (x ∷ h)) same;
+        what = inl (subs ∙ ap (λ x. submissions (x ∷ h)) same);
+      }
     ]
 
 command-asks : (s : Setup) (lines : List Line) (sectors count i a b : ℕ) (h m : List Entry) → Comes s lines (command sectors count i) a h b m
     → Asks (command sectors count i) h m
 command-asks s lines sectors count i a b h m = go (i == count) (i % 2 == 0)
   where
-    go : (last write : Bool) → Comes s lines (if last then Flush host_a device else if write then Write host_a device (i % sectors) 1 (i % 256) else Read host_a device ((i - 1) % sectors) 1) a h b m
-        → Asks (if last then Flush host_a device else if write then Write host_a device (i % sectors) 1 (i % 256) else Read host_a device ((i - 1) % sectors) 1) h m
+    go : (last write : Bool) → Comes s lines
+        (if last then Flush host_a device else if write then Write host_a device (i % sectors) 1 (i % 256) else Read host_a device ((i - 1) % sectors) 1) a h b
+        m
+        → Asks (if last then Flush host_a device else if write then Write host_a device (i % sectors) 1 (i % 256) else Read host_a device ((i - 1) % sectors) 1)
+        h m
     go true write comes = asks-of (Flush host_a device) device _ h m refl (entered_as s host_a device _ h m comes.1)
     go false true comes = asks-of (Write host_a device (i % sectors) 1 (i % 256)) device _ h m refl (entered_as s host_a device _ h m comes.1)
     go false false comes = asks-of (Read host_a device ((i - 1) % sectors) 1) device _ h m refl (entered_as s host_a device _ h m comes.1)

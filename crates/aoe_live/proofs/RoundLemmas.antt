@@ -105,9 +105,11 @@ pub quiet-within : (quiet turns quiet' : ℕ) (finishes : Bool) → quiet < turn
 quiet-within quiet turns quiet' true below is = omega (arith, is)
 quiet-within quiet turns quiet' false below is = omega (arith, is, below)
 
-module _ {sectors count turns quiet : ℕ} {last : Option ℕ} {h : List Entry} {events : List Event} {old mid : Outside} (new : Outside) (g : Going sectors count turns quiet last h events old mid) (below : quiet < turns)
+module _ {sectors count turns quiet : ℕ} {last : Option ℕ} {h : List Entry} {events : List Event} {old mid : Outside} (new : Outside)
+    (g : Going sectors count turns quiet last h events old mid) (below : quiet < turns)
     (now : ℕ) (asked : IfSome new.answers (λ all. Added mid.answers new.answers (now ∷ []))) where
-  module _ (ms : ℕ) (ms_is : ms ≡ now - or_now last now) (finishes : Bool) (m : List Entry) (later : List Event) (t : Taken sectors count ms finishes h m events later mid.one new.one mid.two new.two)
+  module _ (ms : ℕ) (ms_is : ms ≡ now - or_now last now) (finishes : Bool) (m : List Entry) (later : List Event)
+      (t : Taken sectors count ms finishes h m events later mid.one new.one mid.two new.two)
       (sound : IsSound (setup_of (stations sectors)) m) (small : count < 2 ^ 32) (not_before : or_now last now ≤ now) where
     abbrev round : Round
     round = record { now = now; one = t.first; two = t.second; finishes = finishes }

@@ -118,7 +118,8 @@ link-records (live.Full frames bytes) t u = absurd cc
 link-records _ t u = absurd cc
 
 -- which came, while its frames were sent
-module _ (p q r : Recorder) (k l : Links) (e : Event) (tail : List Entry) (is : q.world.entries ≡ tail ++ p.world.entries) (told : q.told ≡ length p.world.entries)
+module _ (p q r : Recorder) (k l : Links) (e : Event) (tail : List Entry) (is : q.world.entries ≡ tail ++ p.world.entries)
+    (told : q.told ≡ length p.world.entries)
     (begun : q ≡ record p { script = q.script; world = q.world }) (sent : r ≡ record q { told = r.told; tally = r.tally })
     (comes : LineComes p.sectors e p.world.entries q.world.entries) (line : q.script.events ≡ p.script.events ++ e ∷ [])
     (turns_one : l.one.turns ≡ k.one.turns) (given_one : l.one.given ≡ k.one.given) (turns_two : l.two.turns ≡ k.two.turns)
@@ -173,7 +174,8 @@ Moves sectors S S' f s xs m =
     (first second : List Turn) (n : List Entry) (lines : List Event) (next : Event) → LinesCome sectors lines m n → S first second n lines next
     → S' (first ++ f) (second ++ s) n (xs ++ lines) next
 
-module _ (S S' : Standing) (f s : List Turn) (xs : List Event) (p q r : Recorder) (k l m : Links) (same : q.sectors ≡ p.sectors) (same_count : q.commands ≡ p.commands) (first : Recorded f s xs p q k l)
+module _ (S S' : Standing) (f s : List Turn) (xs : List Event) (p q r : Recorder) (k l m : Links) (same : q.sectors ≡ p.sectors)
+    (same_count : q.commands ≡ p.commands) (first : Recorded f s xs p q k l)
     (moves : Moves p.sectors S S' f s xs q.world.entries) where
   stopped-behind : (x : LiveRefusal) → Stopped p.sectors S x q.script.events q.world.entries r.world.entries l.one m.one l.two m.two
       → Stopped p.sectors S' x p.script.events p.world.entries r.world.entries k.one m.one k.two m.two
@@ -199,10 +201,17 @@ module _ (S S' : Standing) (f s : List Turn) (xs : List Event) (p q r : Recorder
 
   pub does-behind : {T : Type 0} (W W' : Type 0) (result : Result T LiveRefusal) → (W → W') → Does W S result q r l m → Does W' S' result p r k m
   does-behind W W' (Ok u) done d = record { whole = done d.whole; stops = tt; why = tt; sectors = d.sectors ∙ same; commands = d.commands ∙ same_count }
-  does-behind W W' (Err x) done d = record { whole = tt; stops = λ limit. stopped-later x (d.stops limit); why = d.why; sectors = d.sectors ∙ same; commands = d.commands ∙ same_count }
+  does-behind W W' (Err x) done d =
+      record { whole = tt; stops = λ limit. stopped-later x (d.stops limit); why = d.why; sectors = d.sectors ∙ same; commands = d.commands ∙ same_count }
 
   pub fails-behind : {T U : Type 0} (W W' : Type 0) (x : LiveRefusal) → Does {T = T} W S (Err x) q r l m → Does {T = U} W' S' (Err x) p r k m
-  fails-behind W W' x d = record { whole = tt; stops = λ limit. stopped-later x (d.stops limit); why = d.why; sectors = d.sectors ∙ same; commands = d.commands ∙ same_count }
+  fails-behind W W' x d = record {
+    whole = tt;
+    stops = λ limit. stopped-later x (d.stops limit);
+    why = d.why;
+    sectors = d.sectors ∙ same;
+    commands = d.commands ∙ same_count;
+  }
 
 -- WHERE A LINE STANDS
 

@@ -101,7 +101,8 @@ module _ (p q : Recorder) (k k' l : Links) (first : Turn) (asked : OverLinks (fi
       (recorded-asked p k k' (first ∷ []) [] asked)
       (first-moves p.sectors first p.world.entries) _ _ x d
 
-  module _ (one : Recorded [] [] (handing sender.Host first p.world.entries) p q k' l) (same : q.sectors ≡ p.sectors) (same_count : q.commands ≡ p.commands) (r : Recorder) (l' m : Links) (second : Turn)
+  module _ (one : Recorded [] [] (handing sender.Host first p.world.entries) p q k' l) (same : q.sectors ≡ p.sectors) (same_count : q.commands ≡ p.commands)
+      (r : Recorder) (l' m : Links) (second : Turn)
       (asked' : OverLinks [] (second ∷ []) q.world.entries q.world.entries l.one l'.one l.two l'.two) where
     abbrev to_shelf : List Event
     to_shelf = handing sender.Host first p.world.entries
@@ -219,7 +220,8 @@ module _ (turns ms : ℕ) (a b : Recorder) (k l : Links) where
             let e : Does {T = T} (Unit {0}) (InTurn a.sectors a.commands ms a.world.entries) (Err r) a d k n =
             fails-behind (Among part) (InTurn a.sectors a.commands ms a.world.entries) (x.first ∷ []) (x.second ∷ []) (ticks ms ++ x.lines) a c d k m n
             (same' ∙ same) (same_count' ∙ same_count) behind-exchange
-            (asking-moves a.sectors b.sectors a.commands ms same a.world.entries b.world.entries time.come goes_on x.first x.second x.lines c.world.entries exchange part part-is) _ _ r s in
+            (asking-moves a.sectors b.sectors a.commands ms same a.world.entries b.world.entries time.come goes_on x.first x.second x.lines c.world.entries
+            exchange part part-is) _ _ r s in
             ends-by a.sectors a.commands turns ms r a.script.events a.world.entries d.world.entries k.one n.one k.two n.two e.why e.stops
 
         -- in none of them

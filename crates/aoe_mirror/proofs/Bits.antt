@@ -159,7 +159,8 @@ module _ (words : List ℕ) (len many from s v : ℕ) (value : Bool) (marks : Ar
       rw (is, byte_is, byte_is) (omega arith)
 
   pub set_fits : many + bool_byte value ≤ 2 ^ 40 + 1
-  set_fits = rw byte_is (let h : cond value 1 0 ≤ 1 = byte_small value in omega (arith, h, marks.count, count_le (bits_of words len), length-bits_of words len, marks.bound))
+  set_fits = rw byte_is (let h : cond value 1 0 ≤ 1 = byte_small value in
+      omega (arith, h, marks.count, count_le (bits_of words len), length-bits_of words len, marks.bound))
 
   pub set_marks : (was : Bool) (many' from' : ℕ) → was ≡ get_or (bits_of words len) s false → many' ≡ many + bool_byte value - bool_byte was → from' ≤ from
       → (value ≡ true → from' ≤ s) → AreMarks (set words (s / 64) v) len many' from'
@@ -167,7 +168,8 @@ module _ (words : List ℕ) (len many from s v : ℕ) (value : Bool) (marks : Ar
     bound = marks.bound;
     room = omega (arith, marks.room, length-set words (s / 64) v);
     low = omega (arith, marks.low);
-    count = rw set_is (counted_for was many' is (let room = set_room was is in rw (byte_is, byte_is) at (let e : many' + bool_byte was ≡ many + bool_byte value = omega arith in e)));
+    count = rw set_is (counted_for was many' is
+        (let room = set_room was is in rw (byte_is, byte_is) at (let e : many' + bool_byte was ≡ many + bool_byte value = omega arith in e)));
     lowest = rw set_is (clear_set (bits_of words len) s value from from' marks.lowest fewer low);
   }
 
@@ -221,12 +223,16 @@ each_more marks at n value fits =
     let long = length-with_each marks at n value (omega arith) in
     let longer = length-with_each marks at (n + 1) value (omega arith) in
     ext_get_or false _ _ (length-set (with_each marks at n value) (at + n) value ∙ long ∙ sym longer) (λ s lt. elim (cases_eq s (at + n)) [
-      | inl is ↦ rw is (get_or-set_same (with_each marks at n value) (at + n) value false (omega arith) ∙ sym (with_each_inside marks at (n + 1) value (omega arith) (at + n) (omega arith) (omega arith)))
+      | inl is ↦ rw is (get_or-set_same (with_each marks at n value) (at + n) value false (omega arith)
+          ∙ sym (with_each_inside marks at (n + 1) value (omega arith) (at + n) (omega arith) (omega arith)))
       | inr other ↦ get_or-set_other (with_each marks at n value) (at + n) s value false other ∙ elim (cases_lt s at) [
-        | inl below ↦ with_each_outside marks at n value (omega arith) s (inl below) ∙ sym (with_each_outside marks at (n + 1) value (omega arith) s (inl below))
+        | inl below ↦ with_each_outside marks at n value (omega arith) s (inl below)
+            ∙ sym (with_each_outside marks at (n + 1) value (omega arith) s (inl below))
         | inr from ↦ elim (cases_lt s (at + n)) [
-          | inl inside ↦ with_each_inside marks at n value (omega arith) s from inside ∙ sym (with_each_inside marks at (n + 1) value (omega arith) s from (omega arith))
-          | inr past ↦ with_each_outside marks at n value (omega arith) s (inr past) ∙ sym (with_each_outside marks at (n + 1) value (omega arith) s (inr (omega arith)))
+          | inl inside ↦ with_each_inside marks at n value (omega arith) s from inside
+              ∙ sym (with_each_inside marks at (n + 1) value (omega arith) s from (omega arith))
+          | inr past ↦ with_each_outside marks at n value (omega arith) s (inr past)
+              ∙ sym (with_each_outside marks at (n + 1) value (omega arith) s (inr (omega arith)))
         ]
       ]
     ])

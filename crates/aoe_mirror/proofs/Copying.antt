@@ -180,9 +180,11 @@ module _ (old : Pair) (m : IsMirror old) (at n : ℕ) (run : IsFirstRun old.stal
   touched_copies told why =
       let pairs = told_both (λ (a b : Contents). b ≡ a) (Touched at n) old.lead.contents lead.contents old.follower.contents follower.contents told_lead told in
       copies_by old.stale refl true
-      (told_if (λ (p q : Contents × Contents). (q.0 ≡ p.0) × Touched at n p.1 q.1) (Holds old) (Agree old.settled old.stale) (both old.lead.contents old.follower.contents) (both lead.contents follower.contents) pairs (holds_of old m)
+      (told_if (λ (p q : Contents × Contents). (q.0 ≡ p.0) × Touched at n p.1 q.1) (Holds old) (Agree old.settled old.stale)
+      (both old.lead.contents old.follower.contents) (both lead.contents follower.contents) pairs (holds_of old m)
       (λ p q h t. agree_touched old.lead.sectors at n old.settled old.stale run p q h.0 h.1 t.0 t.1))
-      (told_map (λ (p q : Contents × Contents). (q.0 ≡ p.0) × Touched at n p.1 q.1) Calms (Holds old) (seen old.stale) (seen old.stale) (both old.lead.contents old.follower.contents) (both lead.contents follower.contents) pairs (holds_of old m)
+      (told_map (λ (p q : Contents × Contents). (q.0 ≡ p.0) × Touched at n p.1 q.1) Calms (Holds old) (seen old.stale) (seen old.stale)
+      (both old.lead.contents old.follower.contents) (both lead.contents follower.contents) pairs (holds_of old m)
       (λ p q h t. seen_touched old.lead.sectors at n old.settled old.stale run p q h.0 h.1 t.0 t.1))
       (λ _. (refl, why)) (λ e. cc)
 
@@ -197,11 +199,14 @@ module _ (old : Pair) (m : IsMirror old) (at n : ℕ) (run : IsFirstRun old.stal
       let holds : IfSome (both old.lead.contents old.follower.contents) H = and_if (Holds old)
       (λ (p : Contents × Contents). (piece ≡ take (512 * n) (drop (512 * at) p.0.bytes)) × Unit {0}) (both old.lead.contents old.follower.contents)
       (holds_of old m)
-      (both_if (λ (c : Contents). piece ≡ take (512 * n) (drop (512 * at) c.bytes)) (λ _. Unit {0}) old.lead.contents old.follower.contents given (if_any old.follower.contents)) in
+      (both_if (λ (c : Contents). piece ≡ take (512 * n) (drop (512 * at) c.bytes)) (λ _. Unit {0}) old.lead.contents old.follower.contents given
+      (if_any old.follower.contents)) in
       copies_by (with_each old.stale at n false) (length-with_each old.stale at n false run.within) false
-      (told_if (λ (p q : Contents × Contents). (q.0 ≡ p.0) × Put at piece p.1 q.1) H (Agree old.settled (with_each old.stale at n false)) (both old.lead.contents old.follower.contents) (both lead.contents follower.contents) pairs holds
+      (told_if (λ (p q : Contents × Contents). (q.0 ≡ p.0) × Put at piece p.1 q.1) H (Agree old.settled (with_each old.stale at n false))
+      (both old.lead.contents old.follower.contents) (both lead.contents follower.contents) pairs holds
       (λ p q h t. agree_put old.lead.sectors at n old.settled old.stale run p q h.0.0 h.0.1 t.0 piece whole h.1.0 t.1))
-      (told_map (λ (p q : Contents × Contents). (q.0 ≡ p.0) × Put at piece p.1 q.1) Calms H (seen old.stale) (seen (with_each old.stale at n false)) (both old.lead.contents old.follower.contents) (both lead.contents follower.contents) pairs holds
+      (told_map (λ (p q : Contents × Contents). (q.0 ≡ p.0) × Put at piece p.1 q.1) Calms H (seen old.stale) (seen (with_each old.stale at n false))
+      (both old.lead.contents old.follower.contents) (both lead.contents follower.contents) pairs holds
       (λ p q h t. seen_put old.lead.sectors at n old.settled old.stale run p q h.0.0 h.0.1 t.0 piece whole h.1.0 t.1))
       (λ e. cc) (λ _. refl)
 
@@ -245,8 +250,12 @@ module _ {T : Type 0} (old : Pair) (m : IsMirror old) (at n : ℕ) (run : IsFirs
   unread_copies : is_err c.answer ≡ true → Copies true old (record old { lead = c.looked })
   unread_copies bad = touched_copies old m at n run c.looked old.follower lead_later c.read.same
       (record { disk = m.follower; sectors = refl; later = omega arith })
-      (told_mono (λ (x y : Contents). y ≡ x) (Touched at n) old.follower.contents old.follower.contents (told_same old.follower.contents) (λ x y e. rw e (x, beside_refl at n x, calm_refl x)))
-      (rose_part old.lead.faults c.looked.faults (shown old).faults (shown (record old { lead = c.looked })).faults (lead_fell bad) (omega arith) (omega arith), inl (lead_same old (record old { lead = c.looked }) refl (lead_fell bad)))
+      (told_mono (λ (x y : Contents). y ≡ x) (Touched at n) old.follower.contents old.follower.contents (told_same old.follower.contents)
+      (λ x y e. rw e (x, beside_refl at n x, calm_refl x))) (
+        rose_part old.lead.faults c.looked.faults (shown old).faults (shown (record old { lead = c.looked })).faults (lead_fell bad) (omega arith)
+            (omega arith),
+        inl (lead_same old (record old { lead = c.looked }) refl (lead_fell bad)),
+      )
 
   -- the follower wasn't written, or not synced
 
@@ -256,12 +265,19 @@ module _ {T : Type 0} (old : Pair) (m : IsMirror old) (at n : ℕ) (run : IsFirs
     unwritten_failed = follower_same old (record old { lead = c.looked; follower = follower }) m.mark.side refl fell
 
     unwritten_copies : Copies true old (record old { lead = c.looked; follower = follower })
-    unwritten_copies = touched_copies old m at n run c.looked follower lead_later c.read.same f told
-        (rose_part old.follower.faults follower.faults (shown old).faults (shown (record old { lead = c.looked; follower = follower })).faults fell (omega arith) (omega (arith, lead_later.later)), inr unwritten_failed)
+    unwritten_copies = touched_copies old m at n run c.looked follower lead_later c.read.same f told (
+      rose_part old.follower.faults follower.faults (shown old).faults (shown (record old { lead = c.looked; follower = follower })).faults fell
+          (omega arith) (omega (arith, lead_later.later)),
+      inr unwritten_failed,
+    )
 
   synced_later : (w : WritesCopy at c.piece result (record old { lead = c.looked }) mid) (reply : Answer) → SyncsTo reply w.written mid.follower
       → Later old.follower mid.follower
-  synced_later w reply s = record { disk = s.call.after; sectors = s.call.sectors ∙ w.write.call.sectors; later = omega (arith, s.call.later, w.write.call.later) }
+  synced_later w reply s = record {
+    disk = s.call.after;
+    sectors = s.call.sectors ∙ w.write.call.sectors;
+    later = omega (arith, s.call.later, w.write.call.later);
+  }
 
   synced_touched : (w : WritesCopy at c.piece result (record old { lead = c.looked }) mid) (reply : Answer) → SyncsTo reply w.written mid.follower
       → BothTell (Touched at n) old.follower.contents mid.follower.contents
@@ -284,7 +300,8 @@ module _ {T : Type 0} (old : Pair) (m : IsMirror old) (at n : ℕ) (run : IsFirs
     | inl x ↦ subst (Copies true old) (sym x.3) (unread_copies x.0)
     | inr y ↦ let w = y.1 in elim w.rest [
       | inl x ↦ subst (Copies true old) (sym x.2) (unwritten_copies w.written (write_later w) (write_touched w) (OnTrue_at x.0 w.write.call.cause))
-      | inr z ↦ subst (Copies true old) (sym z.4) (unwritten_copies mid.follower (synced_later w z.1 z.3) (synced_touched w z.1 z.3) (synced_fell w z.1 z.3 (sym z.2 ∙ failed)))
+      | inr z ↦ subst (Copies true old) (sym z.4)
+          (unwritten_copies mid.follower (synced_later w z.1 z.3) (synced_touched w z.1 z.3) (synced_fell w z.1 z.3 (sym z.2 ∙ failed)))
     ]
   ]
 
@@ -299,10 +316,13 @@ module _ {T : Type 0} (old : Pair) (m : IsMirror old) (at n : ℕ) (run : IsFirs
   pub copy_blames : IfErr result (λ k. Blames (Some k) old mid)
   copy_blames = elim (cases_Bool (is_err result)) [
     | inl failed ↦ elim c.rest [
-      | inl x ↦ err_blames result old.side failed x.2 (blame_lead old mid old.side m.mark.side refl (subst (LeadFailed old) (sym x.3) (lead_same old (record old { lead = c.looked }) refl (lead_fell x.0))))
+      | inl x ↦ err_blames result old.side failed x.2
+          (blame_lead old mid old.side m.mark.side refl
+          (subst (LeadFailed old) (sym x.3) (lead_same old (record old { lead = c.looked }) refl (lead_fell x.0))))
       | inr y ↦ let w = y.1 in err_blames result (1 - old.side) failed w.blamed (blame_follower old mid (1 - old.side) m.mark.side refl (elim w.rest [
         | inl x ↦ subst (FollowerFailed old) (sym x.2) (unwritten_failed w.written (write_later w) (write_touched w) (OnTrue_at x.0 w.write.call.cause))
-        | inr z ↦ subst (FollowerFailed old) (sym z.4) (unwritten_failed mid.follower (synced_later w z.1 z.3) (synced_touched w z.1 z.3) (synced_fell w z.1 z.3 (sym z.2 ∙ failed)))
+        | inr z ↦ subst (FollowerFailed old) (sym z.4)
+            (unwritten_failed mid.follower (synced_later w z.1 z.3) (synced_touched w z.1 z.3) (synced_fell w z.1 z.3 (sym z.2 ∙ failed)))
       ]))
     ]
     | inr ok ↦ ok_blames result ok
@@ -320,7 +340,8 @@ module _ {T : Type 0} (old : Pair) (m : IsMirror old) (at n : ℕ) (run : IsFirs
     | inr y ↦ let w = y.1 in elim w.rest [
       | inl x ↦ absurd (both_ways (is_err result) done x.1)
       | inr z ↦ subst (λ (p : Pair). Copies false old (record p { stale = with_each p.stale at n false })) (sym z.4)
-          (put_copies old m at n run c.looked mid.follower lead_later c.read.same (synced_later w z.1 z.3) c.piece c.size (ok_given c.answer y.0 c.read.given) (put_told w z.1 z.0 (sym z.2 ∙ done) z.3))
+          (put_copies old m at n run c.looked mid.follower lead_later c.read.same (synced_later w z.1 z.3) c.piece c.size (ok_given c.answer y.0 c.read.given)
+          (put_told w z.1 z.0 (sym z.2 ∙ done) z.3))
     ]
   ]
 

@@ -30,7 +30,13 @@ calm_then a b c t u = record { bytes = u.bytes ∙ t.bytes; marks = u.marks ∙ 
 -- what a store tells that tells no settled bytes
 
 pub calm_may : (a b : Contents) → a.settled ≡ None → b.settled ≡ None → Calms a b → MaySettle a b
-calm_may a b na nb t = record { bytes = t.bytes; marks = t.marks; fewer = t.kept; settled = nb ∙ sym na; exact = λ some. let no : false ≡ true = rw na at some in cc }
+calm_may a b na nb t = record {
+  bytes = t.bytes;
+  marks = t.marks;
+  fewer = t.kept;
+  settled = nb ∙ sym na;
+  exact = λ some. let no : false ≡ true = rw na at some in cc;
+}
 
 pub none_loose : (marks : List Bool) (n : ℕ) → length marks ≡ n → ((s : ℕ) → is_loose marks s ≡ false) → marks ≡ replicate n false
 none_loose marks n size clear = ext_get_or false marks (replicate n false) (size ∙ sym (length-replicate n false))

@@ -85,7 +85,8 @@ module _ (at n : ℕ) (out : List ℕ) (old : Pair) (m : IsMirror old) where
       → Reads at n r out old.lead lead → MirrorReads at n result out old (record old { lead = lead })
   lead_reads result r lead done ok reads =
       read_by lead old.follower (looked at n r out old.lead lead reads) (record { disk = m.follower; sectors = refl; same = refl; later = omega arith }) result
-      (λ _. from_lead (Gave at n out) (Gave at n out) old.stale (Holds old) old.lead.contents old.follower.contents (ok_given r ok reads.given) (holds_of old m) (λ p h g. g))
+      (λ _. from_lead (Gave at n out) (Gave at n out) old.stale (Holds old) old.lead.contents old.follower.contents (ok_given r ok reads.given) (holds_of old m)
+      (λ p h g. g))
       (λ bad. absurd (both_ways (is_err result) done bad))
 
   module _ (range : IsRange at n old.lead.sectors) {T E : Type 0} (result : Result T E) (r : Answer) (some : List ℕ) (lead : DiskState) (bad : is_err r ≡ true)
@@ -101,7 +102,11 @@ module _ (at n : ℕ) (out : List ℕ) (old : Pair) (m : IsMirror old) where
     stale_reads failed stale =
         read_by lead old.follower l (record { disk = m.follower; sectors = refl; same = refl; later = omega arith }) result
         (λ done. absurd (both_ways (is_err result) done failed))
-        (λ _. (rose_part old.lead.faults lead.faults (shown old).faults (shown (record old { lead = lead })).faults rose (omega arith) (omega arith), record { lead = lead_same old (record old { lead = lead }) refl rose; follower = inl stale }))
+        (λ _. (
+          rose_part old.lead.faults lead.faults (shown old).faults (shown (record old { lead = lead })).faults rose (omega arith)
+              (omega arith),
+          record { lead = lead_same old (record old { lead = lead }) refl rose; follower = inl stale },
+        ))
 
     -- the follower is read
     follower_reads : (follower : DiskState) → IsClear old.stale at (n / 512) → Reads at n result out old.follower follower
@@ -109,8 +114,12 @@ module _ (at n : ℕ) (out : List ℕ) (old : Pair) (m : IsMirror old) where
     follower_reads follower clear f =
         let both_read : Pair = record old { lead = lead; follower = follower } in
         read_by lead follower l (looked at n result out old.follower follower f) result
-        (λ done. from_follower (Gave at n out) (Gave at n out) old.stale (Holds old) old.lead.contents old.follower.contents (ok_given result done f.given) (holds_of old m) (λ p h g. g ∙ same_range p h.1 clear))
-        (λ failed. (rose_part old.lead.faults lead.faults (shown old).faults (shown both_read).faults rose (omega arith) (omega (arith, f.call.later)), record { lead = lead_same old both_read refl rose; follower = inr (follower_same old both_read m.mark.side refl (OnTrue_at failed f.call.cause)) }))
+        (λ done. from_follower (Gave at n out) (Gave at n out) old.stale (Holds old) old.lead.contents old.follower.contents (ok_given result done f.given)
+        (holds_of old m) (λ p h g. g ∙ same_range p h.1 clear))
+        (λ failed. (
+          rose_part old.lead.faults lead.faults (shown old).faults (shown both_read).faults rose (omega arith) (omega (arith, f.call.later)),
+          record { lead = lead_same old both_read refl rose; follower = inr (follower_same old both_read m.mark.side refl (OnTrue_at failed f.call.cause)) },
+        ))
       where
         same_range : (p : Contents × Contents) → Agree old.settled old.stale p → IsClear old.stale at (n / 512)
             → take n (drop (512 * at) p.1.bytes) ≡ take n (drop (512 * at) p.0.bytes)

@@ -67,15 +67,32 @@ module _ (old new : Pair) (mold : IsMirror old) (mnew : IsMirror new) (sectors :
     (later : (shown old).faults ≤ (shown new).faults) where
   pub run_shown : (failed : Bool) → is_some (shown new).contents ≡ is_some (shown old).contents → (failed ≡ true → Rose (shown old).faults (shown new).faults)
       → IsRun 1 failed (shown old) (shown new)
-  run_shown failed tells cause = record { before = shown_disk old mold; after = shown_disk new mnew; sectors = sectors; tells = tells; later = later; cause = OnTrue_from failed _ cause; schedule = tt }
+  run_shown failed tells cause = record {
+    before = shown_disk old mold;
+    after = shown_disk new mnew;
+    sectors = sectors;
+    tells = tells;
+    later = later;
+    cause = OnTrue_from failed _ cause;
+    schedule = tt;
+  }
 
   pub stored : {T E : Type 0} (at : ℕ) (piece : List ℕ) (result : Result T E) → BothTell (Stores at piece result) (shown old).contents (shown new).contents
       → (is_err result ≡ true → Rose (shown old).faults (shown new).faults) → StoresTo at piece result (shown old) (shown new)
-  stored at piece result told cause = record { call = run_shown (is_err result) (told_tells (Stores at piece result) (shown old).contents (shown new).contents told) cause; contents = told; log = refl }
+  stored at piece result told cause =
+      record {
+        call = run_shown (is_err result) (told_tells (Stores at piece result) (shown old).contents (shown new).contents told) cause;
+        contents = told;
+        log = refl;
+      }
 
   pub synced : {T E : Type 0} (result : Result T E) → BothTell (Syncs result) (shown old).contents (shown new).contents
       → (is_err result ≡ true → Rose (shown old).faults (shown new).faults) → SyncsTo result (shown old) (shown new)
-  synced result told cause = record { call = run_shown (is_err result) (told_tells (Syncs result) (shown old).contents (shown new).contents told) cause; contents = told; log = refl }
+  synced result told cause = record {
+    call = run_shown (is_err result) (told_tells (Syncs result) (shown old).contents (shown new).contents told) cause;
+    contents = told;
+    log = refl;
+  }
 
 -- SETTLING
 

@@ -25,7 +25,8 @@ names_same : (mark : Contents) (image : List ℕ) → is_loose mark.loose 0 ≡ 
 names_same mark image kept leave = ap (λ (b : ℕ). if b == 0xa7 then 1 else 0)
     (first_byte image ∙ ap (λ (l : List ℕ). get_or l 0 0) (leave.kept 0 kept) ∙ sym (first_byte mark.bytes))
 
-module _ (p : Pair) (m : IsMirror p) (sides : Contents × Contents) (mark : Contents) (one two three : List ℕ) (told : both p.lead.contents p.follower.contents ≡ Some sides) (marked : p.mark.contents ≡ Some mark)
+module _ (p : Pair) (m : IsMirror p) (sides : Contents × Contents) (mark : Contents) (one two three : List ℕ)
+    (told : both p.lead.contents p.follower.contents ≡ Some sides) (marked : p.mark.contents ≡ Some mark)
     (lead : CanLeave sides.0 one) (follower : CanLeave sides.1 two) (left : CanLeave mark three) where
   fit : Fit p.lead.sectors p.stale sides
   fit = rw told at (fit_of p m)
@@ -90,7 +91,12 @@ module _ (a b c : DiskState) (r q : Answer) (out : List ℕ) (sync : SyncsTo r a
     run = rw done at mark_run;
     calm = mark_calm;
     side = byte_le (get_or out 0 0 == 0xa7);
-    names = rw read.same (if_mono (λ (x : Contents). Quiet x × (out ≡ take 512 (drop (512 * 0) x.bytes))) (Names (bool_byte (get_or out 0 0 == 0xa7))) b.contents
+    names = rw read.same (if_mono (λ (x : Contents). Quiet x × (out ≡ take 512 (drop (512 * 0) x.bytes)))
+        (Names (bool_byte (get_or out 0 0 == 0xa7))) b.contents
         (and_if Quiet (λ (x : Contents). out ≡ take 512 (drop (512 * 0) x.bytes)) b.contents (synced_quiet r a b ok sync) (ok_given q done read.given))
-        (λ x h. record { kept = h.0 0; side = ap (λ (v : ℕ). if v == 0xa7 then 1 else 0) (first_byte x.bytes ∙ ap (λ (l : List ℕ). get_or l 0 0) (sym h.1)) ∙ byte_names (get_or out 0 0 == 0xa7) }));
+        (λ x h. record {
+          kept = h.0 0;
+          side = ap (λ (v : ℕ). if v == 0xa7 then 1 else 0) (first_byte x.bytes ∙ ap (λ (l : List ℕ). get_or l 0 0) (sym h.1))
+              ∙ byte_names (get_or out 0 0 == 0xa7);
+        }));
   })

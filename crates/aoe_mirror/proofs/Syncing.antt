@@ -56,7 +56,8 @@ synced_later r a b s = record { disk = s.call.after; sectors = s.call.sectors; l
 pub same_later : (a : DiskState) → IsDisk a → Later a a
 same_later a d = record { disk = d; sectors = refl; later = omega arith }
 
-module _ (old : Pair) (m : IsMirror old) (settled : old.settled ≡ true) (lead follower : DiskState) (stale : List Bool) (l : Later old.lead lead) (f : Later old.follower follower) (grows : Grows old.stale stale)
+module _ (old : Pair) (m : IsMirror old) (settled : old.settled ≡ true) (lead follower : DiskState) (stale : List Bool) (l : Later old.lead lead)
+    (f : Later old.follower follower) (grows : Grows old.stale stale)
     (calm_lead : BothTell Calms old.lead.contents lead.contents) (calm_follower : BothTell Calms old.follower.contents follower.contents) where
   abbrev pub calmed : Pair
   calmed = record { lead = lead; follower = follower; mark = old.mark; side = old.side; stale = stale; settled = old.settled }
@@ -86,11 +87,15 @@ module _ (old : Pair) (m : IsMirror old) (settled : old.settled ≡ true) (lead 
   pub calmed_quiet : IfSome lead.contents Quiet → (IfSome follower.contents Quiet ⊎ ((s : ℕ) → s < length stale → is_loose stale s ≡ true))
       → IfSome (shown calmed).contents Quiet
   calmed_quiet quiet which = elim which [
-    | inl other ↦ map_if (λ (q : Contents × Contents). Fit lead.sectors stale q × (Quiet q.0 × Quiet q.1)) Quiet (seen stale) (both lead.contents follower.contents)
-        (and_if (Fit lead.sectors stale) (λ (q : Contents × Contents). Quiet q.0 × Quiet q.1) (both lead.contents follower.contents) (fit_of calmed calmed_mirror) (both_if Quiet Quiet lead.contents follower.contents quiet other))
+    | inl other ↦ map_if (λ (q : Contents × Contents). Fit lead.sectors stale q × (Quiet q.0 × Quiet q.1)) Quiet (seen stale)
+        (both lead.contents follower.contents)
+        (and_if (Fit lead.sectors stale) (λ (q : Contents × Contents). Quiet q.0 × Quiet q.1) (both lead.contents follower.contents)
+        (fit_of calmed calmed_mirror) (both_if Quiet Quiet lead.contents follower.contents quiet other))
         (λ q h. none_seen lead.sectors stale q (h.0.lead.marks ∙ sym h.0.marks) (h.0.follower.marks ∙ sym h.0.marks) h.1.0 (λ s _. inl (h.1.1 s)))
-    | inr all ↦ map_if (λ (q : Contents × Contents). Fit lead.sectors stale q × (Quiet q.0 × Unit {0})) Quiet (seen stale) (both lead.contents follower.contents)
-        (and_if (Fit lead.sectors stale) (λ (q : Contents × Contents). Quiet q.0 × Unit {0}) (both lead.contents follower.contents) (fit_of calmed calmed_mirror) (both_if Quiet (λ _. Unit {0}) lead.contents follower.contents quiet (if_any follower.contents)))
+    | inr all ↦ map_if (λ (q : Contents × Contents). Fit lead.sectors stale q × (Quiet q.0 × Unit {0})) Quiet (seen stale)
+        (both lead.contents follower.contents)
+        (and_if (Fit lead.sectors stale) (λ (q : Contents × Contents). Quiet q.0 × Unit {0}) (both lead.contents follower.contents)
+        (fit_of calmed calmed_mirror) (both_if Quiet (λ _. Unit {0}) lead.contents follower.contents quiet (if_any follower.contents)))
         (λ q h. none_seen lead.sectors stale q (h.0.lead.marks ∙ sym h.0.marks) (h.0.follower.marks ∙ sym h.0.marks) h.1.0 (λ s lt. inr (all s lt)))
   ]
 
@@ -170,7 +175,9 @@ module _ (old : Pair) (m : IsMirror old) (settled : old.settled ≡ true) (lead 
     through_syncs result done = subst (MirrorSyncs result old) (sym f.is) (through_by result done)
 
     pub through_blames : Blames blamed old new
-    through_blames = subst (Blames blamed old) (sym f.is) (if_told (is_err f.answer) blamed (1 - old.side) (λ k. (k ≤ 2) × DiskFailed old through_pair k) f.told (λ bad. blame_follower old through_pair (1 - old.side) m.mark.side refl (follower_fell bad)))
+    through_blames = subst (Blames blamed old) (sym f.is)
+        (if_told (is_err f.answer) blamed (1 - old.side) (λ k. (k ≤ 2) × DiskFailed old through_pair k) f.told
+        (λ bad. blame_follower old through_pair (1 - old.side) m.mark.side refl (follower_fell bad)))
 
   -- THE LEAD FAILED
 
@@ -265,7 +272,9 @@ module _ (old : Pair) (m : IsMirror old) (settled : old.settled ≡ true) (lead 
 
         last_calm : BothTell Calms (shown old).contents (shown last).contents
         last_calm = told_then Calms Calms Calms (shown old).contents (shown t.mid).contents (shown last).contents mid_calm
-            (calmed_calm t.mid mid_mirror settled_mid x.synced t.mid.follower last_stale (synced_later x.answer t.mid.lead x.synced x.sync) (same_later t.mid.follower mid_mirror.follower) (grows_all t.mid.stale) (synced_calm x.answer t.mid.lead x.synced x.sync) (same_calm t.mid.follower)) calm_then
+            (calmed_calm t.mid mid_mirror settled_mid x.synced t.mid.follower last_stale (synced_later x.answer t.mid.lead x.synced x.sync)
+            (same_later t.mid.follower mid_mirror.follower) (grows_all t.mid.stale) (synced_calm x.answer t.mid.lead x.synced x.sync)
+            (same_calm t.mid.follower)) calm_then
 
         last_quiet : is_err x.answer ≡ false → IfSome (shown last).contents Quiet
         last_quiet ok = calmed_quiet t.mid mid_mirror settled_mid x.synced t.mid.follower last_stale (synced_later x.answer t.mid.lead x.synced x.sync)
@@ -295,7 +304,8 @@ module _ (old : Pair) (m : IsMirror old) (settled : old.settled ≡ true) (lead 
               mirror = last_mirror;
               syncs = synced old last m last_mirror (x.sync.call.sectors ∙ ap (λ (d : DiskState). d.sectors) mid_lead ∙ m.size)
                   (omega (arith, later, one, two, three, sync.call.later)) result (last_syncs result (is_err x.answer) refl is)
-                  (λ _. rose_part old.lead.faults lead.faults (shown old).faults (shown last).faults fell (omega arith) (omega (arith, later, one, two, three)));
+                  (λ _. rose_part old.lead.faults lead.faults (shown old).faults (shown last).faults fell (omega arith)
+                  (omega (arith, later, one, two, three)));
               keeps = record { later = later; stale = λ _ was now. inl last_lead_failed; lead = inr last_lead_failed };
               counts = counts_moved old last m.mark.side mid_side (rw mid_follower sync.call.later) (rw mid_lead at one) later;
               cause = λ failed. inr (inl (last_lead_failed, last_follower_failed (sym is ∙ failed)));
@@ -318,7 +328,9 @@ module _ (old : Pair) (m : IsMirror old) (settled : old.settled ≡ true) (lead 
       takes_blames k failed h = elim t.rest [
         | inl halt ↦ h.0 (same_err reply k old.side failed h.1 halt.3)
         | inr goes ↦ let x = goes.1 in
-            subst (Blames (Some k) old) (sym x.is) (blame_lowest old (last (t.settles.settled goes.0) x) k m.mark.side (same_err reply k 0 failed h.1 x.blamed) (last_lead_failed (t.settles.settled goes.0) x) (last_follower_failed (t.settles.settled goes.0) x (sym x.told ∙ failed)))
+            subst (Blames (Some k) old) (sym x.is)
+            (blame_lowest old (last (t.settles.settled goes.0) x) k m.mark.side (same_err reply k 0 failed h.1 x.blamed)
+            (last_lead_failed (t.settles.settled goes.0) x) (last_follower_failed (t.settles.settled goes.0) x (sym x.told ∙ failed)))
       ]
         where
           same_err : (q : Result S ℕ) (k j : ℕ) → is_err q ≡ true → IfErr q (λ i. i ≡ k) → IfErr q (λ i. i ≡ j) → k ≡ j
@@ -329,7 +341,10 @@ module _ (old : Pair) (m : IsMirror old) (settled : old.settled ≡ true) (lead 
 
 same_syncs : {T E : Type 0} (result : Result T E) (old mid : Pair) → IsMirror old → IsMirror mid → is_err result ≡ true
     → (shown mid).contents ≡ (shown old).contents → BothTell (Syncs result) (shown old).contents (shown mid).contents
-same_syncs result old mid m n bad e = sync_err result old mid m n bad (rw e (told_mono (λ (x y : Contents). y ≡ x) Calms (shown old).contents (shown old).contents (told_same (shown old).contents) (λ x y q. rw q (calm_refl x))))
+same_syncs result old mid m n bad e =
+    sync_err result old mid m n bad
+    (rw e (told_mono (λ (x y : Contents). y ≡ x) Calms (shown old).contents (shown old).contents (told_same (shown old).contents)
+    (λ x y q. rw q (calm_refl x))))
 
 pub unsettled_syncs : {T E : Type 0} (e : E) (old mid : Pair) (m : IsMirror old) → SettlesLead true old mid → MirrorSyncs {T = T} {E = E} (Err e) old mid
 unsettled_syncs {T = T} {E = E} e old mid m s =
@@ -340,7 +355,12 @@ unsettled_syncs {T = T} {E = E} e old mid m s =
       syncs = synced old mid m mirror (settled_sectors true old mid s) (omega (arith, faults, s.mark.later)) (Err e)
           (same_syncs {T = T} {E = E} (Err e) old mid m mirror refl (settled_shown true old mid s))
           (λ _. rose_part old.mark.faults mid.mark.faults (shown old).faults (shown mid).faults (s.cause refl) (omega arith) (omega (arith, faults)));
-      keeps = record { later = s.mark.later; stale = λ k was is. let same = settled_stale true old mid s in absurd (both_ways (is_loose old.stale k) was (rw same at is)); lead = inl (settled_side true old mid s) };
+      keeps = record {
+        later = s.mark.later;
+        stale = λ k was is. let same = settled_stale true old mid s in
+            absurd (both_ways (is_loose old.stale k) was (rw same at is));
+        lead = inl (settled_side true old mid s);
+      };
       counts = settled_counts true old mid s;
       cause = λ _. inr (inr (s.cause refl));
     }
@@ -354,7 +374,8 @@ settled_syncs result old mid new m s syncs =
     record {
       mirror = w.mirror;
       syncs = synced old new m w.mirror w.syncs.call.sectors later result w.syncs.contents
-          (λ bad. rose_from (shown old).faults (old.lead.faults + old.follower.faults + mid.mark.faults) (shown new).faults (omega (arith, s.mark.later)) w.syncs.call.later (OnTrue_at bad w.syncs.call.cause));
+          (λ bad. rose_from (shown old).faults (old.lead.faults + old.follower.faults + mid.mark.faults) (shown new).faults
+          (omega (arith, s.mark.later)) w.syncs.call.later (OnTrue_at bad w.syncs.call.cause));
       keeps = record { later = omega (arith, s.mark.later, w.keeps.later); stale = w.keeps.stale; lead = w.keeps.lead };
       counts = counts_then old mid new (settled_counts false old mid s) syncs.counts;
       cause = λ bad. elim (w.cause bad) [
@@ -392,7 +413,8 @@ copied_syncs {T = T} {E = E} {S = S} {F = F} v w failed old mid new m s c =
     let later : (shown old).faults ≤ (shown new).faults = let a = s.syncs.call.later in let b = c.run.later in omega arith in
     let calm : BothTell Calms (shown old).contents (shown new).contents = told_then Calms Calms Calms (shown old).contents (shown mid).contents
     (shown new).contents
-    (told_mono (Syncs {T = S} {E = F} (Ok w)) Calms (shown old).contents (shown mid).contents s.syncs.contents (λ a b t. settles_calm a b t)) c.calm calm_then in
+    (told_mono (Syncs {T = S} {E = F} (Ok w)) Calms (shown old).contents (shown mid).contents s.syncs.contents (λ a b t. settles_calm a b t)) c.calm
+    calm_then in
     let quiet : IfSome (shown new).contents Quiet = told_if Calms Quiet Quiet (shown mid).contents (shown new).contents c.calm
     (told_to (Syncs {T = S} {E = F} (Ok w)) Quiet (shown old).contents (shown mid).contents s.syncs.contents (λ a b t. settles_kept a b t))
     (λ a b h t k. t.kept k (h k)) in
@@ -422,7 +444,12 @@ copied_syncs {T = T} {E = E} {S = S} {F = F} v w failed old mid new m s c =
 pub err_syncs : {T E S F : Type 0} (d : F) (e : E) (old new : Pair) → MirrorSyncs {T = S} {E = F} (Err d) old new → MirrorSyncs {T = T} {E = E} (Err e) old new
 err_syncs {T = T} {E = E} {S = S} {F = F} d e old new s = record {
   mirror = s.mirror;
-  syncs = record { call = s.syncs.call; contents = told_mono (Syncs {T = S} {E = F} (Err d)) (Syncs {T = T} {E = E} (Err e)) (shown old).contents (shown new).contents s.syncs.contents (λ a b t. t); log = s.syncs.log };
+  syncs = record {
+    call = s.syncs.call;
+    contents = told_mono (Syncs {T = S} {E = F} (Err d)) (Syncs {T = T} {E = E} (Err e)) (shown old).contents (shown new).contents s.syncs.contents
+        (λ a b t. t);
+    log = s.syncs.log;
+  };
   keeps = s.keeps;
   counts = s.counts;
   cause = s.cause;

@@ -24,7 +24,8 @@ pub loose_at : (stale lead follower : List Bool) (s : ℕ) → length lead ≡ l
 unfolding loose_of
 loose_at stale lead follower s l f = elim (cases_lt s (length stale)) [
   | inl within ↦ get_or-map-range_with_len (is_loose_in stale lead follower) 0 (length stale) s s false within (omega arith)
-  | inr past ↦ get_or_past (loose_of stale lead follower) s false (omega (arith, length-loose_of stale lead follower)) ∙ sym (past_all stale lead follower s (omega arith) (omega arith))
+  | inr past ↦ get_or_past (loose_of stale lead follower) s false (omega (arith, length-loose_of stale lead follower))
+      ∙ sym (past_all stale lead follower s (omega arith) (omega arith))
 ]
 
 -- two sides of n sectors
@@ -104,7 +105,8 @@ module _ (sectors at n : ℕ) (stale stale' : List Bool) (old new : Contents × 
       loose_at stale' new.0.loose new.1.loose s (lead.marks.size ∙ fit.lead.marks ∙ sym (marks.size ∙ fit.marks))
       (follower.marks.size ∙ fit.follower.marks ∙ sym (marks.size ∙ fit.marks))
       ∙ elim (cases_range at n s) [
-        | inl out ↦ same_in s out ∙ sym (loose_at stale old.0.loose old.1.loose s (fit.lead.marks ∙ sym fit.marks) (fit.follower.marks ∙ sym fit.marks)) ∙ sym (is_loose-with_marks_outside seen_loose at n room s out)
+        | inl out ↦ same_in s out ∙ sym (loose_at stale old.0.loose old.1.loose s (fit.lead.marks ∙ sym fit.marks) (fit.follower.marks ∙ sym fit.marks))
+            ∙ sym (is_loose-with_marks_outside seen_loose at n room s out)
         | inr in_range ↦ rw (written_inside s in_range.0 in_range.1) (sym (is_loose-with_marks_inside seen_loose at n room s in_range.0 in_range.1))
       ])
 

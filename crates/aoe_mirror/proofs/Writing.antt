@@ -133,7 +133,8 @@ module _ (at : ℕ) (piece : List ℕ) (old : Pair) (m : IsMirror old) (range : 
     through_writes result done = record {
       mirror = through_mirror;
       stores = stored old through m through_mirror w.call.sectors (omega (arith, w.call.later, f.call.later)) at piece result
-          (told_mono (Puts at piece) (Stores at piece result) (shown old).contents (shown through).contents through_puts (λ a b p. stores_put at piece result a b done p))
+          (told_mono (Puts at piece) (Stores at piece result) (shown old).contents (shown through).contents through_puts
+          (λ a b p. stores_put at piece result a b done p))
           (λ bad. absurd (both_ways (is_err result) done bad));
       keeps = record { later = omega arith; stale = λ s was is. inr (follower_failed (newly s was is)); lead = inl refl };
       counts = counts_same old through refl w.call.later f.call.later (omega arith);
@@ -149,7 +150,8 @@ module _ (at : ℕ) (piece : List ℕ) (old : Pair) (m : IsMirror old) (range : 
 
     -- and the follower doesn't lead in its place
 
-    module _ (after : DiskState) (why : ((0 < count_of old.stale) × (after ≡ old.follower)) ⊎ ((answer : Answer) × (is_err answer ≡ true) × WritesTo at piece answer old.follower after)) where
+    module _ (after : DiskState) (why : ((0 < count_of old.stale) × (after ≡ old.follower))
+        ⊎ ((answer : Answer) × (is_err answer ≡ true) × WritesTo at piece answer old.follower after)) where
       abbrev pub halted : Pair
       halted = record {
         lead = lead;
@@ -168,15 +170,19 @@ module _ (at : ℕ) (piece : List ℕ) (old : Pair) (m : IsMirror old) (range : 
 
       after_beside : BothTell (Beside at (length piece / 512)) old.follower.contents after.contents
       after_beside = elim why [
-        | inl idle ↦ rw idle.1 (told_mono (λ (a b : Contents). b ≡ a) (Beside at (length piece / 512)) old.follower.contents old.follower.contents (told_same old.follower.contents) (λ a b e. rw e (beside_refl at (length piece / 512) a)))
-        | inr x ↦ told_with (Writes at piece x.0) (Beside at (length piece / 512)) (HasShape old.lead.sectors) old.follower.contents after.contents x.2.contents (rw m.size at m.follower.shape) (λ a b shape t. beside_by at piece x.0 a b old.lead.sectors shape range t)
+        | inl idle ↦ rw idle.1 (told_mono (λ (a b : Contents). b ≡ a) (Beside at (length piece / 512)) old.follower.contents old.follower.contents
+            (told_same old.follower.contents) (λ a b e. rw e (beside_refl at (length piece / 512) a)))
+        | inr x ↦ told_with (Writes at piece x.0) (Beside at (length piece / 512)) (HasShape old.lead.sectors) old.follower.contents after.contents x.2.contents
+            (rw m.size at m.follower.shape) (λ a b shape t. beside_by at piece x.0 a b old.lead.sectors shape range t)
       ]
 
       abbrev Halted : Contents × Contents → Contents × Contents → Type 0
       Halted p q = Spoils at (length piece) p.0 q.0 × Beside at (length piece / 512) p.1 q.1
 
       told_halted : BothTell Halted (both old.lead.contents old.follower.contents) (both lead.contents after.contents)
-      told_halted = told_both (Spoils at (length piece)) (Beside at (length piece / 512)) old.lead.contents lead.contents old.follower.contents after.contents (told_mono (Writes at piece r) (Spoils at (length piece)) old.lead.contents lead.contents w.contents (λ a b. spoilt_by at piece r a b bad)) after_beside
+      told_halted = told_both (Spoils at (length piece)) (Beside at (length piece / 512)) old.lead.contents lead.contents old.follower.contents after.contents
+          (told_mono (Writes at piece r) (Spoils at (length piece)) old.lead.contents lead.contents w.contents (λ a b. spoilt_by at piece r a b bad))
+          after_beside
 
       agree_halted : (p q : Contents × Contents) → Holds old p → Halted p q → Agree old.settled halted.stale q
       agree_halted p q h t = agree_written old.lead.sectors at (length piece / 512) old.stale halted.stale p q h.0 range.within
@@ -217,7 +223,8 @@ module _ (at : ℕ) (piece : List ℕ) (old : Pair) (m : IsMirror old) (range : 
       halted_writes result failed = record {
         mirror = halted_mirror;
         stores = stored old halted m halted_mirror w.call.sectors (omega (arith, w.call.later, after_later.later)) at piece result
-            (told_mono (MaySpoil at (length piece)) (Stores at piece result) (shown old).contents (shown halted).contents halted_spoils (λ a b p. stores_spoilt at piece result a b failed p))
+            (told_mono (MaySpoil at (length piece)) (Stores at piece result) (shown old).contents (shown halted).contents halted_spoils
+            (λ a b p. stores_spoilt at piece result a b failed p))
             (λ _. rose_part old.lead.faults lead.faults (shown old).faults (shown halted).faults lead_rose (omega arith) (omega (arith, after_later.later)));
         keeps = record { later = omega arith; stale = λ s was is. inl lead_failed; lead = inl refl };
         counts = counts_same old halted refl w.call.later after_later.later (omega arith);
@@ -230,7 +237,8 @@ module _ (at : ℕ) (piece : List ℕ) (old : Pair) (m : IsMirror old) (range : 
 
 -- THE LEAD FAILED, AND THE FOLLOWER LEADS IN ITS PLACE
 
-module _ (at : ℕ) (piece : List ℕ) (old : Pair) (m : IsMirror old) (range : IsRange at (length piece) old.lead.sectors) (lead : DiskState) (r : Answer) (bad : is_err r ≡ true) (w : WritesTo at piece r old.lead lead)
+module _ (at : ℕ) (piece : List ℕ) (old : Pair) (m : IsMirror old) (range : IsRange at (length piece) old.lead.sectors) (lead : DiskState) (r : Answer)
+    (bad : is_err r ≡ true) (w : WritesTo at piece r old.lead lead)
     (failed : Bool) (new : Pair) (s : Swaps at piece failed (record old { lead = lead }) new) where
   lead_fell : Rose old.lead.faults lead.faults
   lead_fell = OnTrue_at bad w.call.cause
@@ -275,8 +283,11 @@ module _ (at : ℕ) (piece : List ℕ) (old : Pair) (m : IsMirror old) (range : 
     mirror = new_mirror;
     stores = stored old new m new_mirror (settled_sectors failed mid new settles ∙ s.write.call.sectors ∙ m.size)
         (let f = settled_faults failed mid new settles in omega (arith, f, w.call.later, s.write.call.later, settles.mark.later)) at piece result
-        (told_with (Puts at piece) (Stores at piece result) (λ (a : Contents). HasShape old.lead.sectors a × (a.settled ≡ None)) (shown old).contents (shown new).contents new_puts (shown_if old m) (stores_by result))
-        (λ _. let f = settled_faults failed mid new settles in rose_part old.lead.faults lead.faults (shown old).faults (shown new).faults lead_fell (omega arith) (omega (arith, f, s.write.call.later, settles.mark.later)));
+        (told_with (Puts at piece) (Stores at piece result) (λ (a : Contents). HasShape old.lead.sectors a × (a.settled ≡ None)) (shown old).contents
+        (shown new).contents new_puts (shown_if old m) (stores_by result))
+        (λ _. let f = settled_faults failed mid new settles in
+        rose_part old.lead.faults lead.faults (shown old).faults (shown new).faults lead_fell (omega arith)
+        (omega (arith, f, s.write.call.later, settles.mark.later)));
     keeps = record { later = settles.mark.later; stale = λ _ was now. inl swap_lead_failed; lead = inr swap_lead_failed };
     counts = counts_moved old new m.mark.side moved
         (let e : new.follower.faults ≡ lead.faults = ap (λ (p : Pair). p.follower.faults) settles.is in let later = w.call.later in omega arith)
@@ -306,9 +317,16 @@ module _ {T E : Type 0} (at : ℕ) (piece : List ℕ) (result : Result T E) (old
       record {
         mirror = mirror;
         stores = stored old mid m mirror (settled_sectors true old mid s) (omega (arith, faults, s.mark.later)) at piece result
-            (rw (settled_shown true old mid s) (told_with (λ (a b : Contents). b ≡ a) (Stores at piece result) (λ (a : Contents). HasShape old.lead.sectors a × (a.settled ≡ None)) (shown old).contents (shown old).contents (told_same (shown old).contents) (shown_if old m) (λ a b h e. same_by a b bad h.1 e)))
+            (rw (settled_shown true old mid s)
+            (told_with (λ (a b : Contents). b ≡ a) (Stores at piece result) (λ (a : Contents). HasShape old.lead.sectors a × (a.settled ≡ None))
+            (shown old).contents (shown old).contents (told_same (shown old).contents) (shown_if old m) (λ a b h e. same_by a b bad h.1 e)))
             (λ _. rose_part old.mark.faults mid.mark.faults (shown old).faults (shown mid).faults (s.cause refl) (omega arith) (omega (arith, faults)));
-        keeps = record { later = s.mark.later; stale = λ k was is. let same = settled_stale true old mid s in absurd (both_ways (is_loose old.stale k) was (rw same at is)); lead = inl side };
+        keeps = record {
+          later = s.mark.later;
+          stale = λ k was is. let same = settled_stale true old mid s in
+              absurd (both_ways (is_loose old.stale k) was (rw same at is));
+          lead = inl side;
+        };
         counts = settled_counts true old mid s;
         marks = inr (inr (bad, s.cause refl, settled_stale true old mid s));
         cause = λ _. inr (inr (s.cause refl));
@@ -325,7 +343,8 @@ module _ {T E : Type 0} (at : ℕ) (piece : List ℕ) (result : Result T E) (old
       record {
         mirror = w.mirror;
         stores = stored old new m w.mirror w.stores.call.sectors later at piece result w.stores.contents
-            (λ bad. rose_from (shown old).faults (old.lead.faults + old.follower.faults + mid.mark.faults) (shown new).faults (omega (arith, s.mark.later)) w.stores.call.later (OnTrue_at bad w.stores.call.cause));
+            (λ bad. rose_from (shown old).faults (old.lead.faults + old.follower.faults + mid.mark.faults) (shown new).faults
+            (omega (arith, s.mark.later)) w.stores.call.later (OnTrue_at bad w.stores.call.cause));
         keeps = record { later = omega (arith, s.mark.later, w.keeps.later); stale = w.keeps.stale; lead = w.keeps.lead };
         counts = counts_then old mid new (settled_counts false old mid s) writes.counts;
         marks = elim w.marks [

@@ -130,7 +130,8 @@ is-number net bytes number frame is same = let P : Option SentFrame → Type 0 =
 
 not-number : (net : Network) (bytes : List ℕ) (number : ℕ) (frame : SentFrame) → numbered net.sent number ≡ Some frame → (frame.bytes ≡ bytes → ⊥)
     → IsNumberOf net bytes number → ⊥
-not-number net bytes number frame is other claim = let P : Option SentFrame → Type 0 = λ f. IsSomeAnd f (λ g. g.bytes ≡ bytes) in let same : frame.bytes ≡ bytes = subst P is claim in other same
+not-number net bytes number frame is other claim = let P : Option SentFrame → Type 0 = λ f. IsSomeAnd f (λ g. g.bytes ≡ bytes) in
+    let same : frame.bytes ≡ bytes = subst P is claim in other same
 
 number-within : (sent : List SentFrame) (bytes : List ℕ) (number : ℕ) → IsSomeAnd (numbered sent number) (λ f. f.bytes ≡ bytes)
     → (1 ≤ number) × (number ≤ length sent)

@@ -36,7 +36,8 @@ pub next-is : (paths : List PathState) (chosen : Option ℕ) (count start steps 
 next-is paths chosen count start steps next count_is start_is steps_is next_is =
     let marks = length-map paths (λ (path : PathState). path.missed) in
     let len : length (map (λ (path : PathState). path.missed) paths) ≡ count = marks ∙ sym count_is in
-    let same : position (λ mark. not mark) (in_turn start (map (λ (path : PathState). path.missed) paths)) ≡ position (λ path. not path.missed) (in_turn start paths) =
+    let same : position (λ mark. not mark) (in_turn start (map (λ (path : PathState). path.missed) paths)) ≡ position (λ path. not path.missed)
+    (in_turn start paths) =
     ap (position (λ mark. not mark)) (in_turn-map start paths) ∙ position-map (in_turn start paths) in
     rw (len, ← start_is, same, ← steps_is) next_is
 
@@ -57,7 +58,8 @@ get-in_turn start i marks d inside below =
           let same : (start + i) % length marks ≡ start + i - length marks =
           ap (λ (n : ℕ). n % length marks) far ∙ mod-mul-add 1 (length marks) (start + i - length marks) low in
           let here : i - (length marks - start) ≡ start + i - length marks = omega arith in
-          rw same (get_or-append_right (drop start marks) (take start marks) (length marks - start) i d dropped back ∙ get_or-take start marks (i - (length marks - start)) d before ∙ ap (λ (k : ℕ). get_or marks k d) here)
+          rw same (get_or-append_right (drop start marks) (take start marks) (length marks - start) i d dropped back
+          ∙ get_or-take start marks (i - (length marks - start)) d before ∙ ap (λ (k : ℕ). get_or marks k d) here)
     ]
 
 not-true : (b : Bool) → not b ≡ true → b ≡ false
@@ -65,7 +67,8 @@ not-true true is = sym is
 not-true false is = refl
 
 length-in_turn : (start : ℕ) (marks : List Bool) → start < length marks → length (in_turn start marks) ≡ length marks
-length-in_turn start marks inside = omega (arith, length-append (drop start marks) (take start marks), length-drop start marks, length-take-le start marks (omega arith))
+length-in_turn start marks inside =
+    omega (arith, length-append (drop start marks) (take start marks), length-drop start marks, length-take-le start marks (omega arith))
 
 -- the place of an element, counted from another in cyclic order
 place-in_turn : (start k : ℕ) (marks : List Bool) → start < length marks → k < length marks
@@ -109,4 +112,5 @@ next-unmarked marks chosen inside free =
     let same : get_or marks ((start + first) % length marks) false ≡ get_or turn first false =
     sym (get-in_turn start first marks false inside (omega (arith, found, long))) in
     let free_there : get_or turn first false ≡ false = not-true (get_or turn first false) passes in
-    ap (λ (n : ℕ). slice_get marks n) next ∙ slice_get-get_or marks ((start + first) % length marks) false below ∙ ap (λ (mark : Bool). Some mark) (same ∙ free_there)
+    ap (λ (n : ℕ). slice_get marks n) next ∙ slice_get-get_or marks ((start + first) % length marks) false below
+    ∙ ap (λ (mark : Bool). Some mark) (same ∙ free_there)

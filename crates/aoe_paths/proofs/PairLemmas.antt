@@ -32,7 +32,8 @@ both (Some l) (Some r) local remote is =
 
 pub pair-split : (table : PathTable) (p : ℕ) (local remote : Mac) → pair_of table p ≡ Some (local, remote)
     → (slice_get table.locals (p / length table.remotes) ≡ Some local) × (slice_get table.remotes (p % length table.remotes) ≡ Some remote)
-pair-split table p local remote is = both (slice_get table.locals (p / length table.remotes)) (slice_get table.remotes (p % length table.remotes)) local remote is
+pair-split table p local remote is =
+    both (slice_get table.locals (p / length table.remotes)) (slice_get table.remotes (p % length table.remotes)) local remote is
 
 -- both places are within the ports
 pub local-within : (p locals remotes : ℕ) → 0 < remotes → p < locals * remotes → p / remotes < locals
@@ -51,7 +52,8 @@ port-missing ports port i is at =
     let inside : i < length ports = slice_get_within ports i port at in
     let there : get_or ports i port ≡ port = get_or_from_slice_get ports i port port at in
     elim (cases_lt (position_or_len (λ (other : Mac). bytes_eq other.0 port.0) ports) (length ports)) [
-      | inl found ↦ let yes_found = lt-ltb (position_or_len (λ (other : Mac). bytes_eq other.0 port.0) ports) (length ports) found in let impossible = rw yes_found at is in cc
+      | inl found ↦ let yes_found = lt-ltb (position_or_len (λ (other : Mac). bytes_eq other.0 port.0) ports) (length ports) found in
+          let impossible = rw yes_found at is in cc
       | inr past ↦
           let other = fails_before_first (λ (m : Mac). bytes_eq m.0 port.0) ports i port (omega arith) in
           not_from_Decides (bytes_eq (get_or ports i port).0 port.0) (bytes_eq-Decides (get_or ports i port).0 port.0) other (ap (λ (m : Mac). m.0) there)

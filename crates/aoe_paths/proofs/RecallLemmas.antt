@@ -65,7 +65,8 @@ pub recalls-missed : (table : PathTable) (log : List PathEvent) (p : ℕ) → Re
 recalls-missed table log p r = record {
   chosen = r.chosen;
   marks = ap (λ (l : List Bool). set l p true) r.marks
-      ∙ set-counting (is_marked log) (is_marked (Missed p ∷ log)) 0 (path_count table) p p true (sym (zero-add p)) (marked-others log p true) (λ inside. marked-here log p true);
+      ∙ set-counting (is_marked log) (is_marked (Missed p ∷ log)) 0 (path_count table) p p true (sym (zero-add p)) (marked-others log p true)
+      (λ inside. marked-here log p true);
   trips = r.trips;
 }
 
@@ -97,8 +98,10 @@ pub recalls-answered : (table : PathTable) (log : List PathEvent) (p : ℕ) (tri
 recalls-answered table log p trip r = record {
   chosen = r.chosen;
   marks = ap (λ (l : List Bool). set l p false) r.marks
-      ∙ set-counting (is_marked log) (is_marked (Answered p trip ∷ log)) 0 (path_count table) p p false (sym (zero-add p)) (marked-others log p false) (λ inside. marked-here log p false);
+      ∙ set-counting (is_marked log) (is_marked (Answered p trip ∷ log)) 0 (path_count table) p p false (sym (zero-add p)) (marked-others log p false)
+      (λ inside. marked-here log p false);
   trips = ap (λ (l : List (List ℕ)). set l p (after_trip (trips_of table p) trip)) r.trips
-      ∙ set-counting (λ q. last_trips (trips_on log q)) (λ q. last_trips (trips_on (Answered p trip ∷ log) q)) 0 (path_count table) p p (after_trip (trips_of table p) trip) (sym (zero-add p))
+      ∙ set-counting (λ q. last_trips (trips_on log q)) (λ q. last_trips (trips_on (Answered p trip ∷ log) q)) 0 (path_count table) p p
+      (after_trip (trips_of table p) trip) (sym (zero-add p))
       (trips-others log p trip) (λ inside. trips-here log p trip (trips_of table p) (trips-recalled table log p r inside));
 }

@@ -45,7 +45,8 @@ tells-alike : (j k : Option Sectors) (span : Span) (bytes : List ℕ) → BothKn
 tells-alike None None span bytes both tells = tt
 tells-alike None (Some b) span bytes both tells = absurd both
 tells-alike (Some a) None span bytes both tells = absurd both
-tells-alike (Some a) (Some b) span bytes both tells = λ i below. subst (λ (o : Option (List ℕ)). IfSome o (λ v. sector bytes i ≡ v)) (ap (λ (f : ℕ → Option (List ℕ)). f (span.at + i)) both.known) (tells i below)
+tells-alike (Some a) (Some b) span bytes both tells = λ i below. subst (λ (o : Option (List ℕ)). IfSome o (λ v. sector bytes i ≡ v))
+    (ap (λ (f : ℕ → Option (List ℕ)). f (span.at + i)) both.known) (tells i below)
 
 gives-alike : (e : Effect) (station : Station) (j k : Option Sectors) (h : Header) (args : AtaArgs) (span : Span) (reply : List ℕ) → BothKnown j k
     → Gives station j h args span e reply → Gives station k h args span e reply
@@ -76,7 +77,8 @@ ata-alike (Put span) fate station j k h args both g = g
 ata-alike (Verify span) fate station j k h args both g = g
 ata-alike Sync fate station j k h args both g = g
 
-pub allows-alike : (v : Verdict) (station : Station) (x y : State) (f : List ℕ) (fate : Fate) → Alike x y → Allows station x f v fate → Allows station y f v fate
+pub allows-alike : (v : Verdict) (station : Station) (x y : State) (f : List ℕ) (fate : Fate) → Alike x y → Allows station x f v fate
+    → Allows station y f v fate
 allows-alike Ignored station x y f fate alike g = g
 allows-alike Silent station x y f fate alike g = g
 allows-alike (Refused error) station x y f fate alike g = g
@@ -189,7 +191,8 @@ module _ (station : Station) (x y : State) (alike : Alike x y) where
       let before = behind-alike h in
       let j : State = left_by station x h in
       let k : State = left_by station y h in
-      subst (λ (v : Verdict). Alike (after station m.frame (verdict station j.lists m.frame) m.fate j) (after station m.frame v m.fate k)) (same-verdict j k m.frame before)
+      subst (λ (v : Verdict). Alike (after station m.frame (verdict station j.lists m.frame) m.fate j) (after station m.frame v m.fate k))
+      (same-verdict j k m.frame before)
       (after-alike j k before (verdict station j.lists m.frame) station m.frame m.fate)
 
   pub all-alike : (h : List Met) → AllAllowed station x h → AllAllowed station y h

@@ -52,7 +52,8 @@ module _ (bytes : List ℕ) (g : FileHead) (qs : List Packet) (file : IsCapture 
       let P : Bool → Type 0 = λ b. flat_map (packet_bytes b) (reverse ps) ++ rest ≡ flat_map (packet_bytes g.big) qs in
       (same, first-packets g.big (reverse ps) qs rest c.each file.each (subst P (ap (λ (x : FileHead). x.big) same) parts.1))
 
-  pub read-part : (head : FileHead) (ps : List Packet) (middle : Option (List ℕ)) → HasRead (Some bytes) middle head ps → (head ≡ g) × IsPartOf g.big ps qs middle
+  pub read-part : (head : FileHead) (ps : List Packet) (middle : Option (List ℕ)) → HasRead (Some bytes) middle head ps
+      → (head ≡ g) × IsPartOf g.big ps qs middle
   read-part head ps None r = absurd (let e : Some bytes ≡ None = r.gave in cc)
   read-part head ps (Some rest) r =
       let e : Some bytes ≡ Some (r.bytes ++ rest) = r.gave in

@@ -158,7 +158,8 @@ pub record SoFar (lists : Settings) (a : Auditing) (left left' : Option (List �
   pub within : IsWithin packets
 
 -- what was refused
-pub left-refused : (r : AuditRefusal) (station : Station) (lists : Settings) (c : List audit.Packet) → IsLeft station lists c r → IsLeftBy (refused r) station lists c
+pub left-refused : (r : AuditRefusal) (station : Station) (lists : Settings) (c : List audit.Packet) → IsLeft station lists c r
+    → IsLeftBy (refused r) station lists c
 left-refused audit_refusal.NoMemory station lists c left = left
 left-refused (audit_refusal.Finding number kind) station lists c left = left
 
@@ -182,7 +183,8 @@ so-far-none lists a left left' big h fits big_is gave heard_none = record {
   within = record { records = omega arith; bytes = omega arith };
 }
 
-module _ (lists : Settings) (a : Auditing) (left middle : Option (List ℕ)) (big : Bool) (count captured : ℕ) (s : SoFar lists a left middle big count captured) where
+module _ (lists : Settings) (a : Auditing) (left middle : Option (List ℕ)) (big : Bool) (count captured : ℕ)
+    (s : SoFar lists a left middle big count captured) where
   pub behind-of : (number : ℕ) → number ≡ count + 1 → IsBehind lists a number captured s.packets
   behind-of number is =
       record { fed_with = s.fed_with; number_is = is ∙ ap (λ n. n + 1) (sym s.count_is); captured_is = sym s.captured_is; within = s.within }
@@ -205,7 +207,8 @@ module _ (lists : Settings) (a : Auditing) (left middle : Option (List ℕ)) (bi
 
   module _ (station : Station) (same : a.station ≡ station) where
     -- the audit ends by the next
-    pub stopped : (stop : AuditStop) (left' : Option (List ℕ)) → EndsAt stop a.station lists big s.packets middle left' → StopsBehind stop station lists left left'
+    pub stopped : (stop : AuditStop) (left' : Option (List ℕ)) → EndsAt stop a.station lists big s.packets middle left'
+        → StopsBehind stop station lists left left'
     stopped stop left' ends = record {
       head = s.head;
       packets = s.packets;
@@ -240,10 +243,12 @@ module _ (lists : Settings) (a : Auditing) (left middle : Option (List ℕ)) (bi
         inr (stopped stop left' (inr (inr (ended, rest, left_by))))
 
 -- what is said with the line
-pub audits-ok : (s : Summary) (station : Station) (lists : Settings) (left left' held held' : Option (List ℕ)) (text : List ℕ) → FilePasses s station lists left left'
+pub audits-ok : (s : Summary) (station : Station) (lists : Settings) (left left' held held' : Option (List ℕ)) (text : List ℕ)
+    → FilePasses s station lists left left'
     → text ≡ line s → Took held held' text → Audits (Ok tt) station lists left left' held held'
 audits-ok s station lists left left' held held' text passes is took = (s, passes, subst (λ (l : List ℕ). Took held held' l) is took)
 
-pub audits-sink : (s : Summary) (station : Station) (lists : Settings) (left left' held held' : Option (List ℕ)) (text : List ℕ) → FilePasses s station lists left left'
+pub audits-sink : (s : Summary) (station : Station) (lists : Settings) (left left' held held' : Option (List ℕ)) (text : List ℕ)
+    → FilePasses s station lists left left'
     → text ≡ line s → TookSome held held' text → Audits (Err SinkFault) station lists left left' held held'
 audits-sink s station lists left left' held held' text passes is took = inl (refl, (s, passes, subst (λ (l : List ℕ). TookSome held held' l) is took))

@@ -86,7 +86,8 @@ module _ (station : Station) (lists : Settings) where
       uncut = tt;
       answered = refl;
       in_turn = λ later before is.
-          let few : length (audit.replies station before) ≡ 0 = ap (λ (l : List audit.Packet). length (audit.replies station l)) (nothing-behind later before is) in
+          let few : length (audit.replies station before) ≡ 0 = ap (λ (l : List audit.Packet). length (audit.replies station l))
+          (nothing-behind later before is) in
           omega (arith, few);
     };
     state = refl;
@@ -113,7 +114,8 @@ module _ (station : Station) (lists : Settings) where
       allowed-then : (fate : Fate) → Allows station k f (verdict station k.lists f) fate → AllowedBy station (start lists) x.history f fate
       allowed-then fate allowed = subst (λ (s : State). Allows station s f (verdict station s.lists f) fate) (sym x.state) allowed
 
-      request-quiet : (fate : Fate) → Allows station k f (verdict station k.lists f) fate → is_cut fate ≡ false → reply_in fate ≡ [] → Explained (p ∷ c) (left fate)
+      request-quiet : (fate : Fate) → Allows station k f (verdict station k.lists f) fate → is_cut fate ≡ false → reply_in fate ≡ []
+          → Explained (p ∷ c) (left fate)
       request-quiet fate allowed uncut quiet = record {
         history = record { frame = f; fate = fate } ∷ x.history;
         explains = explains-met station lists (p ∷ c) [] p x.history fate asked (allowed-then fate allowed) uncut quiet;
@@ -133,9 +135,11 @@ module _ (station : Station) (lists : Settings) where
             whole = (λ short. never-short station r short, whole);
           }
 
-    other-quiet : (fate : Fate) → class_of_whole station f ≡ class.Other → Allows station k f (verdict station k.lists f) fate → Explained (came n f fate c) (left fate)
+    other-quiet : (fate : Fate) → class_of_whole station f ≡ class.Other → Allows station k f (verdict station k.lists f) fate
+        → Explained (came n f fate c) (left fate)
     other-quiet fate is allowed =
-        let none-for : verdict station k.lists f ≡ Ignored = others-ignored station f k.lists (λ request. (let e : class.Other ≡ class.Request = sym is ∙ request in cc)) in
+        let none-for : verdict station k.lists f ≡ Ignored =
+        others-ignored station f k.lists (λ request. (let e : class.Other ≡ class.Request = sym is ∙ request in cc)) in
         let quiet : fate ≡ ignored = subst (λ (v : Verdict). Allows station k f v fate) none-for allowed in
         let stays : left ignored ≡ k = ap (λ (v : Verdict). after station f v ignored k) none-for in
         subst (λ (d : Fate). Explained (came n f d c) (left d)) (sym quiet)

@@ -92,7 +92,13 @@ captured-append (p ∷ xs) ys = omega (arith, captured-append xs ys)
 captured-total : (fs : List (List ℕ)) → captured_bytes (reverse (map packet_of fs)) ≡ total_length fs
 captured-total [] = refl
 captured-total (f ∷ fs) =
-    omega (arith, ap captured_bytes (reverse-append (packet_of f ∷ []) (map packet_of fs)), captured-append (reverse (map packet_of fs)) (packet_of f ∷ []), captured-total fs)
+    omega (
+      arith,
+      ap captured_bytes (reverse-append (packet_of f ∷ []) (map packet_of fs)),
+      captured-append (reverse (map packet_of fs))
+          (packet_of f ∷ []),
+      captured-total fs,
+    )
 
 heard-rest : (xs ys : List Packet) → (zs : List audit.Packet) × (heard (xs ++ ys) ≡ zs ++ heard ys)
 heard-rest [] ys = ([], refl)
@@ -117,9 +123,17 @@ next-packet : (p : Packet) (more : List Packet) (rest : List ℕ) (left : Option
     → rest ≡ flat_map (packet_bytes false) more → Gave (Some rest) left (packet_bytes false p) → (others : List Packet) × (more ≡ p ∷ others)
 next-packet p more rest None is all e gave = absurd (cc)
 next-packet p [] rest (Some y) is all e gave =
-    absurd (omega (arith, length-packet false p, length-append (packet_bytes false p) y, ap length e, ap length (same_Some rest (packet_bytes false p ++ y) gave)))
+    absurd (omega (
+      arith,
+      length-packet false p,
+      length-append (packet_bytes false p) y,
+      ap length e,
+      ap length
+          (same_Some rest (packet_bytes false p ++ y) gave),
+    ))
 next-packet p (q ∷ more) rest (Some y) is all e gave =
-    let split : packet_bytes false p ++ y ≡ packet_bytes false q ++ flat_map (packet_bytes false) more = sym (same_Some rest (packet_bytes false p ++ y) gave) ∙ e in
+    let split : packet_bytes false p ++ y ≡ packet_bytes false q ++ flat_map (packet_bytes false) more = sym (same_Some rest (packet_bytes false p ++ y) gave)
+    ∙ e in
     let s = one-record false p q y (flat_map (packet_bytes false) more) is (All-head IsPacket q more all) split in
     (more, λ i. sym s.packet i ∷ more)
 
@@ -200,7 +214,8 @@ module _ (station : Station) (lists : Settings) (xs : List (List ℕ)) (bytes : 
   left-by CaptureBytes left = left
 
   -- what was read is a part of the file
-  module _ (stop : AuditStop) (no-fault : stop ≢ SourceFault) (ps : List Packet) (rest : List ℕ) (left' : Option (List ℕ)) (first : AreFirst false (reverse ps) Packets rest) where
+  module _ (stop : AuditStop) (no-fault : stop ≢ SourceFault) (ps : List Packet) (rest : List ℕ) (left' : Option (List ℕ))
+      (first : AreFirst false (reverse ps) Packets rest) where
     more-fits : All IsPacket first.more
     more-fits = all-back IsPacket (reverse ps) first.more (subst (λ (l : List Packet). All IsPacket l) first.whole file.each)
 

@@ -53,7 +53,8 @@ bytes_of cut = []
 bytes_of (replied e reply) = reply
 
 module _ (station : Station) (f : List ℕ) (e : Effect) (reply : List ℕ) where
-  plain : (error : Option AoeError) (args : List ℕ) (d : Effect) → replied e reply ≡ replied d (spelled station (fields f) error args) → IsSpelled station f reply
+  plain : (error : Option AoeError) (args : List ℕ) (d : Effect) → replied e reply ≡ replied d (spelled station (fields f) error args)
+      → IsSpelled station f reply
   plain error args d is = record { error = error; args = args; bytes = ap bytes_of is }
 
   step-spelled : (s : Step) → AllowsStep station f s (replied e reply) → IsSpelled station f reply
@@ -170,7 +171,8 @@ module _ (station : Station) (on : IsOnWire station) (h : Header) (dst : length 
       let is : head g ≡ Some Read = subst (λ (b : List ℕ). head (b ++ rest) ≡ Some Read) (sym same-bytes) (head-header_bytes Read rest fits) in
       let some : is_some (head g) ≡ true = ap (λ (o : Option Header). is_some o) is in
       let same : fields g ≡ Read = head-fields g Read is in
-      let own : is_own station Read ≡ true = rw (eq-eqb station.id.major station.id.major refl, eq-eqb station.id.minor station.id.minor refl, port-held) refl in
+      let own : is_own station Read ≡ true =
+      rw (eq-eqb station.id.major station.id.major refl, eq-eqb station.id.minor station.id.minor refl, port-held) refl in
       (λ i. by_head station (some i) (same i)) ∙ (λ i. if no-request error i then class.Request else if own i then class.Reply else class.Other)
 
 -- a request

@@ -56,7 +56,8 @@ module _ (setups : List Setup) (events : List Event) (h : IsScript (record { set
   second_fine : (k : ℕ) → IsSecond setups (map Asks events) k → refusal_at (map Declares setups ++ map Asks events) k ≡ None
   second_fine k f =
       ap (option_and_then (line_refusal (k + 1) (lines_of (take k (map Declares setups ++ map Asks events))))) (f.got ∙ slice_get-map Asks events f.j)
-      ∙ ap (λ t. option_and_then (line_refusal (k + 1) (lines_of t)) (option_map Asks (slice_get events f.j))) (f.before ∙ ap (λ t. map Declares setups ++ t) (take-map Asks f.j events))
+      ∙ ap (λ t. option_and_then (line_refusal (k + 1) (lines_of t)) (option_map Asks (slice_get events f.j)))
+      (f.before ∙ ap (λ t. map Declares setups ++ t) (take-map Asks f.j events))
       ∙ ap (λ s. option_and_then (line_refusal (k + 1) s) (option_map Asks (slice_get events f.j))) (lines_kept setups (take f.j events))
       ∙ go (slice_get events f.j) refl
     where

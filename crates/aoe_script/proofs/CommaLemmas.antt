@@ -20,7 +20,8 @@ abbrev pub commas : Text → List Text
 commas = slice_split (λ c. c == 44)
 
 -- the parts that were taken have spelled xs, and the iterator takes the next
-module _ {T F : Type 0} (read : Text → Option T) (most : ℕ) (text : Text) {g : Mut F (Bor ℕ × Unit {0}) Bool} {f : F} (s t u : Split ℕ F) (r : Option (Bor Text))
+module _ {T F : Type 0} (read : Text → Option T) (most : ℕ) (text : Text) {g : Mut F (Bor ℕ × Unit {0}) Bool} {f : F} (s t u : Split ℕ F)
+    (r : Option (Bor Text))
     (rest : split_rest s ≡ text) (more : split_done s ≡ false) (closure : split_callee s ≡ f)
     (tests : (x : ℕ) (b : Bool) (q : F) → CalledAt g f x b q → (q ≡ f) × (b ≡ (x == 44)))
     (taken : List (Bor Text)) (by : Yields (split_steps g) s taken t) (xs : List T) (h : AreRead read (commas text) (length taken) xs)

@@ -33,7 +33,8 @@ lines_kept setups events =
     both _ _ _ _
     (filter_map-append declared (map Declares setups) (map Asks events) ∙ ap (λ t. filter_map declared (map Declares setups) ++ t) (no_setups events)
     ∙ append-nil _ ∙ setups_kept setups)
-    (filter_map-append asked (map Declares setups) (map Asks events) ∙ ap (λ t. t ++ filter_map asked (map Asks events)) (no_events setups) ∙ events_kept events)
+    (filter_map-append asked (map Declares setups) (map Asks events) ∙ ap (λ t. t ++ filter_map asked (map Asks events)) (no_events setups)
+    ∙ events_kept events)
 
 pub setups_alone : (setups : List Setup) → lines_of (map Declares setups) ≡ record { setups = setups; events = [] }
 setups_alone setups = both _ _ _ _ (setups_kept setups) (no_events setups)

@@ -42,7 +42,8 @@ first_line text line rest end place within line_is rest_is =
     let one : suc end ≡ end + 1 = omega arith in
     let behind : drop end text ≡ 10 ∷ drop (end + 1) text =
     drop-cons text end 0 within ∙ ap (λ (b : ℕ). b ∷ drop (suc end) text) feed ∙ ap (λ i. 10 ∷ drop i text) one in
-    let split : slice_split (λ c. c == 10) (10 ∷ drop (end + 1) text) ≡ [] ∷ c.parts = sym (ap (slice_split (λ c. c == 10)) behind) ∙ ap (λ i. slice_split (λ c. c == 10) (drop i text)) place ∙ c.behind in
+    let split : slice_split (λ c. c == 10) (10 ∷ drop (end + 1) text) ≡ [] ∷ c.parts = sym (ap (slice_split (λ c. c == 10)) behind)
+    ∙ ap (λ i. slice_split (λ c. c == 10) (drop i text)) place ∙ c.behind in
     let parts : slice_split (λ c. c == 10) (drop (end + 1) text) ≡ c.parts = tail_is [] [] _ c.parts split in
     ap lines_of_parts (c.whole ∙ ap (λ i. take i text ∷ c.parts) (sym place) ∙ ap (λ q. take end text ∷ q) (sym parts))
     ∙ more_parts (take end text) (drop (end + 1) text)

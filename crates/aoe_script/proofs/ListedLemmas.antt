@@ -59,13 +59,15 @@ module _ {T : Type 0} (read : Text → Option T) (write : T → Text) where
   list_word [] some h = absurd (omega (arith, some))
   list_word (x ∷ xs) some h =
       and_from _ _ (lt-ltb 0 _ (omega (arith, list_long x xs h)))
-      (all_joined is_plain 44 write (x ∷ xs) refl (all_tested (IsWritten read write) _ (λ x w. all_weaker is_part is_plain part_plain (write x) w.part) (x ∷ xs) h))
+      (all_joined is_plain 44 write (x ∷ xs) refl
+      (all_tested (IsWritten read write) _ (λ x w. all_weaker is_part is_plain part_plain (write x) w.part) (x ∷ xs) h))
 
   pub list_back : (most : ℕ) (xs : List T) → 0 < length xs → length xs ≤ most → AllByRecursion (IsWritten read write) xs
       → at_most most (each read (slice_split (λ c. c == 44) (join_with_byte 44 (map write xs)))) ≡ Some xs
   list_back most [] some few h = absurd (omega (arith, some))
   list_back most (x ∷ xs) some few h =
-      ap (λ parts. at_most most (each read parts)) (parts_back 44 write x xs (all_tested (IsWritten read write) _ (λ x w. all_weaker is_part _ part_lacks (write x) w.part) (x ∷ xs) h))
+      ap (λ parts. at_most most (each read parts))
+      (parts_back 44 write x xs (all_tested (IsWritten read write) _ (λ x w. all_weaker is_part _ part_lacks (write x) w.part) (x ∷ xs) h))
       ∙ ap (at_most most) (each_back read write (x ∷ xs) (all_also (IsWritten read write) _ (λ x w. w.back) (x ∷ xs) h))
       ∙ most_back most (x ∷ xs) few
 
@@ -111,7 +113,8 @@ module _ (law : AddressLaw) where
   dir_written false mac is = record { back = rw (law mac is.six is.bytes) refl; part = mac_part mac is; long = omega (arith, mac_long mac is) }
 
   dirs_written : (dirs : List Dir) → All (λ dir. IsAddress dir.mac) dirs → AllByRecursion (IsWritten dir_of dir_text) dirs
-  dirs_written dirs h = all_also _ (IsWritten dir_of dir_text) (λ dir is. dir_written dir.add dir.mac is) dirs (recursion_from_All (λ dir. IsAddress dir.mac) dirs h)
+  dirs_written dirs h = all_also _ (IsWritten dir_of dir_text) (λ dir is. dir_written dir.add dir.mac is) dirs
+      (recursion_from_All (λ dir. IsAddress dir.mac) dirs h)
 
   pub dirs_word : (dirs : List Dir) → 0 < length dirs → All (λ dir. IsAddress dir.mac) dirs → is_word (dirs_text dirs) ≡ true
   dirs_word dirs some h = list_word dir_of dir_text dirs some (dirs_written dirs h)

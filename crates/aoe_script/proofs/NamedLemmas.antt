@@ -54,7 +54,8 @@ device_word dev e =
     let h = and_parts (nat_le dev.major 65534) (nat_le dev.minor 254) e in
     let high : dev.major < 2 ^ 64 = grind (arith, nat_tests) in
     let low : dev.minor < 2 ^ 64 = grind (arith, nat_tests) in
-    a_word 101 (decimal dev.major ++ 46 ∷ decimal dev.minor) (all_append is_plain (decimal dev.major) (46 ∷ decimal dev.minor) (digits_plain dev.major high) (digits_plain dev.minor low))
+    a_word 101 (decimal dev.major ++ 46 ∷ decimal dev.minor)
+    (all_append is_plain (decimal dev.major) (46 ∷ decimal dev.minor) (digits_plain dev.major high) (digits_plain dev.minor low))
 
 -- which texts are read as a device
 abbrev pub DeviceLaw : Type 0

@@ -28,7 +28,8 @@ one_pair text (high ∷ []) bytes byte h long e = absurd (omega (arith, long))
 one_pair text (high ∷ low ∷ more) bytes byte h long e = record {
   so_far =
       h.so_far ∙ ap (λ o. option_map (λ rest. bytes ++ rest) (option_and_then (λ byte. option_map (λ rest. byte ∷ rest) (pairs more)) o)) (sym e)
-      ∙ go (pairs more) ∙ ap (λ t. option_map (λ rest. (bytes ++ byte ∷ []) ++ rest) (pairs t)) (sym (take_all (length (high ∷ low ∷ more) - 2) more (omega arith)));
+      ∙ go (pairs more) ∙ ap (λ t. option_map (λ rest. (bytes ++ byte ∷ []) ++ rest) (pairs t))
+      (sym (take_all (length (high ∷ low ∷ more) - 2) more (omega arith)));
 }
   where
     go : (o : Option (List ℕ)) → option_map (λ rest. bytes ++ rest) (option_map (λ rest. byte ∷ rest) o) ≡ option_map (λ rest. (bytes ++ byte ∷ []) ++ rest) o

@@ -45,7 +45,8 @@ event_good setups event e = good (is_event event) _ e
 each_of : {X : Type 0} (P : List X → X → Type 0) (Q R : X → Type 0) → ((before : List X) (x : X) → P before x → Q x → R x)
     → (xs : List X) → ((k : ℕ) → IfSome (slice_get xs k) (λ x. P (take k xs) x)) → AllByRecursion Q xs → AllByRecursion R xs
 each_of P Q R weaker [] h q = tt
-each_of P Q R weaker (x ∷ xs) h q = (weaker [] x (h 0) q.0, each_of (λ before y. P (x ∷ before) y) Q R (λ before y. weaker (x ∷ before) y) xs (λ k. h (suc k)) q.1)
+each_of P Q R weaker (x ∷ xs) h q =
+    (weaker [] x (h 0) q.0, each_of (λ before y. P (x ∷ before) y) Q R (λ before y. weaker (x ∷ before) y) xs (λ k. h (suc k)) q.1)
 
 module _ {X : Type 0} (ws : X → List Text) (line : X → Line) where
   lines_are : (xs : List X) (rest : List Text) → AllByRecursion (λ x. IsSaid (ws x) (line x)) xs
@@ -57,7 +58,9 @@ module _ {X : Type 0} (ws : X → List Text) (line : X → Line) where
   said_first : (xs : List X) (rest : Text) → AllByRecursion (λ x. IsSaid (ws x) (line x)) xs
       → said_by (flat_map (λ x. line_text (ws x)) xs ++ rest) ≡ map line xs ++ said_by rest
   unfolding said_by
-  said_first xs rest h = ap (map line_of) (lines_back ws xs rest (all_tested (λ x. IsSaid (ws x) (line x)) (λ x. list_all is_word (ws x)) (λ x said. are_words (ws x) (line x) said) xs h)) ∙ lines_are xs (lines rest) h
+  said_first xs rest h = ap (map line_of)
+      (lines_back ws xs rest (all_tested (λ x. IsSaid (ws x) (line x)) (λ x. list_all is_word (ws x)) (λ x said. are_words (ws x) (line x) said) xs h))
+      ∙ lines_are xs (lines rest) h
 
 no_lines : said_by [] ≡ []
 unfolding said_by
@@ -82,7 +85,8 @@ module _ (law : AddressLaw) (devices : DeviceLaw) where
       let text : Text = flat_map (λ x. line_text (event_words x)) events in
       said_first setup_words Declares setups text first
       ∙ ap (λ t. map Declares setups ++ said_by t) (sym (append-nil text))
-      ∙ ap (λ t. map Declares setups ++ t) (said_first event_words Asks events [] second ∙ ap (λ t. map Asks events ++ t) no_lines ∙ append-nil (map Asks events))
+      ∙ ap (λ t. map Declares setups ++ t)
+      (said_first event_words Asks events [] second ∙ ap (λ t. map Asks events ++ t) no_lines ∙ append-nil (map Asks events))
 
   pub script_back : (script : ScriptLines) → IsScript script → script_of (script_text script) ≡ script
   script_back script h = ap lines_of (text_said script.setups script.events h) ∙ lines_kept script.setups script.events
@@ -92,4 +96,5 @@ module _ (law : AddressLaw) (devices : DeviceLaw) where
   script_accepted script h short =
       let fits : nat_lt 16777216 (length (script_text script)) ≡ false = grind (arith, nat_tests) in
       let none = first_none (map Declares script.setups ++ map Asks script.events) (none_refused script.setups script.events h) in
-      rw fits (ap (λ t. first_refusal t (length t)) (text_said script.setups script.events h) ∙ none (length (map Declares script.setups ++ map Asks script.events)))
+      rw fits (ap (λ t. first_refusal t (length t)) (text_said script.setups script.events h)
+      ∙ none (length (map Declares script.setups ++ map Asks script.events)))

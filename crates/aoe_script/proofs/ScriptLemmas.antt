@@ -81,10 +81,14 @@ asked_more setups events new event h e room fits is =
 -- ---- a script with one line more
 
 line_more : (before : List Line) (line : Line) → lines_of (before ++ line ∷ []) ≡ with_line (lines_of before) line
-line_more before Blank = both _ _ _ _ (filter_map-append declared before (Blank ∷ []) ∙ append-nil _) (filter_map-append asked before (Blank ∷ []) ∙ append-nil _)
-line_more before (Declares setup) = both _ _ _ _ (filter_map-append declared before (Declares setup ∷ [])) (filter_map-append asked before (Declares setup ∷ []) ∙ append-nil _)
-line_more before (Asks event) = both _ _ _ _ (filter_map-append declared before (Asks event ∷ []) ∙ append-nil _) (filter_map-append asked before (Asks event ∷ []))
-line_more before (Bad why) = both _ _ _ _ (filter_map-append declared before (Bad why ∷ []) ∙ append-nil _) (filter_map-append asked before (Bad why ∷ []) ∙ append-nil _)
+line_more before Blank = both _ _ _ _ (filter_map-append declared before (Blank ∷ []) ∙ append-nil _)
+    (filter_map-append asked before (Blank ∷ []) ∙ append-nil _)
+line_more before (Declares setup) = both _ _ _ _ (filter_map-append declared before (Declares setup ∷ []))
+    (filter_map-append asked before (Declares setup ∷ []) ∙ append-nil _)
+line_more before (Asks event) = both _ _ _ _ (filter_map-append declared before (Asks event ∷ []) ∙ append-nil _)
+    (filter_map-append asked before (Asks event ∷ []))
+line_more before (Bad why) = both _ _ _ _ (filter_map-append declared before (Bad why ∷ []) ∙ append-nil _)
+    (filter_map-append asked before (Bad why ∷ []) ∙ append-nil _)
 
 setups_more : (before : ScriptLines) (line : Line) → length (with_line before line).setups ≤ length before.setups + 1
 setups_more before Blank = omega arith

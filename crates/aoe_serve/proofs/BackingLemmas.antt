@@ -67,7 +67,8 @@ record KeepsRoom {D : Type 0} (old new : Cache D) : Type 0 where
   room : new.room ≡ old.room
   few : length old.held ≤ old.room → length new.held ≤ old.room
 
-holds-then : {D : Type 0} (R : Cache D → Cache D → Type 0) (most : Option ℕ) (old new : AnyStore D) → ((a b : Cache D) → R a b → KeepsRoom a b) → StaysWith R old new
+holds-then : {D : Type 0} (R : Cache D → Cache D → Type 0) (most : Option ℕ) (old new : AnyStore D) → ((a b : Cache D) → R a b → KeepsRoom a b)
+    → StaysWith R old new
     → HoldsBack most old → HoldsBack most new
 holds-then R None (Direct a) (Direct b) keeps stays holds = tt
 holds-then R None (Direct a) (Cached b) keeps stays holds = absurd stays
@@ -90,7 +91,8 @@ module _ {D T E : Type 0} (state : D → DiskState) (most : Option ℕ) (result 
             | inl part ↦ omega (arith, few, part-fewer result a.held b.held (state a.disk) (state b.disk) part)
             | inr after ↦ puts-few at (length piece / 512) piece result a.room b.held after.between (state b.disk) after.puts
           ]
-          | inr within ↦ let within_room : length (with_written at (length piece / 512) piece a.held) ≤ a.room = omega (arith, within) in omega (arith, within_room, ap length (w.within within_room).held)
+          | inr within ↦ let within_room : length (with_written at (length piece / 512) piece a.held) ≤ a.room = omega (arith, within) in
+              omega (arith, within_room, ap length (w.within within_room).held)
         ];
       }
 

@@ -160,7 +160,8 @@ each_ends old middle new arrivals results finds served synced = record {
   count = synced.slots.count ∙ served.slots.count;
   each = λ i a b ea eb.
       let m = there middle i (omega (arith, slice_get_within new i b eb, synced.slots.count)) in
-      ends_after a m.slot b (at_slot i arrivals) (get_or results i (Ok tt)) (finds i a ea) (served.slots.each i a m.slot ea m.is) (served.lasting.each i a m.slot ea m.is)
+      ends_after a m.slot b (at_slot i arrivals) (get_or results i (Ok tt)) (finds i a ea) (served.slots.each i a m.slot ea m.is)
+      (served.lasting.each i a m.slot ea m.is)
       (synced.slots.each i m.slot b m.is eb);
 }
 
@@ -175,7 +176,8 @@ finds_first : (s x : Slot) → AlwaysFinds s.device.keep s.device.lists → (let
 finds_first s x finds e = let same : s ≡ x = cc in subst (λ (y : Slot). AlwaysFinds y.device.keep y.device.lists) same finds
 
 -- every crash finds the lists of a slot over a keep that was mounted
-pub over_finds : {D : Type 0} (state : D → DiskState) (most : Option ℕ) (name : ℕ → ℕ → Station) (minor : ℕ) (disks disks' : List (Option D)) (first last : List Slot)
+pub over_finds : {D : Type 0} (state : D → DiskState) (most : Option ℕ) (name : ℕ → ℕ → Station) (minor : ℕ) (disks disks' : List (Option D))
+    (first last : List Slot)
     → OverFiles state most name minor disks disks' first last → FindsAll first
 over_finds state most name minor (Some f ∷ Some k ∷ disks) (Some f' ∷ Some k' ∷ disks') (a ∷ first)
     (b ∷ last) over zero s e = finds_first a s over.0.mounted.finds e

@@ -50,7 +50,8 @@ module _ {D : Type 0} (state : D → DiskState) (most : Option ℕ) where
     ap (λ (xs : List (Option D)). ends_with xs file keep) is,
     s,
     seated-more name (minor + 1) others targets file keep t rest
-        (subst (λ (n : ℕ). IsSeatedOn state (name n) (over_file most file) keep t) (let same : minor + suc (length targets) ≡ minor + 1 + length targets = omega arith in same) on),
+        (subst (λ (n : ℕ). IsSeatedOn state (name n) (over_file most file) keep t)
+        (let same : minor + suc (length targets) ≡ minor + 1 + length targets = omega arith in same) on),
   )
 
   back-more : (disks : List (Option D)) (targets : List (Mounted (AnyStore D) D)) (file keep : D) (t : Mounted (AnyStore D) D)
@@ -179,9 +180,11 @@ module _ {D : Type 0} (state : D → DiskState) (most : Option ℕ) (all others 
       let P : List (Option D) → Type 0 = λ xs. GivesBack state (length targets) refusal xs (others' ++ pair') in
       let Q : List (Option D) → Type 0 = λ ys. GivesBack state (length targets) refusal (ends_with others file keep) (others' ++ ys) in
       let file_same : file' ≡ file = unused-disk store' file' (same ∙ is) closed in
-      subst R at (subst P (sym joined) (subst Q (sym pair_is') (refused-last state most name minor others others' targets refusal file file' keep keep' seated back file_same why)))
+      subst R at (subst P (sym joined)
+      (subst Q (sym pair_is') (refused-last state most name minor others others' targets refusal file file' keep keep' seated back file_same why)))
 
-pub back-then : {D : Type 0} (state : D → DiskState) (most : Option ℕ) (others' pair' : List (Option D)) (file' keep' : D) (old new : List (Mounted (AnyStore D) D))
+pub back-then : {D : Type 0} (state : D → DiskState) (most : Option ℕ) (others' pair' : List (Option D)) (file' keep' : D)
+    (old new : List (Mounted (AnyStore D) D))
     → pair' ≡ Some file' ∷ Some keep' ∷ []
     → Leaves state most file' keep' old new → AreBack state most others' new → AreBack state most (others' ++ pair') old
 back-then {D} state most others' pair' file' keep' old new is l back =
@@ -210,7 +213,8 @@ same-first R same (x ∷ xs) = (same x, refl)
 over-files : {D : Type 0} (state : D → DiskState) (most : Option ℕ) (name : ℕ → ℕ → Station) (minor : ℕ) (disks disks' : List (Option D))
     (first last : List (Mounted (AnyStore D) D)) → length last ≡ length first
     → AreSeated state most name minor disks first → AreBack state most disks' last
-    → OverFiles state most name minor disks disks' (slots_of (lasts_of most) (any_state state) state first) (slots_of (lasts_of most) (any_state state) state last)
+    → OverFiles state most name minor disks disks' (slots_of (lasts_of most) (any_state state) state first)
+    (slots_of (lasts_of most) (any_state state) state last)
 over-files {D} state most name minor disks disks' [] [] count seated back =
     let P : List (Option D) → Type 0 = λ xs. OverFiles state most name minor xs disks' [] [] in
     let Q : List (Option D) → Type 0 = λ xs. OverFiles state most name minor [] xs [] [] in
@@ -219,7 +223,8 @@ over-files state most name minor disks disks' [] (b ∷ last) count seated back 
 over-files state most name minor disks disks' (a ∷ first) [] count seated back = absurd (omega (arith, count))
 over-files {D} state most name minor disks disks' (a ∷ first) (b ∷ last) count (file, keep, others, is, s, seated) (file', keep', others', is', l, back) =
     let P : List (Option D) → Type 0 =
-    λ xs. OverFiles state most name minor xs disks' (slots_of (lasts_of most) (any_state state) state (a ∷ first)) (slots_of (lasts_of most) (any_state state) state (b ∷ last)) in
+    λ xs. OverFiles state most name minor xs disks' (slots_of (lasts_of most) (any_state state) state (a ∷ first))
+    (slots_of (lasts_of most) (any_state state) state (b ∷ last)) in
     let Q : List (Option D) → Type 0 = λ xs. OverFiles state most name minor (Some file ∷ Some keep ∷ others) xs
     (slots_of (lasts_of most) (any_state state) state (a ∷ first)) (slots_of (lasts_of most) (any_state state) state (b ∷ last)) in
     subst P (sym is) (subst Q (sym is') (
@@ -235,7 +240,8 @@ over-files {D} state most name minor disks disks' (a ∷ first) (b ∷ last) cou
     ))
 
 -- a run adds no slot and takes none
-pub run-count : {T D S K L : Type 0} (lasts : Bool) (store : T → DiskState) (keep : D → DiskState) (t : Tells S K L) (p : Plan) (e : RunEnd) (a b : Outside S K L)
+pub run-count : {T D S K L : Type 0} (lasts : Bool) (store : T → DiskState) (keep : D → DiskState) (t : Tells S K L) (p : Plan) (e : RunEnd)
+    (a b : Outside S K L)
     (old new : List (Mounted T D)) → HasRun t p e a b (slots_of lasts store keep old) (slots_of lasts store keep new) → length new ≡ length old
 run-count lasts store keep t p e a b old new ran =
     let f = slot_of lasts store keep in

@@ -105,7 +105,11 @@ module _ (limit idle start now : ℕ) (given0 given : Option (List Turn)) (taken
     turns' = came f ∷ (replicate n quiet ++ s.turns)
 
     on' : GoesOn limit idle turns'
-    on' = (waits limit idle s.turns count s.counted few s.loud s.going n short, waited limit idle s.turns count s.counted few s.loud s.going n (omega (arith, short)) s.goes_on)
+    on' = (
+      waits limit idle s.turns count s.counted few s.loud s.going n short,
+      waited limit idle s.turns count s.counted few s.loud s.going n
+          (omega (arith, short)) s.goes_on,
+    )
 
     came' : came_in turns' ≡ came_in s.turns ++ f ∷ []
     came' = ap (λ (l : Frames). l ++ f ∷ []) (came_quiet n s.turns)
@@ -152,7 +156,12 @@ module _ (limit idle start now : ℕ) (given0 given : Option (List Turn)) (taken
           served = served' (Err e) taken' new r;
           turned = turned';
           goes_on = on';
-          finishes = inr (n, r.took.1, subst (λ (l : Frames). Added taken0 taken' l) (sym (reverse-append before last)) (Added-then taken0 taken taken' (reverse before) (reverse last) s.sends r.took.2));
+          finishes = inr (
+            n,
+            r.took.1,
+            subst (λ (l : Frames). Added taken0 taken' l) (sym (reverse-append before last))
+                (Added-then taken0 taken taken' (reverse before) (reverse last) s.sends r.took.2),
+          );
         }
 
   module _ (later : ℕ) (given' : Option (List Turn)) where
@@ -167,7 +176,11 @@ module _ (limit idle start now : ℕ) (given0 given : Option (List Turn)) (taken
           served = s.served;
           turned = turned-then start now later given0 given given' s.turns (replicate idle quiet) s.turned t;
           goes_on = waited limit idle s.turns count s.counted few s.loud s.going idle (omega arith) s.goes_on;
-          finishes = (second_of (nat_eq (length (came_in turns)) limit) (nat_eq (quiet_since turns) idle) (has_ended turns) (eq-eqb (quiet_since turns) idle (quiet_count idle s.turns s.loud)), s.sends);
+          finishes = (
+            second_of (nat_eq (length (came_in turns)) limit) (nat_eq (quiet_since turns) idle) (has_ended turns)
+                (eq-eqb (quiet_since turns) idle (quiet_count idle s.turns s.loud)),
+            s.sends,
+          );
         }
 
     -- the link ended after so many quiet turns
@@ -181,7 +194,11 @@ module _ (limit idle start now : ℕ) (given0 given : Option (List Turn)) (taken
           frames_are = s.frames_are ∙ sym (came_quiet n s.turns);
           served = s.served;
           turned = turned-then start now later given0 given given' s.turns (ended ∷ replicate n quiet) s.turned t;
-          goes_on = (waits limit idle s.turns count s.counted few s.loud s.going n short, waited limit idle s.turns count s.counted few s.loud s.going n (omega (arith, short)) s.goes_on);
+          goes_on = (
+            waits limit idle s.turns count s.counted few s.loud s.going n short,
+            waited limit idle s.turns count s.counted few s.loud s.going n
+                (omega (arith, short)) s.goes_on,
+          );
           finishes = (third_of (nat_eq (length (came_in turns)) limit) (nat_eq (quiet_since turns) idle) (has_ended turns) refl, s.sends);
         }
 
@@ -202,7 +219,8 @@ module _ (limit idle start now : ℕ) (given0 given : Option (List Turn)) (taken
 abbrev pub AfterWait : Result Got Failed → ℕ → List ℕ → ℕ → ℕ → Option (List Turn) → Option (List Turn) → Type 0
 AfterWait r idle f now later given given' = (turns : List Turn) × Waited r idle f turns × Turned now later given given' turns
 
-module _ (limit idle start now later : ℕ) (given0 given given' : Option (List Turn)) (taken0 taken waiting : Option Frames) (old mid : List Slot) (count : ℕ) (few : count < limit) (f : List ℕ)
+module _ (limit idle start now later : ℕ) (given0 given given' : Option (List Turn)) (taken0 taken waiting : Option Frames) (old mid : List Slot) (count : ℕ)
+    (few : count < limit) (f : List ℕ)
     (before : SoFar limit idle start now given0 given taken0 taken old mid count) (same : waiting ≡ taken) where
   s : SoFar limit idle start now given0 given taken0 waiting old mid count
   s = subst (λ (o : Option Frames). SoFar limit idle start now given0 given taken0 o old mid count) (sym same) before
@@ -220,7 +238,8 @@ module _ (limit idle start now later : ℕ) (given0 given given' : Option (List 
   by_failure e w = link_fails limit idle start now given0 given taken0 waiting old mid count few s later given' w.1.0 w.1.1
       (subst (λ (l : List Turn). Turned now later given given' l) w.1.2 w.2)
 
-  module _ (last : ℕ) (given'' : Option (List Turn)) (taken' : Option Frames) (new : List Slot) (result : Outcome) (m n : ℕ) (w : AfterWait (Ok Frame) idle f now later given given')
+  module _ (last : ℕ) (given'' : Option (List Turn)) (taken' : Option Frames) (new : List Slot) (result : Outcome) (m n : ℕ)
+      (w : AfterWait (Ok Frame) idle f now later given given')
       (r : Round (LinkTook result waiting taken' given' given'' later last m n) f mid new) where
     t : Turned now later given given' (came f ∷ replicate w.1.0 quiet)
     t = subst (λ (l : List Turn). Turned now later given given' l) w.1.2 w.2
@@ -233,10 +252,14 @@ module _ (limit idle start now later : ℕ) (given0 given given' : Option (List 
     by_frame is =
         let P : ℕ → Type 0 = λ k. SoFar limit idle start k given0 given'' taken0 taken' old new (count + 1) in
         let Q : Option (List Turn) → Type 0 = λ o. SoFar limit idle start later given0 o taken0 taken' old new (count + 1) in
-        subst P (sym r.took.same_turns) (subst Q (sym r.took.same_given) (goes_on limit idle start now given0 given taken0 waiting old mid count few s later given' w.1.0 w.1.1 f t taken' new (sent (Ok tt) is)))
+        subst P (sym r.took.same_turns)
+        (subst Q (sym r.took.same_given)
+        (goes_on limit idle start now given0 given taken0 waiting old mid count few s later given' w.1.0 w.1.1 f t taken' new (sent (Ok tt) is)))
 
     pub by_break : (e : Failed) → result ≡ Err e → Served end.LinkFault limit idle start last given0 given'' taken0 taken' old new
     by_break e is =
         let P : ℕ → Type 0 = λ k. Served end.LinkFault limit idle start k given0 given'' taken0 taken' old new in
         let Q : Option (List Turn) → Type 0 = λ o. Served end.LinkFault limit idle start later given0 o taken0 taken' old new in
-        subst P (sym r.took.same_turns) (subst Q (sym r.took.same_given) (breaks limit idle start now given0 given taken0 waiting old mid count few s later given' w.1.0 w.1.1 f t e taken' new (sent (Err e) is)))
+        subst P (sym r.took.same_turns)
+        (subst Q (sym r.took.same_given)
+        (breaks limit idle start now given0 given taken0 waiting old mid count few s later given' w.1.0 w.1.1 f t e taken' new (sent (Err e) is)))

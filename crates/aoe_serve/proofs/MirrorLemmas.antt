@@ -190,7 +190,8 @@ ends_copied well failed (Ok v) old mid new m ok s c =
     let later : (shown old).faults ≤ (shown new).faults = let a = s.syncs.call.later in let b = c.later in omega (arith, a, b) in
     let calm : BothTell Calms (shown old).contents (shown new).contents = told_then Calms Calms Calms (shown old).contents (shown mid).contents
     (shown new).contents
-    (told_mono (Syncs {T = Unit {0}} {E = Failed} (Ok v)) Calms (shown old).contents (shown mid).contents s.syncs.contents (λ a b t. settles_calm a b t)) c.calm calm_then in
+    (told_mono (Syncs {T = Unit {0}} {E = Failed} (Ok v)) Calms (shown old).contents (shown mid).contents s.syncs.contents (λ a b t. settles_calm a b t)) c.calm
+    calm_then in
     let quiet : IfSome (shown new).contents Quiet = told_if Calms Quiet Quiet (shown mid).contents (shown new).contents c.calm
     (told_to (Syncs {T = Unit {0}} {E = Failed} (Ok v)) Quiet (shown old).contents (shown mid).contents s.syncs.contents (λ a b t. settles_kept a b t))
     (λ a b h t k. t.kept k (h k)) in
@@ -247,7 +248,11 @@ pub ran_mirror : {D S K L : Type 0} (state : D → DiskState) (name : ℕ → St
     → IsOf state back (pair state ended) → back.keep ≡ keep.disk
     → RanMirror state name faults t p e a b (pair state mirror) kept back
 ran_mirror {D} state name faults t p e a b mirror kept back targets targets' seated run left ended keep l since ends disks kept_back =
-    let first : Slot = record { station = name (state_of state mirror).sectors; lasts = false; device = record { lists = kept.lists; keep = state kept.disk; store = state_of state mirror } } in
+    let first : Slot = record {
+      station = name (state_of state mirror).sectors;
+      lasts = false;
+      device = record { lists = kept.lists; keep = state kept.disk; store = state_of state mirror };
+    } in
     let mid : Slot = slot_of false (state_of state) state l.target in
     let last : Slot = record mid { device = record mid.device { store = shown (pair state ended) } } in
     let ran : HasRun t p e.end a b (first ∷ []) (mid ∷ []) = rw (seated, l.only) at run in
@@ -366,7 +371,8 @@ mirrored {D} state name faults t p e a b given back begun kept same begins r =
       blames = blamed_one state given back r.middle r.ended since r.ends.counts r.disks_back e.unsynced r.ends.blames;
       equal = λ well none. elim (r.ends.whole well none) [
         | inl whole ↦ inl (equal_sides state back r.ended r.ends.mirror whole
-            (synced_quiet r.ends.answer (shown r.middle) (shown r.ended) (no_error e.unsynced (is_err r.ends.answer) r.ends.told none) r.ends.syncs) r.disks_back)
+            (synced_quiet r.ends.answer (shown r.middle) (shown r.ended) (no_error e.unsynced (is_err r.ends.answer) r.ends.told none) r.ends.syncs)
+            r.disks_back)
         | inr side ↦ inr (failed_side state given back r.middle r.ended since r.ends.counts r.disks_back side)
       ];
     }

@@ -257,13 +257,37 @@ module _ (format : Format) (left0 left left' held0 held held' : Option (List ℕ
   pub ends : (e : AnswerEnd) → Ends format e offset left left' held held' now new → Answered format e left0 left' held0 held' old new
   ends end.Ended e =
       let t = stays e.2 e.3 in
-      record { arrivals = t.arrivals; whole = t.whole; served = t.served; behind = left; gave = t.gave; stops = (omega (arith, few, t.count_is), e.0, e.1); took = t.took }
+      record {
+        arrivals = t.arrivals;
+        whole = t.whole;
+        served = t.served;
+        behind = left;
+        gave = t.gave;
+        stops = (omega (arith, few, t.count_is), e.0, e.1);
+        took = t.took;
+      }
   ends (end.Stream at) e =
       let t = stays e.3 e.4 in
-      record { arrivals = t.arrivals; whole = t.whole; served = t.served; behind = left; gave = t.gave; stops = (omega (arith, few, t.count_is), e.0 ∙ sym t.offset_is, e.1, e.2); took = t.took }
+      record {
+        arrivals = t.arrivals;
+        whole = t.whole;
+        served = t.served;
+        behind = left;
+        gave = t.gave;
+        stops = (omega (arith, few, t.count_is), e.0 ∙ sym t.offset_is, e.1, e.2);
+        took = t.took;
+      }
   ends end.SourceFault e =
       let t = stays e.1 e.2 in
-      record { arrivals = t.arrivals; whole = t.whole; served = t.served; behind = left; gave = t.gave; stops = (omega (arith, few, t.count_is), e.0); took = t.took }
+      record {
+        arrivals = t.arrivals;
+        whole = t.whole;
+        served = t.served;
+        behind = left;
+        gave = t.gave;
+        stops = (omega (arith, few, t.count_is), e.0);
+        took = t.took;
+      }
   ends end.SinkFault e =
       let h = s.arrivals in
       let P : List ℕ → Type 0 = λ xs. Gave left0 left' xs in
@@ -304,6 +328,7 @@ module _ {K : Type 0} (held : K → Option (List ℕ)) (faults : K → ℕ) wher
       subst P (sym is) (λ first. record {
         fates = here.fates;
         meets = here.meets;
-        took = takes_on (Writes fixed) (λ result a b c xs ys one two. sink_more fixed result _ _ _ _ _ _ xs ys one two) (λ e a b xs ys one. sink_over fixed e _ _ _ _ xs ys one)
+        took = takes_on (Writes fixed) (λ result a b c xs ys one two. sink_more fixed result _ _ _ _ _ _ xs ys one two)
+            (λ e a b xs ys one. sink_over fixed e _ _ _ _ xs ys one)
             given result a b c (noted fixed f) (replies_of here.fates) first here.took;
       }) one

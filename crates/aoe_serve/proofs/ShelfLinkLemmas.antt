@@ -20,7 +20,8 @@ on_ok (Err e) i p = absurd (let no : false ≡ true → ⊥ = λ q. (cc) in no i
 
 pub lost : {X : Type 0} (held : List X) (f : X → List ℕ) (frame : List ℕ) → length held ≡ 64 → map f held ≡ with_room (map f held ++ frame ∷ [])
 lost held f frame full =
-    sym (take-append-le 64 (map f held) (frame ∷ []) (omega (arith, full, length-map held f)) ∙ take_all 64 (map f held) (omega (arith, full, length-map held f)))
+    sym (take-append-le 64 (map f held) (frame ∷ []) (omega (arith, full, length-map held f))
+    ∙ take_all 64 (map f held) (omega (arith, full, length-map held f)))
 
 pub kept : {X : Type 0} (held : List X) (f : X → List ℕ) (a : X) → length held < 64 → map f (held ++ a ∷ []) ≡ with_room (map f held ++ f a ∷ [])
 kept held f a few =

@@ -90,7 +90,8 @@ module _ {S D : Type 0} (lasts : Bool) (store : S → DiskState) (keep : D → D
     count = length-map new (slot_of lasts store keep) ∙ ap length c.others ∙ length-set old slot c.after ∙ sym (length-map old (slot_of lasts store keep));
     meets = λ a b ea eb.
         let first : slot_of lasts store keep c.before ≡ a =
-        same_Some (slot_of lasts store keep c.before) a (sym (slice_get-map (slot_of lasts store keep) old slot ∙ ap (option_map (slot_of lasts store keep)) c.found) ∙ ea) in
+        same_Some (slot_of lasts store keep c.before) a
+        (sym (slice_get-map (slot_of lasts store keep) old slot ∙ ap (option_map (slot_of lasts store keep)) c.found) ∙ ea) in
         let there : slice_get new slot ≡ Some c.after =
         ap (λ (l : List (Mounted S D)). slice_get l slot) c.others ∙ get_set_same old slot c.after (slice_get_within old slot c.before c.found) in
         let also : slice_get new slot ≡ Some d.after =
@@ -98,7 +99,8 @@ module _ {S D : Type 0} (lasts : Bool) (store : S → DiskState) (keep : D → D
         let firm : TurnsFirm lasts store h out c.after =
         subst (λ (x : Mounted S D). TurnsFirm lasts store h out x) (same_Some d.after c.after (sym also ∙ there)) d.change in
         let second : slot_of lasts store keep c.after ≡ b =
-        same_Some (slot_of lasts store keep c.after) b (sym (slice_get-map (slot_of lasts store keep) new slot ∙ ap (option_map (slot_of lasts store keep)) there) ∙ eb) in
+        same_Some (slot_of lasts store keep c.after) b
+        (sym (slice_get-map (slot_of lasts store keep) new slot ∙ ap (option_map (slot_of lasts store keep)) there) ∙ eb) in
         subst (λ (x : Slot). Meets x b f (fate_of h out)) first
         (subst (λ (x : Slot). Meets (slot_of lasts store keep c.before) x f (fate_of h out)) second (meets_from c.before c.after c.change firm));
     others = λ i other.

@@ -43,7 +43,11 @@ devices-unsent ports life now cs n (d ∷ ds) (suc k) inside =
 -- what the setup says of a device, by the history and by what the host keeps
 pub about-after : (s : Setup) (host : HostSetup) (h : List Entry) (n : ℕ) → about (slice_get (host_after s host h).devices n) ≡ slice_get host.devices n
 about-after s host h n =
-    rw (← slice_get-map (λ (d : Device). d.about) (host_after s host h).devices n, abouts-of host.ports s.life.requests.0 (clock h) 0 (commands_of host h) host.devices)
+    rw (
+      ← slice_get-map (λ (d : Device). d.about) (host_after s host h).devices n,
+      abouts-of host.ports s.life.requests.0 (clock h) 0
+          (commands_of host h) host.devices,
+    )
 
 pub about-kept : (s : Setup) (host : HostSetup) (x : SimHost) (n : ℕ) → IsHost s host x → about (slice_get x.core.devices n) ≡ slice_get host.devices n
 about-kept s host x n is = rw (← slice_get-map (λ (d : Device). d.about) x.core.devices n, is.devices)

@@ -25,7 +25,8 @@ pub record Leaves (host : HostSetup) (h n : List Entry) : Type 0 where
 -- ---- frames that can be handed over
 
 -- a frame more leaves those that are there
-arrives-later : (h n : List Entry) (g : SentFrame) → frames n ≡ g ∷ frames h → clock n ≡ clock h → (life : Lifetimes) (k : ℕ) (f : List ℕ) → arriving life h k ≡ Some f
+arrives-later : (h n : List Entry) (g : SentFrame) → frames n ≡ g ∷ frames h → clock n ≡ clock h → (life : Lifetimes) (k : ℕ) (f : List ℕ)
+    → arriving life h k ≡ Some f
     → arriving life n k ≡ Some f
 arrives-later h n g more time life k f e =
     let x = some-then (fresh_bytes (network life h) (clock h)) (numbered (frames h) k) f e in

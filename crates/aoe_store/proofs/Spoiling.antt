@@ -15,7 +15,8 @@ pub spoils_kept : (at n : ℕ) (old new : Contents) (sectors : ℕ) → HasShape
 spoils_kept at n old new sectors shape range spoils s kept = elim (cases_lt s at) [
   | inl below ↦ outside (inl below)
   | inr past ↦ elim (cases_lt s (at + n / 512)) [
-    | inl inside ↦ absurd (both_ways (is_loose (with_marks old.loose at (n / 512)) s) unmarked (is_loose-with_marks_inside old.loose at (n / 512) fits s past inside))
+    | inl inside ↦ absurd (both_ways (is_loose (with_marks old.loose at (n / 512)) s) unmarked
+        (is_loose-with_marks_inside old.loose at (n / 512) fits s past inside))
     | inr above ↦ outside (inr above)
   ]
 ]

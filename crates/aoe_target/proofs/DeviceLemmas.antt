@@ -58,7 +58,8 @@ module _ (d d' : Device) (k : State) (h : Holds d k) (store : d'.store ≡ d.sto
   }
   edited effect.EditFault next kept = record {
     lists = kept.0 ∙ h.lists;
-    crash = finds_told (λ l. (l ≡ d.lists) ⊎ ((l ≡ next) ⊎ MayStand k l)) (MayStand (after_edit next effect.EditFault k)) (λ l. offered d.lists next k l h.lists) d'.keep.contents
+    crash = finds_told (λ l. (l ≡ d.lists) ⊎ ((l ≡ next) ⊎ MayStand k l)) (MayStand (after_edit next effect.EditFault k))
+        (λ l. offered d.lists next k l h.lists) d'.keep.contents
         (finds_offered (MayStand k) d.lists next d.keep d'.keep h.crash kept.1);
     sectors = sectors;
   }

@@ -186,7 +186,8 @@ tells_less : (span : Span) (bytes : List ℕ) (x y : Option Sectors) → BothTel
 tells_less span bytes None None ab told = tt
 tells_less span bytes None (Some b) ab told = absurd ab
 tells_less span bytes (Some a) None ab told = absurd ab
-tells_less span bytes (Some a) (Some b) ab told = λ i low. value (a.known (span.at + i)) (b.known (span.at + i)) (sector bytes i) (ab.known (span.at + i)) (told i low)
+tells_less span bytes (Some a) (Some b) ab told = λ i low. value (a.known (span.at + i)) (b.known (span.at + i)) (sector bytes i) (ab.known (span.at + i))
+    (told i low)
   where
     value : (x y : Option (List ℕ)) (w : List ℕ) → IfSome y (λ v. x ≡ Some v) → IfSome x (λ v. w ≡ v) → IfSome y (λ v. w ≡ v)
     value x None w g t = tt

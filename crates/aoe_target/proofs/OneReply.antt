@@ -104,7 +104,8 @@ ata-apart station h args o p other e =
     let m : ℕ = 60 - length (reply_head station h None ++ b) in
     other (ap (λ (l : List ℕ). slice_index l 3) (head-cut (reply_head station h None) a b (replicate n 0) (replicate m 0) e))
 
-pub data-apart : (station : Station) (h : Header) (args : AtaArgs) (bytes : List ℕ) → data_reply station h args bytes ≡ ata_reply station h args Uncorrectable → ⊥
+pub data-apart : (station : Station) (h : Header) (args : AtaArgs) (bytes : List ℕ) → data_reply station h args bytes ≡ ata_reply station h args Uncorrectable
+    → ⊥
 unfolding spelled
 data-apart station h args bytes e =
     let a : List ℕ = args_bytes (reply_of args Done) ++ bytes in
@@ -115,7 +116,8 @@ data-apart station h args bytes e =
     apart 64 65 (omega arith) (ap (λ (l : List ℕ). slice_index l 3) both)
 
 -- by the error flag
-pub edit-apart : (station : Station) (h : Header) (error : AoeError) (args other : List ℕ) → spelled station h None args ≡ spelled station h (Some error) other → ⊥
+pub edit-apart : (station : Station) (h : Header) (error : AoeError) (args other : List ℕ) → spelled station h None args ≡ spelled station h (Some error) other
+    → ⊥
 unfolding spelled
 edit-apart station h error args other e =
     let n : ℕ = 60 - length (reply_head station h None ++ args) in
@@ -126,7 +128,8 @@ edit-apart station h error args other e =
         → ((((((p ++ (136 ∷ 162 ∷ [])) ++ (f ∷ x)) ++ m) ++ n) ++ g) ++ a) ++ z ≡ ((((((p ++ (136 ∷ 162 ∷ [])) ++ (v ∷ y)) ++ m) ++ n) ++ g) ++ b) ++ w
         → f ≡ v
     flagged p m n g x y f v a b z w e =
-        let whole : (l c r : List ℕ) → ((((((p ++ (136 ∷ 162 ∷ [])) ++ l) ++ m) ++ n) ++ g) ++ c) ++ r ≡ p ++ (136 ∷ 162 ∷ (l ++ (m ++ (n ++ (g ++ (c ++ r)))))) =
+        let whole : (l c r : List ℕ) → ((((((p ++ (136 ∷ 162 ∷ [])) ++ l) ++ m) ++ n) ++ g) ++ c) ++ r ≡ p ++
+        (136 ∷ 162 ∷ (l ++ (m ++ (n ++ (g ++ (c ++ r)))))) =
         λ (l c r : List ℕ). simp append_assoc in
         let one : List ℕ = 136 ∷ 162 ∷ ((f ∷ x) ++ (m ++ (n ++ (g ++ (a ++ z))))) in
         let two : List ℕ = 136 ∷ 162 ∷ ((v ∷ y) ++ (m ++ (n ++ (g ++ (b ++ w))))) in

@@ -48,7 +48,8 @@ pub judged_is : (station : Station) {lists told : Settings} (f : List ℕ) {h : 
 unfolding verdict
 judged_is station {lists} f {h} {args} v there header rest same e =
     ap (λ (t : Bool). cond t (judged station lists (fields f) (drop 24 f)) Ignored) (sym there)
-    ∙ sym (e ∙ ap (λ (l : Settings). judged station l h args) same ∙ ap (λ (x : Header). judged station lists x args) header ∙ ap (λ (a : List ℕ). judged station lists (fields f) a) rest)
+    ∙ sym (e ∙ ap (λ (l : Settings). judged station l h args) same ∙ ap (λ (x : Header). judged station lists x args) header
+    ∙ ap (λ (a : List ℕ). judged station lists (fields f) a) rest)
 
 module _ (station : Station) (d d' : Device) (k : State) (f : List ℕ) (h : Holds d k) where
   -- a step by its verdict
@@ -73,7 +74,8 @@ module _ (station : Station) (d d' : Device) (k : State) (f : List ℕ) (h : Hol
       → IsStep station k f (replied effect.None out) d'
   refused_step header error out e header_is out_is same =
       step_by (replied effect.None out) (Refused error) e
-      (ap (replied effect.None) (out_is ∙ ap (λ (x : Header). spelled station x (Some error) (repeated f)) header_is)) (subst (λ (x : Device). Holds x k) same h)
+      (ap (replied effect.None) (out_is ∙ ap (λ (x : Header). spelled station x (Some error) (repeated f)) header_is))
+      (subst (λ (x : Device). Holds x k) same h)
 
   -- the answer of the lists
   pub lists_step : (command : ListCommand) (r : Heard) (out : List ℕ) → verdict station d.lists f ≡ Lists command
@@ -82,7 +84,8 @@ module _ (station : Station) (d d' : Device) (k : State) (f : List ℕ) (h : Hol
   lists_step command r out e allowed kept store =
       step_by (fate_of r out) (Lists command) e
       (subst (λ (l : Settings). AllowsStep station f (step_of station l f command) (fate_of r out)) h.lists allowed)
-      (subst (λ (l : Settings). Holds d' (after_step (step_of station l f command) (fate_of r out) k)) h.lists (stepped d d' k h store (step_of station d.lists f command) r out kept))
+      (subst (λ (l : Settings). Holds d' (after_step (step_of station l f command) (fate_of r out) k)) h.lists
+      (stepped d d' k h store (step_of station d.lists f command) r out kept))
 
   -- an ATA command
   pub ata_step : (header : Header) (a : AtaDecision) (e : Effect) (out : List ℕ) → verdict station d.lists f ≡ Ata a → header ≡ fields f
@@ -98,7 +101,8 @@ module _ (station : Station) (d d' : Device) (k : State) (f : List ℕ) (h : Hol
       (record {
         lists = lists ∙ h.lists;
         crash = subst (λ (x : DiskState). IfSome x.contents (Finds (MayStand k))) (sym keep) h.crash;
-        sectors = both_then (option_map sectors_of d'.store.contents) (option_map (after_ata f a.answer (replied e out)) known) (option_map (after_ata f a.answer (replied e out)) k.sectors)
+        sectors = both_then (option_map sectors_of d'.store.contents) (option_map (after_ata f a.answer (replied e out)) known)
+            (option_map (after_ata f a.answer (replied e out)) k.sectors)
             leaves (both_ata (replied e out) f a.answer station (fields f) a.args known k.sectors allows h.sectors);
       })
 

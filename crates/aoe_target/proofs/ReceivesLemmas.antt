@@ -45,7 +45,8 @@ is_rest (Lists command) = false
 is_rest (Ata decision) = false
 
 -- a frame by which no call is made, and what became of it
-pub record Rests {S D : Type 0} (store : S → DiskState) (keep : D → DiskState) (t : Mounted S D) (f : List ℕ) (h : Heard) (out : List ℕ) (w : Verdict) : Type 0 where
+pub record Rests {S D : Type 0} (store : S → DiskState) (keep : D → DiskState) (t : Mounted S D) (f : List ℕ) (h : Heard) (out : List ℕ)
+    (w : Verdict) : Type 0 where
   pub by : verdict t.station t.keep.lists f ≡ w
   pub rest : is_rest w ≡ true
   pub no_fault : is_faulty h ≡ false

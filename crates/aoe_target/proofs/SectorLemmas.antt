@@ -108,7 +108,8 @@ spoil_same span n old new sectors size some end shape told may =
     let exact : Spoils span.at n old new = may.exact told in
     let touch : Touches span.at (n / 512) old new = may_spoil_touch span.at n old new sectors (is_range span.at n span.count sectors size some end) may in
     record {
-      known = λ s. by_span span s (λ t. Some (sector new.bytes s) ≡ cond t (left_by_fault (is_some old.settled) (s == span.at) (Some (sector old.bytes s))) (Some (sector old.bytes s)))
+      known = λ s. by_span span s (λ t. Some (sector new.bytes s) ≡ cond t (left_by_fault (is_some old.settled) (s == span.at) (Some (sector old.bytes s)))
+          (Some (sector old.bytes s)))
           (λ low high.
           let P : Bool → Type 0 = λ t. Some (sector new.bytes s) ≡ left_by_fault t (s == span.at) (Some (sector old.bytes s)) in
           subst P (sym told) (first span old new s (omega (arith, shape.bytes)) (exact.exact told)))
@@ -126,18 +127,21 @@ spoil_same span n old new sectors size some end shape told may =
           let yes : (s == span.at) ≡ true = grind (arith, nat_tests) in
           let P : Bool → Type 0 = λ t. Some (sector new.bytes s) ≡ left_by_fault true t (Some (sector old.bytes s)) in
           let Q : ℕ → Type 0 = λ i. sector (with_piece old.bytes (512 * span.at) spoiled_sector) i ≡ spoiled_sector in
-          subst P (sym yes) (ap Some (ap (λ (l : List ℕ). sector l s) e ∙ subst Q (sym here) (sector-with_sector old.bytes spoiled_sector span.at length-spoiled_sector fits)))
+          subst P (sym yes) (ap Some (ap (λ (l : List ℕ). sector l s) e
+          ∙ subst Q (sym here) (sector-with_sector old.bytes spoiled_sector span.at length-spoiled_sector fits)))
       | inr other ↦
           let no : (s == span.at) ≡ false = grind (arith, nat_tests) in
           let P : Bool → Type 0 = λ t. Some (sector new.bytes s) ≡ left_by_fault true t (Some (sector old.bytes s)) in
-          subst P (sym no) (ap Some (ap (λ (l : List ℕ). sector l s) e ∙ sector-with_sector_other old.bytes spoiled_sector span.at s length-spoiled_sector fits other))
+          subst P (sym no) (ap Some (ap (λ (l : List ℕ). sector l s) e
+          ∙ sector-with_sector_other old.bytes spoiled_sector span.at s length-spoiled_sector fits other))
     ]
 
 -- a write that failed, where it isn't known what that leaves
 pub lose_agrees : (span : Span) (n : ℕ) (old new : Contents) → n ≡ 512 * span.count → is_some old.settled ≡ false → Touches span.at (n / 512) old new
     → Agrees (sectors_of new) (spoils span (sectors_of old))
 lose_agrees span n old new size untold touch = record {
-  known = λ s. by_span span s (λ t. IfSome (cond t (left_by_fault (is_some old.settled) (s == span.at) (Some (sector old.bytes s))) (Some (sector old.bytes s))) (λ v. Some (sector new.bytes s) ≡ Some v))
+  known = λ s. by_span span s (λ t. IfSome (cond t (left_by_fault (is_some old.settled) (s == span.at) (Some (sector old.bytes s))) (Some (sector old.bytes s)))
+      (λ v. Some (sector new.bytes s) ≡ Some v))
       (λ low high.
       let P : Bool → Type 0 = λ t. IfSome (left_by_fault t (s == span.at) (Some (sector old.bytes s))) (λ v. Some (sector new.bytes s) ≡ Some v) in
       subst P (sym untold) (unknown (s == span.at) s))
@@ -176,7 +180,8 @@ pub lasting_agrees : (span : Span) (piece : List ℕ) (old new : Contents) (sect
 lasting_agrees span piece old new sectors size end shape put =
     let m : length piece / 512 ≡ span.count = omega (arith, size) in
     record {
-      known = λ s. known_same (Some (sector new.bytes s)) ((puts span piece (sectors_of old)).known s) (put_known span piece old new sectors size end shape put.bytes put.touches s);
+      known = λ s. known_same (Some (sector new.bytes s)) ((puts span piece (sectors_of old)).known s)
+          (put_known span piece old new sectors size end shape put.bytes put.touches s);
       marks = λ s. by_span span s (λ t. (t || is_loose old.loose s) ≡ false → is_loose new.loose s ≡ false)
           (λ low high e. absurd (no_truth e))
           (λ out e. let Q : ℕ → Type 0 = λ k. IsOutside span.at k s in put.touches.kept s (subst Q (sym m) out) e);

@@ -412,14 +412,16 @@ module _ (w : Bool) (at : ℕ) (P : List Part) (m : ℕ) where
         kept = x.kept;
         operations_are = same;
         asked = sym front ∙ ap (numbered (m + 1)) (sym same);
-        came = successes-come w each (λ writes. come-alone dead at_time log gave_up gave (outcomes rounds) _ outcome.Flushed (λ first last is. cc) (over.flushed writes));
+        came = successes-come w each (λ writes. come-alone dead at_time log gave_up gave (outcomes rounds) _ outcome.Flushed (λ first last is. cc)
+            (over.flushed writes));
       }
     where
       successes-come : (b : Bool) → HaveCome (outcomes rounds) (m + 1) (map (success_of b) c.block.parts)
           → (b ≡ true → Contains (outcomes rounds) (record { ticket = record { 0 = m + length c.block.parts + 1 }; outcome = outcome.Flushed }))
           → HaveCome (outcomes rounds) (m + 1) (successes b c.block.parts)
       successes-come true each flushed =
-          let long : m + length c.block.parts + 1 ≡ m + 1 + length (map (success_of true) c.block.parts) = omega (arith, length-map c.block.parts (success_of true)) in
+          let long : m + length c.block.parts + 1 ≡ m + 1 + length (map (success_of true) c.block.parts) =
+          omega (arith, length-map c.block.parts (success_of true)) in
           have-append (outcomes rounds) (m + 1) (map (success_of true) c.block.parts) (outcome.Flushed ∷ []) each (rw long at (flushed refl), tt)
       successes-come false each flushed = each
 
@@ -466,7 +468,8 @@ abbrev Asked : List Round → Course → Type 0
 Asked rounds c = (flush : Ticket) → c.phase ≡ phase.Flushing flush → FollowsWrites c.block.parts rounds
 
 -- A transfer of these parts, and of what is to be read behind them.
-module _ (w : Bool) (at max count : ℕ) (P : List Part) (k : Check) (checks : (reads : Transfer) → k ≡ check.Ahead reads → IsCut at max (replicate (512 * count) 0) reads.parts × (reads.write ≡ false)) where
+module _ (w : Bool) (at max count : ℕ) (P : List Part) (k : Check)
+    (checks : (reads : Transfer) → k ≡ check.Ahead reads → IsCut at max (replicate (512 * count) 0) reads.parts × (reads.write ≡ false)) where
   -- what was written is read again: the turns fall in two
   pub record Checking (rounds : List Round) (D : List Done) (c : Course) : Type 0 where
     pub reads : Transfer
@@ -515,7 +518,11 @@ module _ (w : Bool) (at max count : ℕ) (P : List Part) (k : Check) (checks : (
     done-stands : (d : Done) (c : Course) → Contains all d → Stands rounds all c → Stands rounds all (after_done d c)
     done-stands d c there (inl x) = by-done (Stands rounds all) d c
         (λ is. inl (record { check_is = x.check_is; so = more w at P 0 g (part-so w at P 0 d x.so is); asked = λ flush e. absurd (let not_so = is in cc) }))
-        (λ is whole flushes. inl (record { check_is = x.check_is; so = more w at P 0 g (whole-so w at P 0 d x.so is whole flushes); asked = λ flush e. absurd cc }))
+        (λ is whole flushes. inl (record {
+          check_is = x.check_is;
+          so = more w at P 0 g (whole-so w at P 0 d x.so is whole flushes);
+          asked = λ flush e. absurd cc;
+        }))
         (inl (record { check_is = x.check_is; so = more w at P 0 g (less-so w at P 0 d x.so); asked = x.asked }))
         (λ flush reads is acknowledged ahead.
         let was : k ≡ check.Ahead reads = sym x.check_is ∙ ahead in
@@ -659,7 +666,8 @@ module _ (w : Bool) (at max count : ℕ) (P : List Part) (k : Check) (checks : (
             }
         by _ is next y z = λ flush e. absurd cc
 
-    asked-turn : (r : Round) (c : Course) (submits : List Submission) → r.submits ≡ submits → AreNext (length (submissions rounds)) c submits → IsSo w at P 0 (submissions rounds) all c → Asked rounds c
+    asked-turn : (r : Round) (c : Course) (submits : List Submission) → r.submits ≡ submits → AreNext (length (submissions rounds)) c submits
+        → IsSo w at P 0 (submissions rounds) all c → Asked rounds c
         → Asked (r ∷ rounds) (submitted c submits)
     asked-turn r c [] same next x asked = λ flush e.
         let y = asked flush e in
@@ -696,7 +704,8 @@ module _ (w : Bool) (at max count : ℕ) (P : List Part) (k : Check) (checks : (
           order = ap (λ rs. r ∷ rs) x.order;
           run = x.run;
           follows = x.follows;
-          so = more false at x.reads.parts m (more-came (told_by r.heard) all) (submits-so false at x.reads.parts m (length (submissions rounds)) c r.submits long next x.so);
+          so = more false at x.reads.parts m (more-came (told_by r.heard) all)
+              (submits-so false at x.reads.parts m (length (submissions rounds)) c r.submits long next x.so);
         })
 
   rounds-stand : (base : Host) (turns : ℕ) (start : Course) (rounds : List Round) → Stands [] [] start → AreRounds base turns start rounds
@@ -859,7 +868,8 @@ module _ {d : Device} {start : Course} {range : Range} (fresh : IsFresh range d 
         ops : List Op
         ops = all_operations range.writes start.block.parts
 
-        by : StandsFresh rounds (outcomes rounds) (course_of ask.turns start rounds) → IsFront (reverse (submissions rounds)) (numbered 1 (with_check start.check ops))
+        by : StandsFresh rounds (outcomes rounds) (course_of ask.turns start rounds)
+            → IsFront (reverse (submissions rounds)) (numbered 1 (with_check start.check ops))
         by (inl y) = with-front start.check ops (reverse (submissions rounds)) (_, y.so.front)
         by (inr y) =
             let again = map (op_of false) y.reads.parts in
@@ -875,8 +885,11 @@ module _ {d : Device} {start : Course} {range : Range} (fresh : IsFresh range d 
             ap (λ (l : List Round). reverse (submissions l)) y.order
             ∙ ap (λ (l : List Submission). reverse l) (submissions-append y.later y.earlier)
             ∙ reverse-append (submissions y.later) (submissions y.earlier) in
-            again-front start.check y.reads y.was ops (reverse (submissions rounds))
-            (rest, all ∙ sym (append_assoc (reverse (submissions y.earlier)) (reverse (submissions y.later)) rest) ∙ ap (λ (l : List Submission). l ++ rest) (sym both))
+            again-front start.check y.reads y.was ops (reverse (submissions rounds)) (
+              rest,
+              all ∙ sym (append_assoc (reverse (submissions y.earlier)) (reverse (submissions y.later)) rest)
+                  ∙ ap (λ (l : List Submission). l ++ rest) (sym both),
+            )
 
     ended : {c : Course} → (x : RunsAll (Ok c) ask id d start before after answers answers')
         → EndsAs range.writes range.at d.max range.count start.block.parts start.check checks x.runs.rounds

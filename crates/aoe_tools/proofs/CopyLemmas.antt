@@ -103,7 +103,8 @@ module _ {ask : Ask} {id : TargetId} {range : Range} {least : ℕ} (first : ℕ)
     copies = at;
   }
 
-pub ran-at : {ask : Ask} {id : TargetId} {range : Range} {mid after : LinkState} {later answers' : Option (List ℕ)} {d : Device} {result : Result Course ToolRefusal} {start : Course} → IsFresh range d start
+pub ran-at : {ask : Ask} {id : TargetId} {range : Range} {mid after : LinkState} {later answers' : Option (List ℕ)} {d : Device}
+    {result : Result Course ToolRefusal} {start : Course} → IsFresh range d start
     → MayRun result ask id d start mid after later answers' → CopiesAt (Ok d) result ask id range mid after later answers'
 ran-at {start = start} fresh runs = elim runs [ inl x ↦ inl (tool.NoMemory, x.0, inr (fresh.within, refl), x.1) | inr x ↦ inr (start, fresh, x) ]
 

@@ -173,7 +173,8 @@ pub up-to-dones : (last turns : ℕ) (c : Course) (dones : List Done)
 up-to-dones last turns c dones law up behind =
     let P : Course → Type 0 = λ x. AreUpTo last x.block.parts × IsBehind last x.check in
     dones-keep P
-    (λ d x p. by-done P d x (λ is. (law last x.block d p.0, p.1)) (λ is whole flushes. (law last x.block d p.0, p.1)) p (λ flush reads is acknowledged ahead. (rw ahead at p.1, tt)))
+    (λ d x p. by-done P d x (λ is. (law last x.block d p.0, p.1)) (λ is whole flushes. (law last x.block d p.0, p.1)) p
+    (λ flush reads is acknowledged ahead. (rw ahead at p.1, tt)))
     turns c dones (up, behind)
 
 -- and as many commands are the most

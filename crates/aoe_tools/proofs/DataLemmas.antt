@@ -172,7 +172,8 @@ so-fresh w n D k at (p ∷ parts) past adjacent whole pending = (
   adjacent.0,
   All-head IsWhole p parts whole,
   rw (All-head (λ p. p.stage ≡ Pending) p parts pending) past,
-  so-fresh w n D (k + 1) (at + p.count) parts (omega (arith, past)) adjacent.1 (All-tail IsWhole p parts whole) (All-tail (λ p. p.stage ≡ Pending) p parts pending),
+  so-fresh w n D (k + 1) (at + p.count) parts (omega (arith, past)) adjacent.1 (All-tail IsWhole p parts whole)
+      (All-tail (λ p. p.stage ≡ Pending) p parts pending),
 )
 
 -- a part under way has its bytes and sectors

@@ -34,7 +34,8 @@ asked-then request from k (suc n) (suc m) e =
     rw (same, asked-then request from k n m before, append_assoc)
 
 -- so many turns have passed, and these devices have answered
-pub record Finds (q : Question) (request : List ℕ) (now : ℕ) (found : List Seen) (start turned' : ℕ) (given given' : Option (List Turn)) (taken taken' : Option Frames) : Type 0 where
+pub record Finds (q : Question) (request : List ℕ) (now : ℕ) (found : List Seen) (start turned' : ℕ) (given given' : Option (List Turn))
+    (taken taken' : Option Frames) : Type 0 where
   pub turns : List Turn
   pub turned : Turned start turned' given given' turns
   pub passed : now ≡ length turns

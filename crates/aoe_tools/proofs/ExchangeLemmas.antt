@@ -17,7 +17,13 @@ use Rattle.aoe_tools.specs.TransferRun.{after_frames, after_submits, told_by, Ha
 use Rattle.aoe_tools.specs.TransferSteps.{is_heard, Broken, Exchanged, HearsOne, IsHeld, SendsSome, SubmitsSome}
 
 fit-held : {host host' : Host} {c : Course} → IsHeld host host' → IsFit host c → IsFit host' c
-fit-held {host} {host'} held fit = record { attached = as-many host host' held.same ∙ fit.attached; few = rw held.last fit.few; tickets = rw held.last fit.tickets; behind = rw held.last fit.behind }
+fit-held {host} {host'} held fit =
+    record {
+      attached = as-many host host' held.same ∙ fit.attached;
+      few = rw held.last fit.few;
+      tickets = rw held.last fit.tickets;
+      behind = rw held.last fit.behind;
+    }
 
 heard-some : (heard : Option Heard) → is_heard heard ≡ true → (h : Heard) × (heard ≡ Some h)
 heard-some None e = absurd cc

@@ -53,7 +53,8 @@ pub ports-are : (entries : List Entry) (id : TargetId) {list : List Seen} {o : O
     → ports ≡ unless_there o → ports ≡ ports_in list id
 ports-are entries id named view found is = is ∙ ap unless_there found ∙ rw view at (ports-found entries id named)
 
-pub noted-is : (entries : List Entry) {entries' : List Entry} {list : List Seen} (id : TargetId) (port : Mac) (args : ArrayVec ℕ) {before ports : ArrayVec Mac} → AreNamed entries
+pub noted-is : (entries : List Entry) {entries' : List Entry} {list : List Seen} (id : TargetId) (port : Mac) (args : ArrayVec ℕ) {before ports : ArrayVec Mac}
+    → AreNamed entries
     → devices entries ≡ list
     → before.items ≡ ports_in list id → ports.items ≡ with_port before.items port → entries' ≡ insert_entry same_id entries id (seen id ports.items args)
     → devices entries' ≡ noted list id port args

@@ -10,7 +10,8 @@ use Rattle.aoe_initiator.specs.Response.{outcome_of}
 use Rattle.aoe_io.specs.Link.{Turn, Turned, came}
 use Rattle.aoe_tools.specs.TransferSteps.{HearsOne}
 
-module _ {host host' : Host} {start turned' : ℕ} {given given' : Option (List Turn)} (frame : List ℕ) (turned : Turned start turned' given given' (came frame ∷ []))
+module _ {host host' : Host} {start turned' : ℕ} {given given' : Option (List Turn)} (frame : List ℕ)
+    (turned : Turned start turned' given given' (came frame ∷ []))
     (held : IsSame host host' × (host'.clock ≡ host.clock) × (host'.last_ticket ≡ host.last_ticket))
     (no_tag : host'.flight.last_tag ≡ host.flight.last_tag) where
   pub hears-answer : {ticket : Ticket} → ((log : List Event) → Matches log host → Takes host frame log (Finished ticket) host')

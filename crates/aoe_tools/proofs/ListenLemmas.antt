@@ -17,7 +17,8 @@ added-nothing None = refl
 added-nothing (Some l) = refl
 
 -- so far no turn brought a response that counts
-pub record SoFar (q : Question) (request : List ℕ) (from now start turned' : ℕ) (given given' : Option (List Turn)) (taken taken' : Option Frames) : Type 0 where
+pub record SoFar (q : Question) (request : List ℕ) (from now start turned' : ℕ) (given given' : Option (List Turn))
+    (taken taken' : Option Frames) : Type 0 where
   pub turns : List Turn
   pub turned : Turned start turned' given given' turns
   pub passed : now ≡ from + length turns

@@ -172,6 +172,7 @@ once-rounds base turns start (r ∷ rounds) are =
     omega (arith, length-append r.submits (submissions rounds)) in
     rw (← many) heard
 
-pub once-law : {ask : Ask} {id : TargetId} {d : Device} {start : Course} {result : Result Course ToolRefusal} {before after : LinkState} {answers answers' : Option (List ℕ)}
+pub once-law : {ask : Ask} {id : TargetId} {d : Device} {start : Course} {result : Result Course ToolRefusal} {before after : LinkState}
+    {answers answers' : Option (List ℕ)}
     → (x : RunsAll result ask id d start before after answers answers') → AreOfDistinct (outcomes x.runs.rounds)
 once-law {ask} {id} {d} {start} x = (once-rounds (host_of ask.port id d) ask.turns start x.runs.rounds x.runs.are).once

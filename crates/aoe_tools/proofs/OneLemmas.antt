@@ -26,7 +26,8 @@ went-on q limit (t ∷ turns) silent within =
     silent-before (Some r) e = absurd cc
 
 -- what a request heard until it ended: these responses, of which there is one at most
-pub record Heard (q : Question) (request : List ℕ) (limit start last : ℕ) (given given' : Option (List Turn)) (taken taken' : Option Frames) (came : List Response) : Type 0 where
+pub record Heard (q : Question) (request : List ℕ) (limit start last : ℕ) (given given' : Option (List Turn)) (taken taken' : Option Frames)
+    (came : List Response) : Type 0 where
   pub turns : List Turn
   pub turned : Turned start last given given' turns
   pub goes_on : GoesOn q limit turns
@@ -34,43 +35,44 @@ pub record Heard (q : Question) (request : List ℕ) (limit start last : ℕ) (g
   pub says : responses q turns ≡ came
   pub took : Added taken taken' (asked request (length turns))
 
-module _ {q : Question} {request : List ℕ} {limit now : ℕ} {frame : List ℕ} {start last : ℕ} {given given' : Option (List Turn)} {taken taken' : Option Frames} where
-  -- the link failed before it ended
-  pub not-done : {e : Failed} (l : Listens (Err e) q request limit 0 now frame start last given given' taken taken')
-      → (is_done q limit l.turns ≡ false) × GoesOn q limit l.turns
-  not-done l =
-      let below : length l.turns < limit = omega (arith, l.passed, l.waits.1) in
-      (waits-on q limit l.turns l.waits.0 below, went-on q limit l.turns l.waits.0 (omega (arith, below)))
+module _ {q : Question} {request : List ℕ} {limit now : ℕ} {frame : List ℕ} {start last : ℕ} {given given' : Option (List Turn)} {taken taken' : Option Frames}
+  where
+    -- the link failed before it ended
+    pub not-done : {e : Failed} (l : Listens (Err e) q request limit 0 now frame start last given given' taken taken')
+        → (is_done q limit l.turns ≡ false) × GoesOn q limit l.turns
+    not-done l =
+        let below : length l.turns < limit = omega (arith, l.passed, l.waits.1) in
+        (waits-on q limit l.turns l.waits.0 below, went-on q limit l.turns l.waits.0 (omega (arith, below)))
 
-  pub heard-none : Listens (Ok None) q request limit 0 now frame start last given given' taken taken'
-      → Heard q request limit start last given given' taken taken' []
-  heard-none l =
-      let all : length l.turns ≡ limit = omega (arith, l.passed, l.waits.1) in
-      record {
-        turns = l.turns;
-        turned = l.turned;
-        goes_on = went-on q limit l.turns l.waits.0 (omega (arith, all));
-        done = rw l.waits.0 (eq-eqb (length l.turns) limit all);
-        says = l.waits.0;
-        took = l.waits.2;
-      }
+    pub heard-none : Listens (Ok None) q request limit 0 now frame start last given given' taken taken'
+        → Heard q request limit start last given given' taken taken' []
+    heard-none l =
+        let all : length l.turns ≡ limit = omega (arith, l.passed, l.waits.1) in
+        record {
+          turns = l.turns;
+          turned = l.turned;
+          goes_on = went-on q limit l.turns l.waits.0 (omega (arith, all));
+          done = rw l.waits.0 (eq-eqb (length l.turns) limit all);
+          says = l.waits.0;
+          took = l.waits.2;
+        }
 
-  -- the last turn brought the response
-  pub heard-one : {r : Reply} → Listens (Ok (Some r)) q request limit 0 now frame start last given given' taken taken'
-      → Heard q request limit start last given given' taken taken' (record { reply = r; args = drop 24 frame } ∷ [])
-  heard-one {r} l = at l.turns l.turned l.passed l.waits
-    where
-      at : (turns : List Turn) → Turned start last given given' turns → now ≡ 0 + length turns
-          → Waits (Ok (Some r)) q request limit 0 now frame turns taken taken'
-          → Heard q request limit start last given given' taken taken' (record { reply = r; args = drop 24 frame } ∷ [])
-      at [] turned passed waits = absurd waits
-      at (t ∷ turns) turned passed waits =
-          let before : length turns < limit = omega (arith, passed, waits.2) in
-          record {
-            turns = t ∷ turns;
-            turned = turned;
-            goes_on = (waits-on q limit turns waits.1 before, went-on q limit turns waits.1 (omega (arith, before)));
-            done = rw (waits.0, waits.1);
-            says = rw (waits.0, waits.1);
-            took = waits.3;
-          }
+    -- the last turn brought the response
+    pub heard-one : {r : Reply} → Listens (Ok (Some r)) q request limit 0 now frame start last given given' taken taken'
+        → Heard q request limit start last given given' taken taken' (record { reply = r; args = drop 24 frame } ∷ [])
+    heard-one {r} l = at l.turns l.turned l.passed l.waits
+      where
+        at : (turns : List Turn) → Turned start last given given' turns → now ≡ 0 + length turns
+            → Waits (Ok (Some r)) q request limit 0 now frame turns taken taken'
+            → Heard q request limit start last given given' taken taken' (record { reply = r; args = drop 24 frame } ∷ [])
+        at [] turned passed waits = absurd waits
+        at (t ∷ turns) turned passed waits =
+            let before : length turns < limit = omega (arith, passed, waits.2) in
+            record {
+              turns = t ∷ turns;
+              turned = turned;
+              goes_on = (waits-on q limit turns waits.1 before, went-on q limit turns waits.1 (omega (arith, before)));
+              done = rw (waits.0, waits.1);
+              says = rw (waits.0, waits.1);
+              took = waits.3;
+            }

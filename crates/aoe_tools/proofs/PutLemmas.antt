@@ -16,14 +16,16 @@ use Rattle.aoe_tools.specs.TransferInput.{Inputs, Reads}
 use Rattle.aoe_tools.specs.TransferCopies.{put_of, CanCompare, Copies, CopiesAt, IsCheckEnd, IsFresh, PutEnds, Range, RunsAll}
 
 -- what has run to its end was begun at a device
-copied-run : {ask : Ask} {id : TargetId} {range : Range} {c : Course} {before after : LinkState} {answers answers' : Option (List ℕ)} (found : Result Device ToolRefusal)
+copied-run : {ask : Ask} {id : TargetId} {range : Range} {c : Course} {before after : LinkState} {answers answers' : Option (List ℕ)}
+    (found : Result Device ToolRefusal)
     → CopiesAt found (Ok c) ask id range before after answers answers'
     → (d : Device) × (start : Course) × IsFresh range d start × RunsAll (Ok c) ask id d start before after answers answers'
 copied-run (Err e) copies = absurd (let not_so = copies.0 in cc)
 copied-run (Ok d) (inl none) = absurd (let not_so = none.1 in cc)
 copied-run (Ok d) (inr x) = (d, x.0, x.1, x.2)
 
-module _ {ask : Ask} {id : TargetId} (verify : Bool) (at : ℕ) (bytes : List ℕ) {least : ℕ} {c : Course} {before after : LinkState} {answers answers' : Option (List ℕ)}
+module _ {ask : Ask} {id : TargetId} (verify : Bool) (at : ℕ)
+    (bytes : List ℕ) {least : ℕ} {c : Course} {before after : LinkState} {answers answers' : Option (List ℕ)}
     (copies : Copies (Ok c) ask id (put_of verify at bytes) least before after answers answers') where
   how : ((c.check ≡ check.Unasked) × (joined c.block.parts ≡ bytes))
       ⊎ ((written : Transfer) × (verify ≡ true) × (c.check ≡ check.Behind written) × (joined written.parts ≡ bytes)

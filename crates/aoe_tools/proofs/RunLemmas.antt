@@ -133,7 +133,8 @@ told-then a None (Some l) xs n first second = absurd cc
 told-then a (Some k) (Some l) xs n first second = Added-then a (Some k) (Some l) xs (n ∷ []) first second
 
 -- so many turns were taken, the latest consecutive ones of which ended no command
-pub record So (turns quiet : ℕ) (base host : Host) (start c : Course) (from turned' : ℕ) (given given' : Option (List Turn)) (taken taken' : Option Frames) (answers answers' : Option (List ℕ)) : Type 0 where
+pub record So (turns quiet : ℕ) (base host : Host) (start c : Course) (from turned' : ℕ) (given given' : Option (List Turn)) (taken taken' : Option Frames)
+    (answers answers' : Option (List ℕ)) : Type 0 where
   pub rounds : List Round
   pub running : Running base turns start rounds host c
   pub fit : IsFit host c
@@ -155,7 +156,8 @@ begun {host = host} {from = from} {given} {taken} {answers} fit m waiting none u
   quiet_is = refl;
 }
 
-module _ {turns quiet : ℕ} {base host : Host} {start c : Course} {from turned' : ℕ} {given given' : Option (List Turn)} {taken taken' : Option Frames} {answers answers' : Option (List ℕ)}
+module _ {turns quiet : ℕ} {base host : Host} {start c : Course} {from turned' : ℕ} {given given' : Option (List Turn)} {taken taken' : Option Frames}
+    {answers answers' : Option (List ℕ)}
     (s : So turns quiet base host start c from turned' given given' taken taken' answers answers') (below : quiet < turns) where
   pub below-turns : quiet_turns s.rounds < turns
   below-turns = omega (arith, s.quiet_is, below)

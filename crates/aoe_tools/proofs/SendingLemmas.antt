@@ -56,7 +56,8 @@ module _ (host host' : Host) (frame : List ℕ) where
 -- nothing more may be sent by a host that is quiet
 silent : {base start host : Host} {log : List Event} → IsSame base start → IsHeld start host → Matches log host → IsQuiet host (commands log)
     → IsSilent base log
-silent {base} {start} {host} same held m quiet = record { host = host; at = record { same = same-then base start host same held.same; time = m.time }; quiet = quiet }
+silent {base} {start} {host} same held m quiet =
+    record { host = host; at = record { same = same-then base start host same held.same; time = m.time }; quiet = quiet }
 
 module _ {n : ℕ} {start host : Host} {before mid : Option Frames} (few : start.last_ticket ≤ 65537) (s : Sending n start host before mid) where
   next-held : {host' : Host} → IsHeld host host' → IsHeld start host'

@@ -177,12 +177,21 @@ module _ (host : Host) (log : List Event) (m : Matches log host) (tags : HasTags
           let own : (0 < from.1.s.tag) × (from.1.s.tag ≤ host.flight.last_tag) = rw from.1.sends at has in
           let same : from.1.s.tag ≡ sent.tag = ap (λ (o : Outstanding). o.flying.tag) (sym from.1.is) ∙ r.tag in
           let some : 0 < sent.tag = omega (arith, own.0, same) in
-          let within : sent.tag ≤ host.flight.last_tag = omega (arith, own.1, same) in
-          (some, omega (arith, within, few-tags, below), rw gives (tags-again sent.ticket sent.tag (record { 0 = clock log }) sent.path timeouts (commands log) some within tags))
+          let within : sent.tag ≤ host.flight.last_tag = omega (arith, own.1, same) in (
+            some,
+            omega (arith, within, few-tags, below),
+            rw gives
+                (tags-again sent.ticket sent.tag (record { 0 = clock log }) sent.path timeouts (commands log) some within tags),
+          )
       at false s gives =
           let c = s.command in
           let none : c.sends ≡ None =
-          stage-unsent c.sends c.done (and_parts (unsent (stage c.sends c.done)) (not (list_any (λ earlier. keeps_back host.life.requests.0 host.clock earlier (as_entered c)) (entered_at c.device.0 (commands log)))) s.clear).0 in
+          stage-unsent c.sends c.done (and_parts (unsent (stage c.sends c.done))
+          (not (list_any (λ earlier. keeps_back host.life.requests.0 host.clock earlier (as_entered c)) (entered_at c.device.0 (commands log))))
+          s.clear).0 in
           let next = next-tag sent.tag (omega (arith, few-tags, few)) gives.1 in
-          let first = tags-first sent.ticket sent.tag (record { 0 = clock log }) sent.path timeouts (commands log) c s.there s.ticket none next tags in
-          (omega (arith, next), omega (arith, first.1, below, few-commands 0 host.last_ticket (commands log) (omega arith) m.tickets m.last), rw gives.0 first.0)
+          let first = tags-first sent.ticket sent.tag (record { 0 = clock log }) sent.path timeouts (commands log) c s.there s.ticket none next tags in (
+            omega (arith, next),
+            omega (arith, first.1, below, few-commands 0 host.last_ticket (commands log) (omega arith) m.tickets m.last),
+            rw gives.0 first.0,
+          )

@@ -129,14 +129,16 @@ next-active host log sent m next = at sent.again next
     at false s =
         let c = s.command in
         let none : c.sends ≡ None =
-        stage-unsent c.sends c.done (and_parts (unsent (stage c.sends c.done)) (not (list_any (λ earlier. keeps_back host.life.requests.0 host.clock earlier (as_entered c)) (entered_at c.device.0 (commands log)))) s.clear).0 in
+        stage-unsent c.sends c.done (and_parts (unsent (stage c.sends c.done))
+        (not (list_any (λ earlier. keeps_back host.life.requests.0 host.clock earlier (as_entered c)) (entered_at c.device.0 (commands log)))) s.clear).0 in
         active-sent log sent.ticket sent.tag sent.path c s.there s.ticket (ap (active_by (clock log) c.done) none)
 
 -- where nothing is active nothing may be sent
 pub none-active : (host : Host) (log : List Event) → Matches log host → active log ≡ 0 → IsQuiet host (commands log)
 none-active host log m none = record {
   nothing_due = due (commands log) (rw (← m.time) at idle);
-  nothing_clear = inr (All-weaker (λ c. is_active (clock log) c ≡ false) (λ c. is_clear_at host.life.requests.0 host.clock (commands log) c ≡ false) unclear (commands log) idle);
+  nothing_clear = inr (All-weaker (λ c. is_active (clock log) c ≡ false) (λ c. is_clear_at host.life.requests.0 host.clock (commands log) c ≡ false) unclear
+      (commands log) idle);
 }
   where
     idle : All (λ c. is_active (clock log) c ≡ false) (commands log)
@@ -167,4 +169,9 @@ few-commands n last (c ∷ cs) within up all =
     omega (arith, up.0, few-commands c.ticket.0 last cs (All-head (λ x. x.ticket.0 ≤ last) c cs all) up.1 (All-tail (λ x. x.ticket.0 ≤ last) c cs all))
 
 pub few-active : (host : Host) (log : List Event) → Matches log host → active log ≤ host.last_ticket
-few-active host log m = omega (arith, count_by-le-length (is_active (clock log)) (commands log), few-commands 0 host.last_ticket (commands log) (omega arith) m.tickets m.last)
+few-active host log m = omega (
+  arith,
+  count_by-le-length (is_active (clock log)) (commands log),
+  few-commands 0 host.last_ticket (commands log)
+      (omega arith) m.tickets m.last,
+)

@@ -160,7 +160,8 @@ module _ {host advanced h1 : Host} {now : ℕ} (a : Advanced host advanced now) 
       -- what the second part of the turn came to, the turn came to
       pub by-exchange : (result : Result Passed ToolRefusal) (c' : Course) (h' : Host) (from turned' : ℕ) (given given' : Option (List Turn))
           (taken taken' : Option Frames) → quiet_turns rounds < turns
-          → ((base : Host) (log : List Event) → IsSame base h1 → Matches log h1 → HasTags h1.flight.last_tag (commands log) → Exchanges result base log h1.last_ticket c1 c' h' from turned' given given' taken taken')
+          → ((base : Host) (log : List Event) → IsSame base h1 → Matches log h1 → HasTags h1.flight.last_tag (commands log)
+          → Exchanges result base log h1.last_ticket c1 c' h' from turned' given given' taken taken')
           → Turns result base turns start rounds now h' c c' from turned' given given' taken taken'
       by-exchange result c' h' from turned' given given' taken taken' below ex = by result (ex base (after_tick now gave_up log) same1 matches-tick tags-tick)
         where

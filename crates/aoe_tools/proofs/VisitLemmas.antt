@@ -33,7 +33,8 @@ module _ {q : Question} {request : List ℕ} {limit start last : ℕ} {given giv
 
 -- ---- one device
 
-module _ {first : ℕ} {port : Mac} {limit i : ℕ} {found found' : List Seen} {start last : ℕ} {given given' : Option (List Turn)} {taken taken' : Option Frames} {s : Seen} {q : Question} {bytes : List ℕ}
+module _ {first : ℕ} {port : Mac} {limit i : ℕ} {found found' : List Seen} {start last : ℕ} {given given' : Option (List Turn)} {taken taken' : Option Frames}
+    {s : Seen} {q : Question} {bytes : List ℕ}
     (at : slice_get found i ≡ Some s) (q_is : q ≡ page_question first port (i + 1) s)
     (bytes_are : bytes ≡ request op.Identify s.id (first_port s.ports.items) port q.tag) where
   pub visited : {k : Known} {x : Seen} → slice_get found i ≡ Some x → found' ≡ slice_set found i (with_known x k)
@@ -87,7 +88,8 @@ length-devices [] = refl
 length-devices (v ∷ earlier) = omega (arith, length-append {A = Seen}, length-devices earlier)
 
 -- so many devices were visited
-pub record Visiting (first : ℕ) (port : Mac) (limit i : ℕ) (found now : List Seen) (start turned' : ℕ) (given given' : Option (List Turn)) (taken taken' : Option Frames) : Type 0 where
+pub record Visiting (first : ℕ) (port : Mac) (limit i : ℕ) (found now : List Seen) (start turned' : ℕ) (given given' : Option (List Turn))
+    (taken taken' : Option Frames) : Type 0 where
   pub visits : List Visit
   pub rest : List Seen
   pub turned : Turned start turned' given given' (visit_turns visits)

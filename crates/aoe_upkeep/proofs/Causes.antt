@@ -63,7 +63,11 @@ module _ {D : Type 0} (state : D → DiskState) (disk disk' : D) where
 
   small-causes : (n : ℕ) → IsRefused state disk (refusal.TooSmall n) disk' → IsCaused state (Err (stop.Keep (refusal.TooSmall n))) disk disk'
   small-causes n x = record {
-    small = λ sectors. (λ e. let same : n ≡ sectors = cc in (x.0 ∙ same, omega (arith, x.1, same)), λ s. ap (λ k. kept-out (refusal.TooSmall k)) (sym x.0 ∙ s.0));
+    small = λ sectors. (
+      λ e. let same : n ≡ sectors = cc in
+          (x.0 ∙ same, omega (arith, x.1, same)),
+      λ s. ap (λ k. kept-out (refusal.TooSmall k)) (sym x.0 ∙ s.0),
+    );
     bad = λ slot. not-bad (Err (stop.Keep (refusal.TooSmall n))) (16 ≤ (state disk).sectors) slot (state disk).contents (λ e. absurd cc)
         (few slot (state disk).contents);
     failed = λ e. absurd cc;
@@ -98,7 +102,8 @@ module _ {D : Type 0} (state : D → DiskState) (disk disk' : D) where
       read slot None is = tt
       read slot (Some c) is = (
         λ e. let same : k ≡ slot = cc in (x.0, is ∙ ap Err same, λ f. absurd cc),
-        λ b. let r : (let y : Result Settings ℕ = Err k in y) ≡ Err slot = sym is ∙ b.1 in let same : k ≡ slot = cc in ap (λ j. kept-out (refusal.BadKeep j)) same,
+        λ b. let r : (let y : Result Settings ℕ = Err k in y) ≡ Err slot = sym is ∙ b.1 in let same : k ≡ slot = cc in
+            ap (λ j. kept-out (refusal.BadKeep j)) same,
       )
 
   -- a keep that wasn't

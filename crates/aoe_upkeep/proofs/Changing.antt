@@ -35,7 +35,8 @@ holds-of before after place is_closed lists mounts finds formats stands = record
 
 -- ---- what is said of a keep
 
-pub shows-of : {D : Type 0} (state : D → DiskState) (ended : Result Unit UpkeepStop) (held held' : Option (List ℕ)) (disk disk' : D) (format : ℕ) (lists : Settings)
+pub shows-of : {D : Type 0} (state : D → DiskState) (ended : Result Unit UpkeepStop) (held held' : Option (List ℕ)) (disk disk' : D) (format : ℕ)
+    (lists : Settings)
     → Holds (state disk) (state disk') format lists → Says ended held held' (line format lists) → Shows state ended held held' disk disk'
 shows-of state (Ok done) held held' disk disk' format lists holds says = record { format = format; lists = lists; holds = holds; said = says }
 shows-of state (Err stop.SinkFault) held held' disk disk' format lists holds says = record { format = format; lists = lists; holds = holds; said = says }
@@ -43,7 +44,8 @@ shows-of state (Err stop.NoMemory) held held' disk disk' format lists holds says
 shows-of state (Err stop.Failed) held held' disk disk' format lists holds says = says
 shows-of state (Err (stop.Keep r)) held held' disk disk' format lists holds says = absurd says
 
-says-in : (ended : Result Unit UpkeepStop) (held held' : Option (List ℕ)) (text : List ℕ) → Says ended held held' text → (r : MountRefusal) → ended ≡ Err (stop.Keep r) → ⊥
+says-in : (ended : Result Unit UpkeepStop) (held held' : Option (List ℕ)) (text : List ℕ) → Says ended held held' text → (r : MountRefusal)
+    → ended ≡ Err (stop.Keep r) → ⊥
 says-in (Ok done) held held' text says r e = absurd cc
 says-in (Err stop.SinkFault) held held' text says r e = absurd cc
 says-in (Err stop.NoMemory) held held' text says r e = absurd cc
@@ -57,9 +59,11 @@ says-fine (Err stop.NoMemory) held held' text says e = absurd cc
 says-fine (Err stop.Failed) held held' text says e = absurd says
 says-fine (Err (stop.Keep q)) held held' text says e = absurd says
 
-pub shown-causes : {D : Type 0} (state : D → DiskState) (ended : Result Unit UpkeepStop) (held held' : Option (List ℕ)) (text : List ℕ) (disk disk' : D) (m : DiskState)
+pub shown-causes : {D : Type 0} (state : D → DiskState) (ended : Result Unit UpkeepStop) (held held' : Option (List ℕ)) (text : List ℕ) (disk disk' : D)
+    (m : DiskState)
     (lists : Settings) → Mounts (state disk) m lists → Says ended held held' text → IsCaused state ended disk disk'
-shown-causes state ended held held' text disk disk' m lists mounts says = mounted-causes state disk disk' ended m lists mounts (says-in ended held held' text says)
+shown-causes state ended held held' text disk disk' m lists mounts says =
+    mounted-causes state disk disk' ended m lists mounts (says-in ended held held' text says)
     (λ e. absurd (says-fine ended held held' text says e))
 
 -- ---- changes
@@ -104,7 +108,8 @@ module _ {D : Type 0} (state : D → DiskState) (change : Change) (Still : Type 
               format = format_at old.place;
               lists = old.lists;
               holds = holds;
-              finds = subst (λ (d : DiskState). AlwaysFinds d (change.lists old.lists)) (sym same-disk) (subst (λ (l : Settings). AlwaysFinds (state old.disk) l) (sym q.0) holds.finds);
+              finds = subst (λ (d : DiskState). AlwaysFinds d (change.lists old.lists)) (sym same-disk)
+                  (subst (λ (l : Settings). AlwaysFinds (state old.disk) l) (sym q.0) holds.finds);
               formats = subst (λ (d : DiskState). AlwaysFindsFormat d (change.format (format_at old.place) old.lists)) (sym same-disk)
                   (subst (λ (f : ℕ). AlwaysFindsFormat (state old.disk) f) (sym q.1) holds.formats);
               others = subst (λ (d : DiskState). KeepsOthers (state old.disk) d) (sym same-disk) (others-same (state old.disk));

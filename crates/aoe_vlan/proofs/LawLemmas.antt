@@ -71,7 +71,8 @@ module _ (ports : List PortKind) (vid : ℕ) where
   latest-carried a (i ∷ own) all there = elim (cases_Bool (same_address (source_of i.frame) a)) [
     | inl same ↦ rw same (carried i (all 0 i (omega arith)))
     | inr other ↦
-        let before : holds (sources own) a ≡ true = elim (or_cases _ _ (sym (list_any-append (λ b. same_address b a) (sources own) (source_of i.frame ∷ [])) ∙ there)) [
+        let before : holds (sources own) a ≡ true =
+        elim (or_cases _ _ (sym (list_any-append (λ b. same_address b a) (sources own) (source_of i.frame ∷ [])) ∙ there)) [
           | inl is ↦ is
           | inr n ↦ absurd (true≢false (sym n ∙ or_from _ _ other refl))
         ] in
@@ -163,7 +164,8 @@ module _ (ports : List PortKind) (port vid : ℕ) (is : IsAccess ports port vid)
       let test : Passing → Bool = λ o. nat_eq o.port port in
       filter-append test (switched ports inputs) (given ports inputs i)
       ∙ (elim (cases_Bool (is_vlan vid (vlan_at ports i))) [
-        | inl is-own ↦ rw is-own (ap (λ l. l ++ at_port port (given ports inputs i)) (at-port-from inputs) ∙ sym (filter-append test (switched_from ports vid inputs) (given ports inputs i)))
+        | inl is-own ↦ rw is-own (ap (λ l. l ++ at_port port (given ports inputs i)) (at-port-from inputs)
+            ∙ sym (filter-append test (switched_from ports vid inputs) (given ports inputs i)))
         | inr n ↦ rw n ((λ j. at-port-from inputs j ++ other-vlan inputs i n j) ∙ sym (filter-append test (switched_from ports vid inputs) []))
       ])
 

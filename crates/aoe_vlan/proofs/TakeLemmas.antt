@@ -128,7 +128,8 @@ any-there ports port kind frame vid lt is e = any-at ports port kind vid (slice_
 -- a table stays
 pub some-kept : (vid w : ℕ) (a : Mac) (p : ℕ) (ts : List Table) → IsSome (stations_of w ts) → IsSome (stations_of w (learnt_in vid a p ts))
 some-kept vid w a p ts some = elim (cases_eq vid w) [
-  | inl same ↦ subst (λ (v : ℕ). IsSome (stations_of v (learnt_in vid a p ts))) same (ap is_some (stations-same vid a p ts) ∙ still (stations_of vid ts) (subst (λ (v : ℕ). IsSome (stations_of v ts)) (sym same) some))
+  | inl same ↦ subst (λ (v : ℕ). IsSome (stations_of v (learnt_in vid a p ts))) same
+      (ap is_some (stations-same vid a p ts) ∙ still (stations_of vid ts) (subst (λ (v : ℕ). IsSome (stations_of v ts)) (sym same) some))
   | inr other ↦ ap is_some (stations-other vid w a p ts (ne_eqb vid w other)) ∙ some
 ]
   where

@@ -155,7 +155,8 @@ module _ {script : ScriptLines} {name : ArrayVec ℕ} {ports : ArrayVec Mac} {ro
       }
 
   -- the device of the next line can be attached
-  pub device-can : {n r t : ℕ} {life : Lifetimes} {line : Line} {x : SimHost} → slice_get script.setups n ≡ Some line → HostSoFar script.setups name ports life r t n x
+  pub device-can : {n r t : ℕ} {life : Lifetimes} {line : Line} {x : SimHost} → slice_get script.setups n ≡ Some line
+      → HostSoFar script.setups name ports life r t n x
       → (known : Option Attached) → known ≡ attached_to script.setups name line → IfSome known (λ d. CanAttach d x.core.devices)
   device-can here k known known-is =
       if-some known (λ d e. host-can here k (host_of script.setups name ports.items room dead) d words-of is.few_setups (sym known-is ∙ e))

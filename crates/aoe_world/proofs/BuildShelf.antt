@@ -84,7 +84,8 @@ module _ {lines : List Line} {name : ArrayVec ℕ} {major : ℕ} {ports : ArrayV
       record {
         words = rw k.words at rest;
         stations = rw (stations, k.stations, more, said)
-            (sym (map-append (λ (s : SlotSetup). s.station) (filter_map (slot_of_shelf lines name major ports.items mtu) (take n lines)) (option_to_list given)));
+            (sym (map-append (λ (s : SlotSetup). s.station) (filter_map (slot_of_shelf lines name major ports.items mtu) (take n lines))
+            (option_to_list given)));
         serves = rw (more, said) (serves _ k.serves);
       }
 

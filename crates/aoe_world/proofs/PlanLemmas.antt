@@ -133,7 +133,8 @@ module _ {lines : List Line} {places : List Place} {sim : Sim} (knows : Knows li
         possible = record {
           there = inside;
           attached =
-              rw (x.1, ← position-map (λ (d : Device). d.about) (λ (a : Attached). same_id a.id dev) x.0.core.devices, settled.is.devices) (rw same at is.device);
+              rw (x.1, ← position-map (λ (d : Device). d.about) (λ (a : Attached). same_id a.id dev) x.0.core.devices, settled.is.devices)
+              (rw same at is.device);
           few = rw (x.1, settled.last) (knows.few host);
           allowed = allowed;
         };

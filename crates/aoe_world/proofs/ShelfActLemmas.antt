@@ -78,7 +78,8 @@ module _ {s : Setup} {majors : List ℕ} (i major : ℕ) (x y : SimShelf) (old n
   pub arrived-by : (r : Result (Unit {0}) NetRefusal) (number : ℕ) (f : List ℕ) → arriving s.life old.run.entries number ≡ Some f
       → OnOk r (OfArrival number f x old.run.entries (λ z slots.
       ArriveAtEach number f slots slots old.run.entries new.run.entries × IsLawful z new.run.entries × Serves slots new.run.entries y))
-      → OnErr r (OfArrival number f x old.run.entries (λ z slots. ArriveAtSome number f slots slots old.run.entries new.run.entries × IsLawful z new.run.entries))
+      → OnErr r (OfArrival number f x old.run.entries
+      (λ z slots. ArriveAtSome number f slots slots old.run.entries new.run.entries × IsLawful z new.run.entries))
       → (r ≡ Err Full → OfArrival number f x old.run.entries (λ z slots. MeetsFull z (ArriveAtSome number f slots slots old.run.entries) new.run.entries))
       → IsEntered r s majors (Hand number (ShelfStation major)) old new
   arrived-by (Ok u) number f fresh ok err full =

@@ -118,7 +118,13 @@ module _ {script : ScriptLines} {places : List Place} {old new : Sim} {cursor be
             let going = world.going same in
             record {
               staged =
-                  record { good = going.staged.good; network_is = going.staged.network_is; places_are = going.staged.places_are; from_one = at.0; within = at.1 };
+                  record {
+                    good = going.staged.good;
+                    network_is = going.staged.network_is;
+                    places_are = going.staged.places_are;
+                    from_one = at.0;
+                    within = at.1;
+                  };
               ready = ready;
               time = omega (arith, grows.time_is, going.time);
               tickets_are = λ host. omega (arith, grows.tickets_are host, going.tickets_are host);

@@ -24,7 +24,8 @@ use Rattle.aoe_initiator.proofs.ListLemmas.{Contains-filter, Contains-map}
 pub record IsFirstSend (life : Lifetimes) (host : HostSetup) (h : List Entry) (c tag : ℕ) : Type 0 where
   pub unsent : sends_of host h c ≡ None
   pub free : (d : ℕ) (y : Sending) → 0 < d → d ≤ tickets host h → sends_of host h d ≡ Some y → is_live life host h d y ≡ true → y.tag ≢ tag
-  pub past : (d : ℕ) → 0 < d → d < c → in_conflict host h d c ≡ true → IsPast life.requests.0 (clock h) (as_entered (view host h d)) (as_entered (view host h c))
+  pub past : (d : ℕ) → 0 < d → d < c → in_conflict host h d c ≡ true
+      → IsPast life.requests.0 (clock h) (as_entered (view host h d)) (as_entered (view host h c))
 
 -- a command that flies is sent again
 pub record IsRepeatSend (host : HostSetup) (h : List Entry) (c tag : ℕ) : Type 0 where

@@ -71,7 +71,8 @@ module _ {s : Setup} {host : HostSetup} {h : List Entry} (run : HasHost s host h
           (marked_after slot n sct)
           → marked_after slot n sct ≡ false
       by-act x (showed shown p q a b) = q ∙ m was.0
-      by-act x (put span v p q a b) = absurd (beside c _ fl asks (writer run slot there sct k x.frame span x.fresh (rw x.bytes at (was.1 (rw (x.is, a) refl))) v))
+      by-act x (put span v p q a b) =
+          absurd (beside c _ fl asks (writer run slot there sct k x.frame span x.fresh (rw x.bytes at (was.1 (rw (x.is, a) refl))) v))
       by-act x (spoilt span v q a b) =
           absurd (beside c _ fl asks (writer run slot there sct k x.frame span x.fresh (rw x.bytes at (was.1 (rw (x.is, x.bytes, a, b) refl))) v))
       by-act x (synced p q a b) = q
@@ -120,7 +121,8 @@ also-allowed : (t : Bool) (w : Option (List ℕ)) (v : List ℕ) (may : Option (
     → IsAllowed (Some v) (if t then also w may else may)
 also-allowed t w v may a = grind (arith, allowed-also)
 
-pub sent-passes : {life : Lifetimes} {host : HostSetup} {h : List Entry} (slot : SlotSetup) (name : ArrayVec ℕ) (c number : ℕ) (f : List ℕ) (s : ℕ) → Base life host h
+pub sent-passes : {life : Lifetimes} {host : HostSetup} {h : List Entry} (slot : SlotSetup) (name : ArrayVec ℕ) (c number : ℕ) (f : List ℕ) (s : ℕ)
+    → Base life host h
     → Passes host slot h (Sent name c number f ∷ h) s
 sent-passes {life} {host} {h} slot name c number f s b = record {
   sent = λ d x e. again d x e (is_called host name && nat_eq c d) refl;

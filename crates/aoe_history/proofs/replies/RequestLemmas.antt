@@ -46,7 +46,8 @@ pub padded-head : (h : Header) (args : List ℕ) → Fits h → head (padded (he
 padded-head h args fits = ap head (padded-parts h args) ∙ head-header_bytes h (args ++ zeros_behind (header_bytes h ++ args)) fits
 
 pub padded-rest : (h : Header) (args : List ℕ) → Fits h → drop 24 (padded (header_bytes h ++ args)) ≡ args ++ zeros_behind (header_bytes h ++ args)
-padded-rest h args fits = ap (drop 24) (padded-parts h args) ∙ drop_at (header_bytes h) (args ++ zeros_behind (header_bytes h ++ args)) 24 (header-length h fits)
+padded-rest h args fits = ap (drop 24) (padded-parts h args)
+    ∙ drop_at (header_bytes h) (args ++ zeros_behind (header_bytes h ++ args)) 24 (header-length h fits)
 
 -- REGISTERS
 
@@ -94,7 +95,8 @@ pub comes-of : (station : Station) (lists : Settings) (f : List ℕ) (h : Header
     → ComesOf station lists.read_only h (drop 24 f) d
 unfolding decision
 comes-of station lists f h d is e =
-    let c = by-checks _ _ _ _ _ _ _ (may_use lists h.src) (decided lists.read_only (decision station.sectors station.max (drop 24 f))) d (judged-by station lists f h (Ata d) is e) in
+    let c = by-checks _ _ _ _ _ _ _ (may_use lists h.src) (decided lists.read_only (decision station.sectors station.max (drop 24 f))) d
+    (judged-by station lists f h (Ata d) is e) in
     let k = ok-if lists.read_only _ _ d c.2 in
     record { heard = c.0; ata = c.1; registers_are = ap (λ (x : AtaDecision). x.args) k; answer_is = ap (λ (x : AtaDecision). x.answer) k }
 
@@ -124,7 +126,8 @@ written-as at bytes zeros whole = take_at bytes zeros (12 + 512 * (length bytes 
 pub no-list-step : (station : Station) (lists : Settings) (f : List ℕ) (h : Header) (c : ListCommand) → head f ≡ Some h → (h.command == 0) ≡ true
     → verdict station lists f ≡ Lists c → ⊥
 no-list-step station lists f h c is ata e =
-    no-step _ _ _ (may_use lists h.src) lists.read_only (decision station.sectors station.max (drop 24 f)) c (rw ata at (judged-by station lists f h (Lists c) is e))
+    no-step _ _ _ (may_use lists h.src) lists.read_only (decision station.sectors station.max (drop 24 f)) c
+    (rw ata at (judged-by station lists f h (Lists c) is e))
 
 -- A REQUEST AT A TARGET
 
@@ -143,7 +146,8 @@ request-rest op id remote local tag fits = (_, padded-rest (request_header op id
 
 pub request-asks : (op : Op) (id : TargetId) (remote local : Mac) (tag : ℕ) (station : Station) (lists : Settings) (d : AtaDecision) → CanSpell op
     → HasSectors op
-    → Fits (request_header op id remote local tag) → verdict station lists (request op id remote local tag) ≡ Ata d → d.answer ≡ as_marked lists.read_only (asked_for station.sectors op)
+    → Fits (request_header op id remote local tag) → verdict station lists (request op id remote local tag) ≡ Ata d
+    → d.answer ≡ as_marked lists.read_only (asked_for station.sectors op)
 request-asks op id remote local tag station lists d can some fits e =
     let c = comes-of station lists _ _ d (request-head op id remote local tag fits) e in
     let r = request-rest op id remote local tag fits in

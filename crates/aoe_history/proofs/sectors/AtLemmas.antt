@@ -40,7 +40,8 @@ wr host slot h s c = writes slot (submission host h c) s
 
 abbrev pub At : Lifetimes → HostSetup → SlotSetup → List Entry → ℕ → Type 0
 At life host slot h s =
-    Sector (IsFlying host h) (IsUnderWay life host h) (wr host slot h s) (landed host slot h s) (known_after slot h s) (marked_after slot h s) (alone host slot h s)
+    Sector (IsFlying host h) (IsUnderWay life host h) (wr host slot h s) (landed host slot h s) (known_after slot h s) (marked_after slot h s)
+    (alone host slot h s)
     (safe host slot h s) (spoiled host slot h s) (allowed host slot h s)
 
 -- SENT AND LANDED
@@ -85,7 +86,8 @@ module _ {life : Lifetimes} {host : HostSetup} {h n : List Entry} (k : Keeps hos
       → Sector (IsFlying host h) (IsUnderWay life host h) (wr host slot h s) la holds mark al sa sp may
       → Sector (IsFlying host n) (IsUnderWay life host n) (wr host slot n s) la holds mark al sa sp may
   quiet x = weaken x
-      (λ c v (y, e, d) w. let f : IsFlying host h c = (y, sym (k.sends c) ∙ e, not-before (k.done c) d) in (f, (before c v (flying-active life host h c f) w).1))
+      (λ c v (y, e, d) w. let f : IsFlying host h c = (y, sym (k.sends c) ∙ e, not-before (k.done c) d) in
+      (f, (before c v (flying-active life host h c f) w).1))
       (λ c v (y, e, a) w. let l = live-by life.requests.0 (clock h) (clock n) y.last.0 _ _ k.time (k.done c) a in before c v (y, sym (k.sends c) ∙ e, l) w)
 
 -- A SEND OF THE HOST'S
@@ -116,7 +118,12 @@ module _ {life : Lifetimes} {host : HostSetup} {h : List Entry} {name : ArrayVec
   flew e = elim r.may [ inl first ↦ absurd (cc (sent-same host h c, first.unsent)) | inr again ↦ (again.before, again.sent, again.flying) ]
 
   now-flying : was_sent host h c ≡ false → IsFlying host n c
-  now-flying e = (base.more host h c f c, now-sent life host h name c number f mine r reads, untrue (was_done host h c) (λ d. cc (b.done c d, sent-same host h c)))
+  now-flying e = (
+    base.more host h c f c,
+    now-sent life host h name c number f mine r reads,
+    untrue (was_done host h c)
+        (λ d. cc (b.done c d, sent-same host h c)),
+  )
 
   none-landed : was_sent host h c ≡ false → (d : ℕ) (v w : List ℕ) → IsFlying host n d → wr host slot h s c ≡ Some v → wr host slot h s d ≡ Some w
       → landed host slot h s d ≡ false

@@ -43,7 +43,8 @@ sent-to : (s : Setup) (host : HostSetup) (h : List Entry) (c number path to : �
 sent-to s host h c number path to bytes next goes x =
     let its = of-ticket (λ y. nat_eq (path_for s host h y).0 path) _ c x.path.command next x.path.there (ap (λ t. t.0) x.path.ticket ∙ x.ticket_is) in
     let on : x.sent.path ≡ record { 0 = path } = ap (λ n. let p : PathNo = record { 0 = n } in p) (x.path.next ∙ eqb-true _ _ its) in
-    let at = of-ticket (λ y. nat_eq (port_of (spelled (host_after s host h) y (record { 0 = path }) x.sent.tag)) to) _ c x.frame.command (goes x.sent.tag) x.frame.there
+    let at = of-ticket (λ y. nat_eq (port_of (spelled (host_after s host h) y (record { 0 = path }) x.sent.tag)) to) _ c x.frame.command
+    (goes x.sent.tag) x.frame.there
     (ap (λ t. t.0) x.frame.ticket ∙ x.ticket_is) in
     ap port_of (sym x.frame.bytes) ∙ ap (λ p. port_of (spelled (host_after s host h) x.frame.command p x.sent.tag)) on ∙ eqb-true _ _ at
 

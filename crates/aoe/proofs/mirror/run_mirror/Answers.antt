@@ -10,14 +10,16 @@ returns-clause-runs g c =
     c.export_mirror-answer.ensures.source c.export_mirror-answer.ensures.sink c.export_mirror-answer.ensures.links
 
 pub returns-clause-status : goal.returns-clause-status
-returns-clause-status g c = rw c.mirrored_as.ensures (mirror-status g.D.Disk.state _ _ _ _ _ _ c.export_mirror-answer.result.0 c.export_mirror-answer.ensures.ran)
+returns-clause-status g c = rw c.mirrored_as.ensures
+    (mirror-status g.D.Disk.state _ _ _ _ _ _ c.export_mirror-answer.result.0 c.export_mirror-answer.ensures.ran)
 
 pub returns-clause-memory : goal.returns-clause-memory
 returns-clause-memory g c = wanted-memory c.mirrored_as.result c.export_mirror-answer.result.0 c.mirrored_as.ensures c.export_mirror-answer.ensures.source
     c.export_mirror-answer.ensures.sink
 
 pub returns-clause-links : goal.returns-clause-links
-returns-clause-links g c = same-links g.D.Disk.state _ _ _ _ _ _ c.export_mirror-answer.result.0 c.export_mirror-answer.ensures.ran c.export_mirror-answer.ensures.links
+returns-clause-links g c = same-links g.D.Disk.state _ _ _ _ _ _ c.export_mirror-answer.result.0 c.export_mirror-answer.ensures.ran
+    c.export_mirror-answer.ensures.links
 
 pub returns-clause-there : goal.returns-clause-there
 returns-clause-there g c = rw c.put_four.ensures (all-four c.export_mirror-answer.result.1)

@@ -48,7 +48,8 @@ returns-in-Ok-Some-clause-one_link g c alone = c.run_command.ensures.alone (same
 
 pub returns-in-Ok-Some-clause-settled : goal.returns-in-Ok-Some-clause-settled
 returns-in-Ok-Some-clause-settled g c exported slot e = settled _ _ _ _ _ _ _ _ c.run_command.ensures.run c.run_command.ensures.refused
-    (c.requires.count ∙ counted _ _ _ c.in-Ok-Some.field-0-is c.in-Ok-Some.ensures.files) (paired _ _ _ c.in-Ok-Some.field-0-is c.in-Ok-Some.ensures.command exported) slot e
+    (c.requires.count ∙ counted _ _ _ c.in-Ok-Some.field-0-is c.in-Ok-Some.ensures.files)
+    (paired _ _ _ c.in-Ok-Some.field-0-is c.in-Ok-Some.ensures.command exported) slot e
 
 pub returns-in-Ok-Some-clause-disk_fault : goal.returns-in-Ok-Some-clause-disk_fault
 returns-in-Ok-Some-clause-disk_fault g c disk e = elim (cases_Bool (is_mirror (Some c.in-Ok-Some.command))) [
@@ -79,23 +80,28 @@ returns-in-Ok-Some-clause-audits g c asked is =
 
 pub returns-in-Ok-Some-clause-file_fault : goal.returns-in-Ok-Some-clause-file_fault
 returns-in-Ok-Some-clause-file_fault g c exported slot e = file-fault _ _ _ _ _ _ _ _ c.run_command.ensures.run c.run_command.ensures.refused
-    (c.requires.count ∙ counted _ _ _ c.in-Ok-Some.field-0-is c.in-Ok-Some.ensures.files) (paired _ _ _ c.in-Ok-Some.field-0-is c.in-Ok-Some.ensures.command exported) slot e
+    (c.requires.count ∙ counted _ _ _ c.in-Ok-Some.field-0-is c.in-Ok-Some.ensures.files)
+    (paired _ _ _ c.in-Ok-Some.field-0-is c.in-Ok-Some.ensures.command exported) slot e
 
 pub returns-in-Ok-Some-clause-keep_fault : goal.returns-in-Ok-Some-clause-keep_fault
 returns-in-Ok-Some-clause-keep_fault g c exported slot e = keep-fault _ _ _ _ _ _ _ _ c.run_command.ensures.run c.run_command.ensures.refused
-    (c.requires.count ∙ counted _ _ _ c.in-Ok-Some.field-0-is c.in-Ok-Some.ensures.files) (paired _ _ _ c.in-Ok-Some.field-0-is c.in-Ok-Some.ensures.command exported) slot e
+    (c.requires.count ∙ counted _ _ _ c.in-Ok-Some.field-0-is c.in-Ok-Some.ensures.files)
+    (paired _ _ _ c.in-Ok-Some.field-0-is c.in-Ok-Some.ensures.command exported) slot e
 
 pub returns-in-Ok-Some-clause-keep_small : goal.returns-in-Ok-Some-clause-keep_small
 returns-in-Ok-Some-clause-keep_small g c exported slot sectors = keep-small _ _ _ _ _ _ _ _ c.run_command.ensures.run c.run_command.ensures.refused
-    (c.requires.count ∙ counted _ _ _ c.in-Ok-Some.field-0-is c.in-Ok-Some.ensures.files) (paired _ _ _ c.in-Ok-Some.field-0-is c.in-Ok-Some.ensures.command exported) slot sectors
+    (c.requires.count ∙ counted _ _ _ c.in-Ok-Some.field-0-is c.in-Ok-Some.ensures.files)
+    (paired _ _ _ c.in-Ok-Some.field-0-is c.in-Ok-Some.ensures.command exported) slot sectors
 
 pub returns-in-Ok-Some-clause-keep_bad : goal.returns-in-Ok-Some-clause-keep_bad
 returns-in-Ok-Some-clause-keep_bad g c exported slot bad = keep-bad _ _ _ _ _ _ _ _ c.run_command.ensures.run c.run_command.ensures.refused
-    (c.requires.count ∙ counted _ _ _ c.in-Ok-Some.field-0-is c.in-Ok-Some.ensures.files) (paired _ _ _ c.in-Ok-Some.field-0-is c.in-Ok-Some.ensures.command exported) slot bad
+    (c.requires.count ∙ counted _ _ _ c.in-Ok-Some.field-0-is c.in-Ok-Some.ensures.files)
+    (paired _ _ _ c.in-Ok-Some.field-0-is c.in-Ok-Some.ensures.command exported) slot bad
 
 pub returns-in-Ok-Some-clause-mounted : goal.returns-in-Ok-Some-clause-mounted
 returns-in-Ok-Some-clause-mounted g c exported slot lists = mounted _ _ _ _ _ _ _ _ c.run_command.ensures.run c.run_command.ensures.refused
-    (c.requires.count ∙ counted _ _ _ c.in-Ok-Some.field-0-is c.in-Ok-Some.ensures.files) (paired _ _ _ c.in-Ok-Some.field-0-is c.in-Ok-Some.ensures.command exported) slot lists
+    (c.requires.count ∙ counted _ _ _ c.in-Ok-Some.field-0-is c.in-Ok-Some.ensures.files)
+    (paired _ _ _ c.in-Ok-Some.field-0-is c.in-Ok-Some.ensures.command exported) slot lists
 
 pub returns-in-Ok-Some-clause-answers : goal.returns-in-Ok-Some-clause-answers
 returns-in-Ok-Some-clause-answers g c asked fs is unrefused some_memory left_is all few source sink fine =
@@ -108,7 +114,9 @@ returns-in-Ok-Some-clause-serves g c asked is unrefused some_memory link fine =
     let r = ran-as _ _ _ _ _ _ _ _ _ _ _ c.in-Ok-Some.field-0-is c.in-Ok-Some.ensures.command is (c.run_command.ensures.run unrefused some_memory) in
     let count = linked _ c.in-Ok-Some.field-0 asked (c.in-Ok-Some.ensures.command ∙ is) c.in-Ok-Some.ensures.links in
     let not-live = served-alone _ asked (same-command _ _ _ _ c.in-Ok-Some.field-0-is c.in-Ok-Some.ensures.command is) in
-    serves _ _ _ _ _ _ _ fine asked r (λ e. link-fine g.L.Link.faults _ _ link (at-first _ _ _ _ (λ a b blamed. blamed.cause e) (c.run_command.ensures.first not-live)) (omega (arith, c.requires.links, count)))
+    serves _ _ _ _ _ _ _ fine asked r
+    (λ e. link-fine g.L.Link.faults _ _ link (at-first _ _ _ _ (λ a b blamed. blamed.cause e) (c.run_command.ensures.first not-live))
+    (omega (arith, c.requires.links, count)))
 
 -- words that spell no command name no files
 no-files : {R : Type 0} (names : Command → R → List (List ℕ)) (o : Option (Command × R)) (n : ℕ)
@@ -118,11 +126,13 @@ no-files names (Some p) n count e = absurd cc
 
 pub returns-in-Ok-None-clause-keep_small : goal.returns-in-Ok-None-clause-keep_small
 returns-in-Ok-None-clause-keep_small g c exported slot sectors =
-    on-none _ slot _ _ (no-files files_of (spelled (map string_bytes c.args.words.now)) _ c.requires.count (sym c.in-Ok-None.ensures.command ∙ c.in-Ok-None.field-0-is))
+    on-none _ slot _ _ (no-files files_of (spelled (map string_bytes c.args.words.now)) _ c.requires.count
+    (sym c.in-Ok-None.ensures.command ∙ c.in-Ok-None.field-0-is))
 
 pub returns-in-Ok-None-clause-keep_bad : goal.returns-in-Ok-None-clause-keep_bad
 returns-in-Ok-None-clause-keep_bad g c exported slot bad =
-    on-none _ slot _ _ (no-files files_of (spelled (map string_bytes c.args.words.now)) _ c.requires.count (sym c.in-Ok-None.ensures.command ∙ c.in-Ok-None.field-0-is))
+    on-none _ slot _ _ (no-files files_of (spelled (map string_bytes c.args.words.now)) _ c.requires.count
+    (sym c.in-Ok-None.ensures.command ∙ c.in-Ok-None.field-0-is))
 
 pub returns-in-Ok-Some-clause-asks : goal.returns-in-Ok-Some-clause-asks
 returns-in-Ok-Some-clause-asks g c tool is =

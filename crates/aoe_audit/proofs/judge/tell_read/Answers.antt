@@ -9,19 +9,23 @@ pub returns-in-Ok-true : goal.returns-in-Ok-true
 returns-in-Ok-true c = λ k lists known.
     let has = c.has_front.ensures.yes c.if-has_front.true in
     let rest = take_rest c.args.reply.now 36 in
-    read-told c.args.station.now c.args.request.now c.args.args.now c.args.span c.args.reply.now c.args.known.now c.read.new.self k lists c.has_front.ensures.front
+    read-told c.args.station.now c.args.request.now c.args.args.now c.args.span c.args.reply.now c.args.known.now c.read.new.self k lists
+    c.has_front.ensures.front
     c.requires.range.some known has.0 has.1 (subst (λ (l : List ℕ). AreAsKnown c.args.span l c.args.known.now) rest (c.read.ensures.same (cc)))
     (λ q. c.read.ensures.known (cc) q ∙ (λ i. value_read c.args.span (rest i) c.args.known.now q))
 
 pub returns-in-Ok-false : goal.returns-in-Ok-false
 returns-in-Ok-false c = λ k lists known.
     let has = c.has_front.ensures.yes c.if-has_front.true in
-    read-wrong c.args.station.now c.args.request.now c.args.args.now c.args.span c.args.reply.now c.args.known.now c.args.known.now k lists c.has_front.ensures.front
+    read-wrong c.args.station.now c.args.request.now c.args.args.now c.args.span c.args.reply.now c.args.known.now c.args.known.now k lists
+    c.has_front.ensures.front
     c.requires.range.some known has.0 has.1 c.args.known.now
     (λ as-known. c.read.ensures.other (cc) (subst (λ (l : List ℕ). AreAsKnown c.args.span l c.args.known.now) (sym (take_rest c.args.reply.now 36)) as-known))
 
 pub returns-else-eq : goal.returns-else-eq
 returns-else-eq c = λ k lists known.
-    read-other c.args.station.now c.args.request.now c.args.args.now c.args.span c.args.reply.now c.args.known.now c.args.known.now k lists c.has_front.ensures.front
+    read-other c.args.station.now c.args.request.now c.args.args.now c.args.span c.args.reply.now c.args.known.now c.args.known.now k lists
+    c.has_front.ensures.front
     c.requires.range.some known c.args.known.now (c.has_front.ensures.no c.if-has_front.false)
-    (λ is. true≢false (sym ((bytes_eq-Decides c.args.reply.now c.as_slice.result.now).1 (is ∙ sym (c.as_slice.ensures.value ∙ c.put_ata.ensures))) ∙ sym c.eq.ensures ∙ c.if-eq.false))
+    (λ is. true≢false (sym ((bytes_eq-Decides c.args.reply.now c.as_slice.result.now).1 (is ∙ sym (c.as_slice.ensures.value ∙ c.put_ata.ensures)))
+    ∙ sym c.eq.ensures ∙ c.if-eq.false))

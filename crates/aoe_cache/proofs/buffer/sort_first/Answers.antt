@@ -10,5 +10,6 @@ returns-clause-first c =
     let old : List HeldSector = take c.args.held c.args.places.now in
     let new : List HeldSector = c.sort_unstable_by_key.new.self in
     let rises = IsNonDecreasingBy-from_sort_by_key (λ (h : HeldSector). h.at) new c.sort_unstable_by_key.ensures.sorted (λ a r f h. search rules) in
-    take_at new (drop c.args.held c.args.places.now) c.args.held (c.sort_unstable_by_key.ensures.len ∙ length-take-le c.args.held c.args.places.now c.requires.held)
+    take_at new (drop c.args.held c.args.places.now) c.args.held
+    (c.sort_unstable_by_key.ensures.len ∙ length-take-le c.args.held c.args.places.now c.requires.held)
     ∙ sorted_ordered old new c.sort_unstable_by_key.ensures.permutation rises c.requires.once c.requires.whole

@@ -11,12 +11,15 @@ pub keep_first-requires-clause-order : goal.keep_first-requires-clause-order
 keep_first-requires-clause-order g c =
     let n = c.write_runs-left.result in
     let left : List HeldSector = take n (placed c.write_runs-left.new.buffer) in
-    let stays = sorted_down c.sort.new.self (nat_lt 0 n) left (g.D.Disk.state c.write_runs-left.new.disk) c.requires.disk c.requires.buffer c.sort.ensures.placed c.write_runs-left.ensures.down in
+    let stays = sorted_down c.sort.new.self (nat_lt 0 n) left
+    (g.D.Disk.state c.write_runs-left.new.disk) c.requires.disk c.requires.buffer c.sort.ensures.placed c.write_runs-left.ensures.down in
     rw (first_placed c.write_runs-left.new.buffer n c.write_runs-left.ensures.left) at stays.left.order
 
 pub returns-else-left-eq0-clause-buffer : goal.returns-else-left-eq0-clause-buffer
 returns-else-left-eq0-clause-buffer g c =
     let n = c.write_runs-left.result in
     let left : List HeldSector = take n (placed c.write_runs-left.new.buffer) in
-    let stays = sorted_down c.sort.new.self (nat_lt 0 n) left (g.D.Disk.state c.write_runs-left.new.disk) c.requires.disk c.requires.buffer c.sort.ensures.placed c.write_runs-left.ensures.down in
-    buffer_after c.keep_first.new.self c.keep_first.ensures.indexed (rw (first_placed c.write_runs-left.new.buffer n c.write_runs-left.ensures.left, ← c.keep_first.ensures.held) at stays)
+    let stays = sorted_down c.sort.new.self (nat_lt 0 n) left
+    (g.D.Disk.state c.write_runs-left.new.disk) c.requires.disk c.requires.buffer c.sort.ensures.placed c.write_runs-left.ensures.down in
+    buffer_after c.keep_first.new.self c.keep_first.ensures.indexed
+    (rw (first_placed c.write_runs-left.new.buffer n c.write_runs-left.ensures.left, ← c.keep_first.ensures.held) at stays)

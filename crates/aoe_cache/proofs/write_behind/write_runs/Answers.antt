@@ -9,7 +9,8 @@ pub run_from-count-requires-clause-order : goal.run_from-count-requires-clause-o
 run_from-count-requires-clause-order g c =
     let inv = c.runs.invariant in
     let has = room_kept c.requires.buffer.has inv.numbers inv.places in
-    in_order_more (g.D.Disk.state c.args.disk.now).sectors (2 ^ 40) c.runs.done c.runs.buffer c.requires.disk.bound (rest_in_order c.requires.buffer has inv.rest)
+    in_order_more (g.D.Disk.state c.args.disk.now).sectors (2 ^ 40) c.runs.done c.runs.buffer c.requires.disk.bound
+    (rest_in_order c.requires.buffer has inv.rest)
 
 pub write_run-requires-clause-buffer : goal.write_run-requires-clause-buffer
 write_run-requires-clause-buffer g c =

@@ -18,5 +18,7 @@ returns c =
     let size =
     length-left_of c.args.how s (sector now s) (sector settled s) (length-sector now s c.requires.now) (length-sector settled s c.requires.settled) in
     let long : length c.lose.new.now ≡ 512 = ap length e ∙ size in
-    let there : put_mid (512 * c.args.s) (512 * c.args.s + 512 - 512 * c.args.s) c.args.now.now c.lose.new.now ≡ with_piece c.args.now.now (512 * c.args.s) c.lose.new.now = put_mid-with_piece c.args.now.now c.lose.new.now (512 * c.args.s) (512 * c.args.s + 512 - 512 * c.args.s) (n ∙ sym long) in
+    let there : put_mid (512 * c.args.s) (512 * c.args.s + 512 - 512 * c.args.s) c.args.now.now c.lose.new.now ≡ with_piece c.args.now.now
+    (512 * c.args.s) c.lose.new.now = put_mid-with_piece c.args.now.now c.lose.new.now (512 * c.args.s) (512 * c.args.s + 512 - 512 * c.args.s)
+    (n ∙ sym long) in
     there ∙ ap (λ (l : List ℕ). with_piece c.args.now.now (512 * c.args.s) l) e

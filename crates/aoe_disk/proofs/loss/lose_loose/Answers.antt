@@ -12,7 +12,8 @@ sectors-preserved c =
           let is : is_loose c.args.loose.now c.sectors.s ≡ true = search rules in
           let now : 512 * c.sectors.s + 512 ≤ length c.args.now.now = omega (arith, c.requires.now, c.sectors-test.true) in
           let settled : 512 * c.sectors.s + 512 ≤ length c.args.settled.now = omega (arith, c.requires.settled, c.sectors-test.true) in
-          subst P (sym (w.now-is ∙ w.lose_at.ensures)) (left_more c.sectors.s c.args.how c.args.now.now c.args.settled.now c.args.loose.now c.sectors.now now settled is c.sectors.invariant)
+          subst P (sym (w.now-is ∙ w.lose_at.ensures))
+          (left_more c.sectors.s c.args.how c.args.now.now c.args.settled.now c.args.loose.now c.sectors.now now settled is c.sectors.invariant)
       | else-loose-s w ↦
           let is : is_loose c.args.loose.now c.sectors.s ≡ false = search rules in
           subst P (sym w.now-is) (left_past c.sectors.s c.args.how c.args.now.now c.args.settled.now c.args.loose.now c.sectors.now is c.sectors.invariant)

@@ -15,7 +15,8 @@ entered-preserved c =
     let kept = live before.life before.latest before.commands in
     let count = ap (λ (t : HoldTable). unsent_count t.commands) after ∙ count-enter kept _ refl in
     record {
-      greatest = λ g at. let same = ap (λ (t : HoldTable). t.greatest) after in let is : Some g ≡ Some (c.from.result + 1) = sym at ∙ same in let number : g ≡ c.from.result + 1 = cc in omega (arith, number, c.from.ensures);
+      greatest = λ g at. let same = ap (λ (t : HoldTable). t.greatest) after in let is : Some g ≡ Some (c.from.result + 1) = sym at ∙ same in
+          let number : g ≡ c.from.result + 1 = cc in omega (arith, number, c.from.ensures);
       unsent = omega (arith, count, count-live before.life before.latest before.commands, c.entered.invariant.unsent);
       latest = ap (λ (t : HoldTable). t.latest) after ∙ c.entered.invariant.latest;
     }

@@ -16,6 +16,8 @@ devices-preserved c =
     let changed : new ≡ device_at c.args.now.0 item = rw c.first_clear.ensures.same refl in
     record {
       devices = items-after (device_at c.args.now.0) xs items c.devices.device-index item new c.devices.invariant.devices is inside changed;
-      lowest = lowest-after xs c.devices.device-index c.args.now.0 item c.devices.lowest c.first_clear.result c.lower-lowest.result inside read c.devices.invariant.lowest
-          (lowest-of item.holds c.args.now.0 c.first_clear.result c.first_clear.ensures.clear c.first_clear.ensures.lowest c.first_clear.ensures.none) c.lower-lowest.ensures;
+      lowest = lowest-after xs c.devices.device-index c.args.now.0 item c.devices.lowest c.first_clear.result c.lower-lowest.result inside read
+          c.devices.invariant.lowest
+          (lowest-of item.holds c.args.now.0 c.first_clear.result c.first_clear.ensures.clear c.first_clear.ensures.lowest c.first_clear.ensures.none)
+          c.lower-lowest.ensures;
     }

@@ -6,4 +6,5 @@ use Rattle.aoe_initiator.proofs.law.held_law.Goals as goal
 
 pub returns : goal.returns
 returns c log host n m inside =
-    held-recalled host.life.requests.0 (commands log) 0 n host.devices m.entered inside ∙ ap (λ (k : ℕ). unsent_count (entered_at k (commands log))) (zero-add n)
+    held-recalled host.life.requests.0 (commands log) 0 n host.devices m.entered inside
+    ∙ ap (λ (k : ℕ). unsent_count (entered_at k (commands log))) (zero-add n)

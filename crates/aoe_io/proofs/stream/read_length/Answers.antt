@@ -10,4 +10,5 @@ returns-clause-gave g c =
     let tested = c.in-Ok.field-0-test in
     let high = c.from.ensures in
     let low = c.from-2.ensures in
-    subst P (prefix-is c.fill_from.new.out c.in-Ok.field-0 _ c.fill_from.auto.out (omega (arith, whole, tested.0.1, tested.1)) (omega (arith, high, low)) (omega arith) (omega arith)) c.in-Ok.ensures.gave
+    subst P (prefix-is c.fill_from.new.out c.in-Ok.field-0 _ c.fill_from.auto.out (omega (arith, whole, tested.0.1, tested.1)) (omega (arith, high, low))
+    (omega arith) (omega arith)) c.in-Ok.ensures.gave

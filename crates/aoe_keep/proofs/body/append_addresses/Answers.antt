@@ -7,5 +7,6 @@ pub loop-address-preserved : goal.loop-address-preserved
 loop-address-preserved c = record {
   items = grind (arith, common_steps);
   len = grind (arith, common_steps);
-  six = All-more (λ a. length a.0 ≡ 6) c.args.list.now c.loop-address.address-index (record { 0 = [] }) c.loop-address-test.true c.loop-address.invariant.six (search rules);
+  six = All-more (λ a. length a.0 ≡ 6) c.args.list.now c.loop-address.address-index (record { 0 = [] }) c.loop-address-test.true c.loop-address.invariant.six
+      (search rules);
 }

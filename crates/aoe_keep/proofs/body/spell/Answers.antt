@@ -4,12 +4,14 @@ use Rattle.aoe_keep.proofs.Spelling.{spelled, decodes}
 use Rattle.aoe_keep.proofs.body.spell.Goals as goal
 
 pub returns-clause-items : goal.returns-clause-items
-returns-clause-items c = spelled format_2 c.args.turn c.args.lists.now c.append_head.new.body.items c.append.new.body.items c.append_addresses.new.body.items c.append_addresses-2.new.body.items c.append_zeros.new.body.items
+returns-clause-items c = spelled format_2 c.args.turn c.args.lists.now c.append_head.new.body.items c.append.new.body.items c.append_addresses.new.body.items
+    c.append_addresses-2.new.body.items c.append_zeros.new.body.items
     c.append_head.ensures.items (search rules) (search rules) (search rules) c.append_zeros.ensures.items
 
 pub returns-clause-read : goal.returns-clause-read
 returns-clause-read c =
-    let spelt = spelled format_2 c.args.turn c.args.lists.now c.append_head.new.body.items c.append.new.body.items c.append_addresses.new.body.items c.append_addresses-2.new.body.items c.append_zeros.new.body.items
+    let spelt = spelled format_2 c.args.turn c.args.lists.now c.append_head.new.body.items c.append.new.body.items c.append_addresses.new.body.items
+    c.append_addresses-2.new.body.items c.append_zeros.new.body.items
     c.append_head.ensures.items (search rules) (search rules) (search rules) c.append_zeros.ensures.items in
     ap decode spelt ∙ decodes c.args.turn c.args.lists.now (record {
       known_turn = c.requires;

@@ -33,7 +33,8 @@ returns-in_err-read-2-clause-reads g c =
     let log = rw c.from-start.ensures at c.read.ensures.log in
     let given = rw c.from-start.ensures at c.in_ok-read.ensures.given in
     let gate = read_gate c.args.k c.read.new.out (g.D.Disk.state c.args.disk.now).contents given in
-    body_read c.args.k (g.D.Disk.state c.args.disk.now) (g.D.Disk.state c.read.new.self) log (is_err c.from_residual-in_err-read-2.result) (g.D.Disk.state c.read-2.new.self)
+    body_read c.args.k (g.D.Disk.state c.args.disk.now) (g.D.Disk.state c.read.new.self) log (is_err c.from_residual-in_err-read-2.result)
+    (g.D.Disk.state c.read-2.new.self)
     (eq-eqb (get_or c.read.new.out 0 0) 167 c.if-gate.false) gate (rw c.from-start.ensures at c.read-2.ensures.log)
 
 pub returns-clause-reads : goal.returns-clause-reads

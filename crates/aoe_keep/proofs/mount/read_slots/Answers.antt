@@ -32,7 +32,8 @@ pub returns-clause-calm : goal.returns-clause-calm
 returns-clause-calm g c = calm_told _ _ _ c.in_ok-sync.ensures.contents (c.read_slot-2.ensures.same ∙ c.read_slot.ensures.same)
 
 pub returns-clause-found : goal.returns-clause-found
-returns-clause-found g c = slots_told c.choose.result c.in_ok-first.first c.in_ok-second.second _ _ _ _ c.in_ok-sync.ensures.contents c.read_slot.ensures.same c.read_slot-2.ensures.same c.in_ok-first.ensures.slot c.in_ok-second.ensures.slot c.choose.ensures
+returns-clause-found g c = slots_told c.choose.result c.in_ok-first.first c.in_ok-second.second _ _ _ _ c.in_ok-sync.ensures.contents c.read_slot.ensures.same
+    c.read_slot-2.ensures.same c.in_ok-first.ensures.slot c.in_ok-second.ensures.slot c.choose.ensures
 
 pub returns-in_err-sync-clause-calls : goal.returns-in_err-sync-clause-calls
 returns-in_err-sync-clause-calls g c =
@@ -48,7 +49,8 @@ pub returns-in_err-second-clause-calls : goal.returns-in_err-second-clause-calls
 returns-in_err-second-clause-calls g c =
     let first = rw c.in_ok-first.was at c.read_slot.ensures.reads in
     let second = rw c.in_err-second.was at c.read_slot-2.ensures.reads in
-    rw c.from_residual-in_err-second.ensures.0 (slots_read c.sync.result (g.D.Disk.state c.args.disk.now) (g.D.Disk.state c.sync.new.self) c.sync.ensures.log c.sync.ensures.contents
+    rw c.from_residual-in_err-second.ensures.0
+    (slots_read c.sync.result (g.D.Disk.state c.args.disk.now) (g.D.Disk.state c.sync.new.self) c.sync.ensures.log c.sync.ensures.contents
     true (g.D.Disk.state c.read_slot.new.disk) (g.D.Disk.state c.read_slot-2.new.disk) c.read_slot.ensures.same first second)
 
 pub returns-clause-calls : goal.returns-clause-calls

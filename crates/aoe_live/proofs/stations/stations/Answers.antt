@@ -13,4 +13,5 @@ pub memory_alone-requires : goal.memory_alone-requires
 memory_alone-requires c =
     let P : Option ScriptRefusal → Type 0 = λ cause. FailsFor {T = ScriptLines} cause (Err c.in-Err.refusal) in
     let good = is-script c.args.sectors c.requires.some c.requires.most in
-    subst P (ap refusal (c.as_slice.ensures.value ∙ c.in_ok-text.ensures) ∙ c.printed_script_reads_back.ensures.accepted _ good (text-short c.args.sectors c.requires.most)) c.in-Err.ensures.cause
+    subst P (ap refusal (c.as_slice.ensures.value ∙ c.in_ok-text.ensures)
+    ∙ c.printed_script_reads_back.ensures.accepted _ good (text-short c.args.sectors c.requires.most)) c.in-Err.ensures.cause

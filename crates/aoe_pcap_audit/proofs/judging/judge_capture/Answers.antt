@@ -16,7 +16,8 @@ pub returns-in-Ok-None-clause-run : goal.returns-in-Ok-None-clause-run
 returns-in-Ok-None-clause-run g c = λ lists fed.
     let s = c.records.invariant.so_far lists fed in
     let e = c.turn.ensures.end (c.in-Ok-None.is ∙ ap Ok c.in-Ok-None.field-0-is) in
-    concluded lists c.records.audit _ _ _ _ _ s _ c.records.invariant.station c.conclude.result _ _ e.0 e.1 e.2 c.conclude.ensures.passes c.conclude.ensures.left
+    concluded lists c.records.audit _ _ _ _ _ s _ c.records.invariant.station c.conclude.result _ _ e.0 e.1 e.2 c.conclude.ensures.passes
+    c.conclude.ensures.left
 
 pub returns-in-Err-turn-clause-run : goal.returns-in-Err-turn-clause-run
 returns-in-Err-turn-clause-run g c = λ lists fed.
@@ -29,7 +30,8 @@ records-preserved g c = record {
   so_far = λ lists fed.
       let s = c.records.invariant.so_far lists fed in
       let behind = behind-of lists c.records.audit _ _ _ _ _ s (c.records.count + 1) refl in
-      so-far-then lists c.records.audit _ _ _ _ _ s c.turn.new.audit _ c.in-Ok-Some.total (rw c.in-Ok-Some.field-0-is at (c.in-Ok-Some.ensures.came lists s.packets behind));
+      so-far-then lists c.records.audit _ _ _ _ _ s c.turn.new.audit _ c.in-Ok-Some.total
+      (rw c.in-Ok-Some.field-0-is at (c.in-Ok-Some.ensures.came lists s.packets behind));
   station = c.turn.ensures.station ∙ c.records.invariant.station;
   few = rw c.in-Ok-Some.field-0-is at c.in-Ok-Some.ensures.few;
   faults = c.in-Ok-Some.ensures.source_blame.no_fault (λ e. cc) ∙ c.records.invariant.faults;

@@ -6,7 +6,8 @@ use Rattle.aoe_pcap_audit.proofs.judging.judge_capture.Given as goal
 
 abbrev pub invariant-records : goal.invariant-records
 invariant-records g l = record {
-  so_far : (lists : Settings) → HasHeard lists l.fn.audit [] → SoFar lists l.audit (g.S.Source.left l.fn.source) (g.S.Source.left l.source) l.head.big l.count l.captured;
+  so_far : (lists : Settings) → HasHeard lists l.fn.audit []
+      → SoFar lists l.audit (g.S.Source.left l.fn.source) (g.S.Source.left l.source) l.head.big l.count l.captured;
   station : l.audit.station ≡ l.fn.audit.station;
   few : l.captured ≤ 536870912;
   faults : g.S.Source.faults l.source ≡ g.S.Source.faults l.fn.source;

@@ -8,4 +8,5 @@ returns-then-end-text-clause-line c =
 
 pub returns-clause-line : goal.returns-clause-line
 returns-clause-line c =
-    first_line c.args.text.now c.without_return.result.now c.from-2.result.now c.until-end.result c.until-end.ensures.place (search rules) c.without_return.ensures c.from-2.ensures
+    first_line c.args.text.now c.without_return.result.now c.from-2.result.now c.until-end.result c.until-end.ensures.place
+    (search rules) c.without_return.ensures c.from-2.ensures

@@ -16,7 +16,8 @@ pub returns-then-is_full : goal.returns-then-is_full
 unfolding macs_of
 returns-then-is_full c =
     too_many_read mac_of 64 c.args.text.now _ _ _ _ (search rules) (search rules) (search rules) (λ x b q k. search rules)
-    c.parts.yielded c.parts.yielded_by _ c.parts.invariant.so_far c.next.ensures.steps c.in-Some.part c.in-Some.is c.in_ok-mac.mac c.in_ok-mac.ensures (search rules)
+    c.parts.yielded c.parts.yielded_by _ c.parts.invariant.so_far c.next.ensures.steps c.in-Some.part c.in-Some.is c.in_ok-mac.mac c.in_ok-mac.ensures
+    (search rules)
 
 pub parts-preserved : goal.parts-preserved
 parts-preserved c = record {

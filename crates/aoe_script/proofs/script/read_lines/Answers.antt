@@ -7,8 +7,10 @@ use Rattle.aoe_script.proofs.script.read_lines.Goals as goal
 
 pub returns-in-Err-clause-cause : goal.returns-in-Err-clause-cause
 returns-in-Err-clause-cause c =
-    fails c.args.text.now c.lines.rest.now c.in-Some.line.now c.in-Some.next.now c.lines.number c.lines.script c.lines.invariant c.in-Some.ensures.line (Unit {0}) ScriptLines c.in-Err.refusal c.requires
-    (let P : Line → Type 0 = λ l. FailsFor {T = Unit {0}} (line_refusal (c.lines.number + 1) c.lines.script l) (Err c.in-Err.refusal) in subst P c.in-Ok.ensures.said c.in-Err.ensures.cause)
+    fails c.args.text.now c.lines.rest.now c.in-Some.line.now c.in-Some.next.now c.lines.number c.lines.script c.lines.invariant c.in-Some.ensures.line
+    (Unit {0}) ScriptLines c.in-Err.refusal c.requires
+    (let P : Line → Type 0 = λ l. FailsFor {T = Unit {0}} (line_refusal (c.lines.number + 1) c.lines.script l) (Err c.in-Err.refusal) in
+    subst P c.in-Ok.ensures.said c.in-Err.ensures.cause)
 
 pub returns-in_default-read_line-clause-memory : goal.returns-in_default-read_line-clause-memory
 returns-in_default-read_line-clause-memory c = λ e.

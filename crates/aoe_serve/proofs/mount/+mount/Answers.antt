@@ -7,7 +7,8 @@ use Rattle.aoe_serve.proofs.mount.+mount.Goals as goal
 
 pub returns-in-Err-mount-clause-refused : goal.returns-in-Err-mount-clause-refused
 returns-in-Err-mount-clause-refused g t c =
-    given-then _ _ _ _ _ _ _ c.split_at_mut-others.ensures.value c.take_pair-file.ensures _ _ _ _ _ c.in-Ok.ensures.store c.close.ensures.file c.put_pair-in-Err-mount.ensures c.in-Err-mount.ensures.refused
+    given-then _ _ _ _ _ _ _ c.split_at_mut-others.ensures.value c.take_pair-file.ensures _ _ _ _ _ c.in-Ok.ensures.store c.close.ensures.file
+    c.put_pair-in-Err-mount.ensures c.in-Err-mount.ensures.refused
 
 pub seat-requires-clause-free : goal.seat-requires-clause-free
 seat-requires-clause-free g t c =
@@ -26,7 +27,8 @@ pub returns-in-Err-seat-clause-refused : goal.returns-in-Err-seat-clause-refused
 returns-in-Err-seat-clause-refused g t c =
     let D = g.row.D.Denot in
     let back =
-    subst (λ (r : ShelfTable (AnyStore D) D). AreBack g.D.Disk.state g.M.Most.most c.unmount.new.disks r.targets) c.in-Err-seat.ensures.same c.unmount.ensures.back in
+    subst (λ (r : ShelfTable (AnyStore D) D). AreBack g.D.Disk.state g.M.Most.most c.unmount.new.disks r.targets) c.in-Err-seat.ensures.same
+    c.unmount.ensures.back in
     refused-then _ _ _ _ _ _ _ c.split_at_mut-others.ensures.value c.take_pair-file.ensures _ _ _ _ _ _ _ _ _ _ _ c.in-Ok-mount.ensures.seated back
     (sym c.count-slot.ensures.count)
     c.in-Ok.ensures.store c.in-Err-seat.ensures.store c.close-in-Err-seat.ensures.file c.put_pair-in-Err-seat.ensures c.in-Err-seat.ensures.refused

@@ -10,7 +10,11 @@ returns-clause-seated g c =
     let D = g.row.D.Denot in
     let shelf = c.args.shelf.now in
     record {
-      target = record { station = named shelf.major shelf.ports shelf.mtu c.args.minor (any_state g.D.Disk.state c.args.store).sectors; keep = c.in-Ok.keep; store = c.args.store };
+      target = record {
+        station = named shelf.major shelf.ports shelf.mtu c.args.minor (any_state g.D.Disk.state c.args.store).sectors;
+        keep = c.in-Ok.keep;
+        store = c.args.store;
+      };
       added = ap (λ (r : ShelfTable (AnyStore D) D). r.targets) c.in-Ok-add.ensures.added;
       seated = record {
         station = refl;

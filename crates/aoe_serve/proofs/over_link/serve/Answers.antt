@@ -5,11 +5,16 @@ use Rattle.aoe_serve.proofs.TurnLemmas.{rest_then}
 use Rattle.aoe_serve.proofs.over_link.serve.Goals as goal
 
 pub frames-init : goal.frames-init
-frames-init g c = (begun c.args.frames c.args.idle (g.L.Link.turns c.args.link.now) (g.L.Link.given c.args.link.now) (g.L.Link.taken c.args.link.now) _, refl, refl)
+frames-init g c = (
+  begun c.args.frames c.args.idle (g.L.Link.turns c.args.link.now) (g.L.Link.given c.args.link.now) (g.L.Link.taken c.args.link.now) _,
+  refl,
+  refl,
+)
 
 pub returns-in-Ok-Quiet-clause-run : goal.returns-in-Ok-Quiet-clause-run
 returns-in-Ok-Quiet-clause-run g c =
-    by_silence c.args.frames c.args.idle _ _ _ _ _ _ _ _ _ _ _ c.frames.count c.frames-test.true c.wait.new.out.items c.frames.invariant.0 c.wait.ensures.taken (rw c.in-Ok-Quiet.field-0-is at c.in-Ok-Quiet.ensures.waited)
+    by_silence c.args.frames c.args.idle _ _ _ _ _ _ _ _ _ _ _ c.frames.count c.frames-test.true c.wait.new.out.items c.frames.invariant.0 c.wait.ensures.taken
+    (rw c.in-Ok-Quiet.field-0-is at c.in-Ok-Quiet.ensures.waited)
 
 pub returns-in-Ok-Ended-clause-run : goal.returns-in-Ok-Ended-clause-run
 returns-in-Ok-Ended-clause-run g c =
@@ -18,12 +23,14 @@ returns-in-Ok-Ended-clause-run g c =
 
 pub returns-in-Err-clause-run : goal.returns-in-Err-clause-run
 returns-in-Err-clause-run g c =
-    by_failure c.args.frames c.args.idle _ _ _ _ _ _ _ _ _ _ _ c.frames.count c.frames-test.true c.wait.new.out.items c.frames.invariant.0 c.wait.ensures.taken c.in-Err.field-0 c.in-Err.ensures.waited
+    by_failure c.args.frames c.args.idle _ _ _ _ _ _ _ _ _ _ _ c.frames.count c.frames-test.true c.wait.new.out.items c.frames.invariant.0 c.wait.ensures.taken
+    c.in-Err.field-0 c.in-Err.ensures.waited
 
 pub returns-in-Err-round-clause-run : goal.returns-in-Err-round-clause-run
 returns-in-Err-round-clause-run g c =
     let L = g.L.Link in
-    by_break c.args.frames c.args.idle _ _ _ _ _ _ _ _ _ _ _ c.frames.count c.frames-test.true c.wait.new.out.items c.frames.invariant.0 c.wait.ensures.taken _ _ _ _ c.round.result _ _
+    by_break c.args.frames c.args.idle _ _ _ _ _ _ _ _ _ _ _ c.frames.count c.frames-test.true c.wait.new.out.items c.frames.invariant.0 c.wait.ensures.taken _
+    _ _ _ c.round.result _ _
     (rw c.in-Ok-Frame.field-0-is at c.in-Ok-Frame.ensures.waited)
     (rw c.as_slice.ensures.value at c.round.ensures.round) c.in-Err-round.field-0 c.in-Err-round.is
 
@@ -31,7 +38,8 @@ pub frames-preserved : goal.frames-preserved
 frames-preserved g c =
     let L = g.L.Link in
     let r = rw c.as_slice.ensures.value at c.round.ensures.round in (
-      by_frame c.args.frames c.args.idle _ _ _ _ _ _ _ _ _ _ _ c.frames.count c.frames-test.true c.wait.new.out.items c.frames.invariant.0 c.wait.ensures.taken _ _ _ _ c.round.result _ _
+      by_frame c.args.frames c.args.idle _ _ _ _ _ _ _ _ _ _ _ c.frames.count c.frames-test.true c.wait.new.out.items c.frames.invariant.0 c.wait.ensures.taken
+          _ _ _ _ c.round.result _ _
           (rw c.in-Ok-Frame.field-0-is at c.in-Ok-Frame.ensures.waited) r c.in-Ok.is,
       rest_then c.args.shelf.now c.frames.shelf c.round.new.shelf c.frames.invariant.1 c.round.ensures.rest,
       same_faults c.round.result _ _ c.in-Ok.is r.took.counts ∙ c.in-Ok-Frame.ensures.link_blame.no_fault (λ e. cc) ∙ c.frames.invariant.2,

@@ -12,7 +12,8 @@ returns-clause-ran g c =
     let shelf = c.args.shelf.now in
     let ended = c.finish-unsynced.new.mirror in
     let end : MirrorEnd = record { end = c.run-end.result; unsynced = c.finish-unsynced.result } in
-    let back : MirrorDisks g.row.D.Denot = record { one = c.close-one.result.0; two = c.close-one.result.1; mark = c.close-one.result.2; keep = c.close.result } in
+    let back : MirrorDisks g.row.D.Denot =
+    record { one = c.close-one.result.0; two = c.close-one.result.1; mark = c.close-one.result.2; keep = c.close.result } in
     let of : IsOf state back (pair state ended) =
     is_of state ended.sides c.finish-unsynced.ensures.mirror.mark.side back c.close-one.ensures.one c.close-one.ensures.two c.close-one.ensures.mark in
     ran_mirror state (named shelf.major shelf.ports shelf.mtu c.args.minor) g.G.Given.faults _ c.args.plan end _ _ c.args.mirror c.args.keep back

@@ -7,4 +7,5 @@ returns-in-Replies-clause-round g c =
 
 pub returns-in-Capture-clause-round : goal.returns-in-Capture-clause-round
 returns-in-Capture-clause-round g c =
-    round-noted g.K.Sink.held g.K.Sink.faults _ _ c.in-Capture.is _ _ _ _ _ _ _ c.as_slice-in-Capture.ensures.value _ _ c.note-noted.ensures c.round-in-Capture.ensures.round
+    round-noted g.K.Sink.held g.K.Sink.faults _ _ c.in-Capture.is _ _ _ _ _ _ _ c.as_slice-in-Capture.ensures.value _ _ c.note-noted.ensures
+    c.round-in-Capture.ensures.round

@@ -41,5 +41,13 @@ slots-preserved g c =
 pub returns-clause-round : goal.returns-clause-round
 returns-clause-round g c =
     let s = c.slots.invariant.0 in
-    let whole : length s.0 ≡ length (slots_of g.S.Store.lasts g.S.Store.state g.D.Disk.state c.args.shelf.now.targets) = omega (arith, s.1, c.slots-test.false, c.slots.auto.slot-end, c.count-slot-end.ensures.count, count_slots g.S.Store.lasts g.S.Store.state g.D.Disk.state c.args.shelf.now.targets) in
+    let whole : length s.0 ≡ length (slots_of g.S.Store.lasts g.S.Store.state g.D.Disk.state c.args.shelf.now.targets) =
+    omega (
+      arith,
+      s.1,
+      c.slots-test.false,
+      c.slots.auto.slot-end,
+      c.count-slot-end.ensures.count,
+      count_slots g.S.Store.lasts g.S.Store.state g.D.Disk.state c.args.shelf.now.targets,
+    ) in
     record { fates = s.0; meets = partly_whole _ _ c.args.frame.now s.0 s.2 whole; took = s.3 }

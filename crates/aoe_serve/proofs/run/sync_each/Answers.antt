@@ -29,5 +29,13 @@ returns-clause-syncs g c =
     let s = c.slots.invariant.0 in
     let old = c.args.shelf.now.targets in
     let whole : length s.0 ≡ length (slots_of g.S.Store.lasts g.S.Store.state g.D.Disk.state old) =
-    omega (arith, s.1, c.slots-test.false, c.slots.auto.slot-end, c.count-slot-end.ensures.count, length-map old (slot_of g.S.Store.lasts g.S.Store.state g.D.Disk.state)) in
+    omega (
+      arith,
+      s.1,
+      c.slots-test.false,
+      c.slots.auto.slot-end,
+      c.count-slot-end.ensures.count,
+      length-map old
+          (slot_of g.S.Store.lasts g.S.Store.state g.D.Disk.state),
+    ) in
     (s.0, partly_whole _ _ s.0 s.2 whole, s.3)

@@ -8,7 +8,8 @@ use Rattle.aoe_serve.proofs.run.sync_each.Given as goal
 
 abbrev pub invariant-slots : goal.invariant-slots
 invariant-slots g l = ((results : List (Result (Unit {0}) Failed)) × (length results ≡ l.slot)
-    × Partly (slots_of g.S.Store.lasts g.S.Store.state g.D.Disk.state l.initial.shelf.targets) (slots_of g.S.Store.lasts g.S.Store.state g.D.Disk.state l.shelf.targets) results
+    × Partly (slots_of g.S.Store.lasts g.S.Store.state g.D.Disk.state l.initial.shelf.targets)
+    (slots_of g.S.Store.lasts g.S.Store.state g.D.Disk.state l.shelf.targets) results
     × (l.first ≡ first_failed results))
     × (l.shelf ≡ record l.initial.shelf { targets = l.shelf.targets })
     × (length l.shelf.targets ≡ length l.initial.shelf.targets)

@@ -30,4 +30,5 @@ returns-clause-reads g c =
     subst P (sym out) (subst Q size c.read.ensures.reads)
 
 pub returns-clause-front : goal.returns-clause-front
-returns-clause-front g c = before c.args.out.now.items c.as_mut_slice.result.now c.read.new.out (512 * c.args.span.count) c.as_mut_slice.ensures.value c.requires.len c.read.auto.out
+returns-clause-front g c = before c.args.out.now.items c.as_mut_slice.result.now c.read.new.out
+    (512 * c.args.span.count) c.as_mut_slice.ensures.value c.requires.len c.read.auto.out

@@ -10,7 +10,8 @@ total_in-requires g c = rw (behind c.deref.ensures.0) c.in-Ok.ensures.here.1
 pub returns-in-Ok-clause-asks : goal.returns-in-Ok-clause-asks
 returns-in-Ok-clause-asks g c =
     let args = behind c.deref.ensures.0 in
-    let frame : c.write_request.new.out.items ≡ page_frame c.args.ask_by.now c.args.id c.args.first c.args.remote = rw c.question-question.ensures at c.write_request.ensures.bytes in (
+    let frame : c.write_request.new.out.items ≡ page_frame c.args.ask_by.now c.args.id c.args.first c.args.remote =
+    rw c.question-question.ensures at c.write_request.ensures.bytes in (
       Ok record { reply = c.in-Ok.reply; args = drop 24 c.ask.new.frame.items },
       asked-as c.question-question.ensures frame c.in-Ok.ensures.asks,
       ap Ok (c.unwrap_or.ensures ∙ ap (λ o. unwrap_or o 0) c.total_in.ensures.value ∙ ap (total_of c.in-Ok.reply.answer) args),

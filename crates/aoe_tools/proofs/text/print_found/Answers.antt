@@ -4,4 +4,5 @@ use Rattle.aoe_tools.proofs.text.print_found.Goals as goal
 
 pub devices-preserved : goal.devices-preserved
 devices-preserved c =
-    one_more (device_line c.args.long) c.args.found.now c.devices.i c.device.result.now c.devices.out.items c.put_line.new.out.items c.device.ensures c.devices.invariant c.in_ok-put_line.ensures
+    one_more (device_line c.args.long) c.args.found.now c.devices.i c.device.result.now c.devices.out.items c.put_line.new.out.items c.device.ensures
+    c.devices.invariant c.in_ok-put_line.ensures

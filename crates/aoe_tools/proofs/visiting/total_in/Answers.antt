@@ -16,4 +16,6 @@ page-in a len args page result is fill same reads =
     rw is (reads ∙ ap declared (same ∙ ap (take 512) (take_rest args 12) ∙ ap (λ n. take n (drop 12 args)) count))
 
 pub returns-in-Some-clause-value : goal.returns-in-Some-clause-value
-returns-in-Some-clause-value c = page-in c.args.answer c.in-Data.len c.args.args.now c.in-Some.page.now c.read_identify.result c.in-Data.is c.requires c.in-Some.ensures.cases.same c.read_identify.ensures.declared
+returns-in-Some-clause-value c =
+    page-in c.args.answer c.in-Data.len c.args.args.now c.in-Some.page.now c.read_identify.result c.in-Data.is c.requires c.in-Some.ensures.cases.same
+    c.read_identify.ensures.declared

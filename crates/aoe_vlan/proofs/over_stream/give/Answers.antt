@@ -18,7 +18,8 @@ returns-in_default-clause-all g c = λ before learnt.
 pub returns-clause-all : goal.returns-clause-all
 returns-clause-all g c = λ before learnt.
     let P : List ℕ → Type 0 = λ xs. OnOk c.give_each.result (Took (g.K.Sink.held c.args.sink.now) (g.K.Sink.held c.give_each.new.sink) xs) in
-    let bytes = each-given c.args.switch.now.ports c.take-going.new.self.ports before c.args.port c.from.result c.in-Some.vid c.take-going.result.vid c.args.frame.now c.as_slice.result.now
+    let bytes = each-given c.args.switch.now.ports c.take-going.new.self.ports before c.args.port c.from.result c.in-Some.vid c.take-going.result.vid
+    c.args.frame.now c.as_slice.result.now
     c.take-going.result.ports.items c.take-going.ensures.same_ports c.from.ensures c.take-going.ensures.vid c.in-Some.is c.as_slice.ensures.value
     (c.take-going.ensures.ports before learnt) in
     subst P bytes c.give_each.ensures.all
@@ -26,7 +27,8 @@ returns-clause-all g c = λ before learnt.
 pub returns-clause-some : goal.returns-clause-some
 returns-clause-some g c = λ before learnt.
     let P : List ℕ → Type 0 = λ xs. OnErr c.give_each.result (TookSome (g.K.Sink.held c.args.sink.now) (g.K.Sink.held c.give_each.new.sink) xs) in
-    let bytes = each-given c.args.switch.now.ports c.take-going.new.self.ports before c.args.port c.from.result c.in-Some.vid c.take-going.result.vid c.args.frame.now c.as_slice.result.now
+    let bytes = each-given c.args.switch.now.ports c.take-going.new.self.ports before c.args.port c.from.result c.in-Some.vid c.take-going.result.vid
+    c.args.frame.now c.as_slice.result.now
     c.take-going.result.ports.items c.take-going.ensures.same_ports c.from.ensures c.take-going.ensures.vid c.in-Some.is c.as_slice.ensures.value
     (c.take-going.ensures.ports before learnt) in
     subst P bytes c.give_each.ensures.some

@@ -26,7 +26,8 @@ frames-preserved g c = record {
 pub returns-in-Err-clause-run : goal.returns-in-Err-clause-run
 returns-in-Err-clause-run g c = λ before learnt.
     let s = c.frames.invariant.so_far before learnt in
-    ends c.in-Err.end c.args.switch.now c.frames.switch c.turn.new.switch before _ _ _ _ _ _ c.frames.offset c.frames.count c.frames-test.true c.frames.invariant.ports s
+    ends c.in-Err.end c.args.switch.now c.frames.switch c.turn.new.switch before _ _ _ _ _ _ c.frames.offset c.frames.count c.frames-test.true
+    c.frames.invariant.ports s
     (c.in-Err.ensures.ends (s.inputs ++ before) s.learnt)
 
 pub returns-clause-run : goal.returns-clause-run

@@ -5,7 +5,10 @@ use Rattle.aoe_vlan.proofs.TableLemmas.{blank-more, kept-more, there-some, there
 use Rattle.aoe_vlan.proofs.switch.add_table.Goals as goal
 
 pub returns-then-is_some-clause-there : goal.returns-then-is_some-clause-there
-returns-then-is_some-clause-there c = there-some c.args.vid c.args.tables.now.items (ap (λ (l : List Table). is_some (position (λ t. nat_eq t.vid c.args.vid) l)) (sym c.deref.ensures.value) ∙ ap is_some (sym c.index_of.ensures) ∙ sym c.is_some.ensures ∙ c.if-is_some.true)
+returns-then-is_some-clause-there c =
+    there-some c.args.vid c.args.tables.now.items
+    (ap (λ (l : List Table). is_some (position (λ t. nat_eq t.vid c.args.vid) l)) (sym c.deref.ensures.value) ∙ ap is_some (sym c.index_of.ensures)
+    ∙ sym c.is_some.ensures ∙ c.if-is_some.true)
 
 pub returns-clause-blank : goal.returns-clause-blank
 returns-clause-blank c =

@@ -17,7 +17,8 @@ numbers-preserved c =
     let number = get_or c.as_slice-vid-items.result.now c.numbers.vid-index 0 in (
       added.blank,
       λ vid some. added.kept vid (c.numbers.invariant.1 vid some),
-      covers-more (λ vid n. nat_eq n vid) c.as_slice-vid-items.result.now c.numbers.vid-index number 0 c.numbers.tables.items now c.numbers-test.true refl added.kept
+      covers-more (λ vid n. nat_eq n vid) c.as_slice-vid-items.result.now c.numbers.vid-index number 0 c.numbers.tables.items now c.numbers-test.true refl
+          added.kept
           (λ vid e. subst (λ v. IsSome (stations_of v now)) (eqb-true number vid e) added.there) c.numbers.invariant.2,
     )
 

@@ -33,7 +33,9 @@ returns-clause-place c =
     let first = ap P (sym c.deref.ensures.value) ∙ sym c.index_of.ensures ∙ c.in-Some.is in
     let place =
     c.find.ensures
-    ∙ place-found c.args.vid _ c.args.port c.args.tables.now.items c.in-Some.index c.index_mut.result.now c.learn.new.self first c.index_mut.ensures.value c.learn.ensures c.index.result.now c.destination-destination.result c.index.ensures
+    ∙ place-found c.args.vid _ c.args.port c.args.tables.now.items c.in-Some.index c.index_mut.result.now c.learn.new.self first c.index_mut.ensures.value
+    c.learn.ensures c.index.result.now c.destination-destination.result c.index.ensures
     ∙ ap (λ (a : Mac). found_in c.args.vid (slice_set c.args.tables.now.items c.in-Some.index c.learn.new.self) a) c.destination-destination.ensures in
     let one = ap is_individual (sym c.destination-destination.ensures) ∙ sym c.is_individual.ensures ∙ c.if-not-is_individual.false in
-    place ∙ ap (λ t. cond t (found_in c.args.vid (slice_set c.args.tables.now.items c.in-Some.index c.learn.new.self) (destination_of c.args.frame.now)) None) (sym one)
+    place ∙ ap (λ t. cond t (found_in c.args.vid (slice_set c.args.tables.now.items c.in-Some.index c.learn.new.self) (destination_of c.args.frame.now)) None)
+    (sym one)

@@ -3,7 +3,8 @@ use Rattle.aoe_world.proofs.BuildHost.{device-can, host-begun, host-built, host-
 use Rattle.aoe_world.proofs.build.build_host.Goals as goal
 
 pub overflow_cast-room : goal.overflow_cast-room
-overflow_cast-room c = let words = words-of c.setups-count.ensures.script c.requires.0 c.requires.1 in omega (arith, words.room, rw c.from.ensures at c.unwrap_or-room.ensures)
+overflow_cast-room c = let words = words-of c.setups-count.ensures.script c.requires.0 c.requires.1 in
+    omega (arith, words.room, rw c.from.ensures at c.unwrap_or-room.ensures)
 
 pub new-requires : goal.new-requires
 new-requires c =

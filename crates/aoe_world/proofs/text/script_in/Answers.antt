@@ -4,4 +4,5 @@ use Rattle.aoe_world.proofs.TextLemmas.{refused_text}
 use Rattle.aoe_world.proofs.text.script_in.Goals as goal
 
 pub returns-in-Err-clause-refused : goal.returns-in-Err-clause-refused
-returns-in-Err-clause-refused c = rw c.refused_as.ensures (refused_text c.args.text.now c.in-Err.refusal c.in-Err.ensures.cause (λ e. c.in-Err.ensures.memory (ap Err e)))
+returns-in-Err-clause-refused c =
+    rw c.refused_as.ensures (refused_text c.args.text.now c.in-Err.refusal c.in-Err.ensures.cause (λ e. c.in-Err.ensures.memory (ap Err e)))

@@ -10,7 +10,8 @@ returns-in_default-clause-wrong c = λ lists c' p heard is frame same.
 pub returns-in-Ok-Nothing-clause-passed : goal.returns-in-Ok-Nothing-clause-passed
 returns-in-Ok-Nothing-clause-passed c = λ lists c' heard same.
     next-passed lists c' c.args.self.now c.pop.new.self heard c.in-Some.request
-    (c.pop.ensures.waiting ∙ ap (λ o. option_to_list o ++ c.pop.new.self.waiting) c.in-Some.is) c.pop.ensures.same c.args.reply.now c.tell.new.self c.tell.ensures.same
+    (c.pop.ensures.waiting ∙ ap (λ o. option_to_list o ++ c.pop.new.self.waiting) c.in-Some.is) c.pop.ensures.same c.args.reply.now c.tell.new.self
+    c.tell.ensures.same
     (rw c.in-Ok-Nothing.field-0-is at c.in-Ok-Nothing.ensures.told)
 
 pub returns-in-Ok-Wrong-clause-wrong : goal.returns-in-Ok-Wrong-clause-wrong
@@ -23,5 +24,6 @@ pub returns-in-Ok-By-clause-taken : goal.returns-in-Ok-By-clause-taken
 returns-in-Ok-By-clause-taken c = λ lists c' p heard is frame same.
     next-taken lists c' c.args.self.now c.pop.new.self heard c.in-Some.request
     (c.pop.ensures.waiting ∙ ap (λ o. option_to_list o ++ c.pop.new.self.waiting) c.in-Some.is) c.pop.ensures.same c.args.reply.now c.tell.new.self
-    c.count_reply.new.self p c.in-Ok-By.effect c.tell.ensures.same c.count_reply.ensures.same (rw c.in-Ok-By.field-0-is at c.in-Ok-By.ensures.told) is frame c.count_reply.ensures.requests
+    c.count_reply.new.self p c.in-Ok-By.effect c.tell.ensures.same c.count_reply.ensures.same
+    (rw c.in-Ok-By.field-0-is at c.in-Ok-By.ensures.told) is frame c.count_reply.ensures.requests
     c.count_reply.ensures.replies c.count_reply.ensures.faults

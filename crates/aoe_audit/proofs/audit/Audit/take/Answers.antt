@@ -19,9 +19,11 @@ returns-in-Request-clause-heard c = λ lists c' heard.
     let is : class_of a.station p ≡ class.Request = sym (c.class_of.ensures c.args.number) ∙ c.in-Request.is in
     let whole : c.args.whole ≡ true = whole-request a.station p is in
     on-ok c.take_request.result (λ same.
-    heard-request lists c' a heard p b is (ap (λ (x : Auditing). x.station) same) (ap (λ (x : Auditing). x.knowing) same) (ap (λ (x : Auditing). x.refused) same)
+    heard-request lists c' a heard p b is (ap (λ (x : Auditing). x.station) same) (ap (λ (x : Auditing). x.knowing) same)
+    (ap (λ (x : Auditing). x.refused) same)
     (ap (λ (x : Auditing). x.waiting) same ∙ (λ i. a.waiting ++ (record { number = c.args.number; frame = c.args.frame.now; whole = sym whole i }) ∷ []))
-    (ap (λ (x : Auditing). x.tally.requests) same) (ap (λ (x : Auditing). x.tally.replies) same) (ap (λ (x : Auditing). x.tally.faults) same)) c.take_request.ensures.waiting
+    (ap (λ (x : Auditing). x.tally.requests) same) (ap (λ (x : Auditing). x.tally.replies) same) (ap (λ (x : Auditing). x.tally.faults) same))
+    c.take_request.ensures.waiting
 
 pub returns-in-Reply-clause-cause : goal.returns-in-Reply-clause-cause
 returns-in-Reply-clause-cause c = λ lists c' heard.

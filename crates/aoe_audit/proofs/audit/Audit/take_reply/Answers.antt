@@ -9,7 +9,8 @@ returns-in-Ok-Taken-clause-station c = c.next.ensures.station ∙ c.requests.inv
 
 pub returns-in-Ok-Taken-clause-heard : goal.returns-in-Ok-Taken-clause-heard
 returns-in-Ok-Taken-clause-heard c = λ lists c' p heard is frame.
-    c.next.ensures.taken lists c' p (c.requests.invariant.heard lists c' heard) (ap (λ (s : Station). class_of s p) c.requests.invariant.station ∙ is) frame (cc)
+    c.next.ensures.taken lists c' p (c.requests.invariant.heard lists c' heard) (ap (λ (s : Station). class_of s p) c.requests.invariant.station ∙ is) frame
+    (cc)
 
 pub returns-in-Ok-Wrong-clause-station : goal.returns-in-Ok-Wrong-clause-station
 returns-in-Ok-Wrong-clause-station c = c.next.ensures.station ∙ c.requests.invariant.station
@@ -20,7 +21,8 @@ returns-in-Ok-Wrong-clause-cause c = λ lists c' p heard is frame number. (
   (
     is,
     λ judged.
-        c.next.ensures.wrong lists c' p (c.requests.invariant.heard lists c' heard) (ap (λ (s : Station). class_of s p) c.requests.invariant.station ∙ is) frame (cc)
+        c.next.ensures.wrong lists c' p (c.requests.invariant.heard lists c' heard) (ap (λ (s : Station). class_of s p) c.requests.invariant.station ∙ is) frame
+        (cc)
         (subst (λ (s : Station). IsJudgedSoFar s lists (p ∷ c')) (sym c.requests.invariant.station) judged),
   ),
 )

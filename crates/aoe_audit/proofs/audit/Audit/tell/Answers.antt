@@ -8,7 +8,8 @@ use Rattle.aoe_audit.proofs.audit.Audit.tell.Goals as goal
 pub returns-clause-told : goal.returns-clause-told
 returns-clause-told c = λ k known.
     let S = c.self.inside.judge in
-    subst (λ (a : Auditing). IsKnown a.knowing k → IfOk c.tell.result (IsTold a.station k c.args.request.now.frame c.args.reply.now a.knowing c.tell.new.self.knowing))
+    subst (λ (a : Auditing). IsKnown a.knowing k
+    → IfOk c.tell.result (IsTold a.station k c.args.request.now.frame c.args.reply.now a.knowing c.tell.new.self.knowing))
     c.self.view_is
     (λ own.
     subst (λ (f : List ℕ). IfOk c.tell.result (IsTold S.station k f c.args.reply.now S.knowing c.tell.new.self.knowing))

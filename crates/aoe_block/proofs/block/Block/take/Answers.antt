@@ -16,7 +16,8 @@ returns-in_default-clause-parts c =
 
 -- the command that ended is the part that was found
 taken : (c : After-is_success)
-    → TakesPart c.self.inside.total c.self.inside.max c.self.inside.at c.self.inside.count c.self.inside.bytes c.self.inside.stages.items c.first_under_way-self-inside.result c.self.inside.next c.self.inside.left
+    → TakesPart c.self.inside.total c.self.inside.max c.self.inside.at c.self.inside.count c.self.inside.bytes c.self.inside.stages.items
+    c.first_under_way-self-inside.result c.self.inside.next c.self.inside.left
     c.self.inside.write c.args.done c.in-Some.k c.is_success.result
 taken c =
     let first = c.first_under_way-self-inside in
@@ -30,7 +31,8 @@ pub invariant_of-self-then-not-is_success : goal.invariant_of-self-then-not-is_s
 invariant_of-self-then-not-is_success c = failed_keeps (taken (goal.at.invariant_of-self-then-not-is_success c).After-is_success) c.mark.ensures
 
 pub returns-then-not-is_success-clause-took : goal.returns-then-not-is_success-clause-took
-returns-then-not-is_success-clause-took c = rw (← c.self.view_is) (sym (failed_took (taken (goal.at.returns-then-not-is_success-clause-took c).After-is_success) c.if-not-is_success.true))
+returns-then-not-is_success-clause-took c =
+    rw (← c.self.view_is) (sym (failed_took (taken (goal.at.returns-then-not-is_success-clause-took c).After-is_success) c.if-not-is_success.true))
 
 pub returns-then-not-is_success-clause-parts : goal.returns-then-not-is_success-clause-parts
 returns-then-not-is_success-clause-parts c =
@@ -47,7 +49,8 @@ pub invariant_of-self-2 : goal.invariant_of-self-2
 invariant_of-self-2 c = ended_keeps (taken (goal.at.invariant_of-self-2 c).After-is_success) c.if-not-is_success.false c.mark-2.ensures c.lay.ensures
 
 pub returns-clause-took : goal.returns-clause-took
-returns-clause-took c = rw (← c.self.view_is) (c.success.ensures ∙ sym (ended_took (taken (goal.at.returns-clause-took c).After-is_success) c.if-not-is_success.false))
+returns-clause-took c = rw (← c.self.view_is)
+    (c.success.ensures ∙ sym (ended_took (taken (goal.at.returns-clause-took c).After-is_success) c.if-not-is_success.false))
 
 pub returns-clause-parts : goal.returns-clause-parts
 returns-clause-parts c =

@@ -11,5 +11,12 @@ pub returns-then-len-count : goal.returns-then-len-count
 returns-then-len-count c = λ piece.
     let held : List HeldSector = held_of c.args.self.now in
     let within : length (with_written c.args.at c.args.count piece held) ≤ c.args.room =
-    omega (arith, c.if-len-count.true, c.len.ensures.len, length-held c.args.self.now c.requires.buffer.indexed, some_few c.args.at held c.requires.buffer.order c.args.count, length-with_written c.args.at c.args.count piece held) in
+    omega (
+      arith,
+      c.if-len-count.true,
+      c.len.ensures.len,
+      length-held c.args.self.now c.requires.buffer.indexed,
+      some_few c.args.at held c.requires.buffer.order c.args.count,
+      length-with_written c.args.at c.args.count piece held,
+    ) in
     (λ _. within, λ _. le-leb (c.len.result + c.args.count) c.args.room c.if-len-count.true)

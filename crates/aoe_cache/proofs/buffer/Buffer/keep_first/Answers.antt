@@ -18,7 +18,15 @@ places-preserved c =
     record {
       numbers = numbers;
       once = c.insert.ensures.unique;
-      room = omega (arith, c.places.invariant.room, c.insert.ensures.spare, length-first c.places.self.numbers.keys i places c.places.invariant.numbers (omega (arith, c.places-test.true, c.requires.held)), length-first c.insert.new.self.keys (i + 1) places numbers (omega (arith, c.places-test.true, c.requires.held)));
+      room = omega (
+        arith,
+        c.places.invariant.room,
+        c.insert.ensures.spare,
+        length-first c.places.self.numbers.keys i places c.places.invariant.numbers
+            (omega (arith, c.places-test.true, c.requires.held)),
+        length-first c.insert.new.self.keys (i + 1) places numbers
+            (omega (arith, c.places-test.true, c.requires.held)),
+      );
       places = c.places.invariant.places;
     }
 

@@ -27,7 +27,8 @@ sectors-preserved c = λ bytes fits so.
     let now = rw (← c.requires.whole) at (c.sectors.invariant bytes fits so) in
     elim c.match-get.branch [
       | in-Some w ↦
-          let next = lay_next c.args.at n bytes hs fit c.requires.buffer.order c.sectors.i w.in-Some.place.now c.sectors.out c.sectors-test.true w.in-Some.ensures.number (sym w.in-Some.ensures.held) now in
+          let next = lay_next c.args.at n bytes hs fit c.requires.buffer.order c.sectors.i w.in-Some.place.now c.sectors.out c.sectors-test.true
+          w.in-Some.ensures.number (sym w.in-Some.ensures.held) now in
           w.out-is ∙ w.lay_over.ensures ∙ (rw c.requires.whole at next)
       | in_default w ↦
           let none = lay_none c.args.at n bytes hs fit c.requires.buffer.order c.sectors.i (sym w.in_default.ensures.held) in

@@ -13,7 +13,8 @@ sectors-preserved c =
     record {
       numbers = c.sectors.invariant.numbers;
       places = ap length is ∙ length-swap now (c.args.to + c.sectors.i) (c.args.from + c.sectors.i) ∙ c.sectors.invariant.places;
-      moved = rw is (moved_front old now c.args.from c.args.to c.sectors.i c.requires.down there c.sectors.invariant.places c.sectors.invariant.rest c.sectors.invariant.moved);
+      moved = rw is (moved_front old now c.args.from c.args.to c.sectors.i c.requires.down there c.sectors.invariant.places c.sectors.invariant.rest
+          c.sectors.invariant.moved);
       rest = rw is (moved_rest old now c.args.from c.args.to c.sectors.i c.requires.down there c.sectors.invariant.places c.sectors.invariant.rest);
     }
 
@@ -21,10 +22,12 @@ pub returns-clause-moved : goal.returns-clause-moved
 returns-clause-moved c =
     let all : c.sectors.i ≡ c.args.count = omega (arith, c.sectors.auto.i-end, c.sectors-test.false) in
     let moved = rw all at c.sectors.invariant.moved in
-    rw c.sectors.invariant.numbers (used_front c.args.self.now.places.items c.sectors.self.places.items (length c.args.self.now.numbers.keys) c.args.from c.args.to c.args.count c.requires.some c.requires.down moved)
+    rw c.sectors.invariant.numbers (used_front c.args.self.now.places.items c.sectors.self.places.items
+    (length c.args.self.now.numbers.keys) c.args.from c.args.to c.args.count c.requires.some c.requires.down moved)
 
 pub returns-clause-rest : goal.returns-clause-rest
 returns-clause-rest c =
     let all : c.sectors.i ≡ c.args.count = omega (arith, c.sectors.auto.i-end, c.sectors-test.false) in
     let rest = rw all at c.sectors.invariant.rest in
-    rw c.sectors.invariant.numbers (used_rest c.args.self.now.places.items c.sectors.self.places.items (length c.args.self.now.numbers.keys) c.args.from c.args.to c.args.count c.requires.some c.requires.down rest)
+    rw c.sectors.invariant.numbers (used_rest c.args.self.now.places.items c.sectors.self.places.items
+    (length c.args.self.now.numbers.keys) c.args.from c.args.to c.args.count c.requires.some c.requires.down rest)

@@ -10,7 +10,13 @@ pub place_for-index-requires-clause-free : goal.place_for-index-requires-clause-
 place_for-index-requires-clause-free c =
     let e : HeldSector = record { at = c.args.at; bytes = c.args.bytes.now } in
     let xs : List HeldSector = placed c.args.self.now in
-    omega (arith, c.requires.room, length-insert_key e c.args.self.now.numbers.keys xs c.requires.indexed.numbers, length-put_in e xs c.requires.indexed.whole (once_placed c.args.self.now c.requires.indexed))
+    omega (
+      arith,
+      c.requires.room,
+      length-insert_key e c.args.self.now.numbers.keys xs c.requires.indexed.numbers,
+      length-put_in e xs c.requires.indexed.whole
+          (once_placed c.args.self.now c.requires.indexed),
+    )
 
 pub index_mut-requires : goal.index_mut-requires
 index_mut-requires c = omega (arith, c.place_for-index.ensures.within, c.place_for-index.ensures.has.used, c.place_for-index.new.self.places.ok.0)

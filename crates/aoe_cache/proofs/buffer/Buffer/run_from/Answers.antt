@@ -25,12 +25,15 @@ adjacent-preserved c =
     let hs : List HeldSector = drop c.args.from (placed c.args.self.now) in
     let x : HeldSector = c.index-then-from-count.result.now in
     let len = length-take-le (length c.args.self.now.numbers.keys) c.args.self.now.places.items c.requires.order.has.used in
-    let is : x ≡ get_or hs c.adjacent.count x = used_from c.args.self.now.places.items (length c.args.self.now.numbers.keys) c.args.from c.adjacent.count x (omega (arith, c.len-held.ensures.len, c.if-from-count.true)) c.index-then-from-count.ensures in
+    let is : x ≡ get_or hs c.adjacent.count x = used_from c.args.self.now.places.items (length c.args.self.now.numbers.keys) c.args.from c.adjacent.count x
+    (omega (arith, c.len-held.ensures.len, c.if-from-count.true)) c.index-then-from-count.ensures in
     record {
       some = omega arith;
       most = omega arith;
       there = omega arith;
-      adjacent = adjacent_step c.at-first.result c.adjacent.count hs x (omega (arith, len, length-drop c.args.from (placed c.args.self.now), c.if-from-count.true)) is c.adjacent.invariant.adjacent (sym c.at.ensures ∙ c.if-at-first.true);
+      adjacent = adjacent_step c.at-first.result c.adjacent.count hs x
+          (omega (arith, len, length-drop c.args.from (placed c.args.self.now), c.if-from-count.true)) is c.adjacent.invariant.adjacent
+          (sym c.at.ensures ∙ c.if-at-first.true);
     }
 
 pub returns-else-at-first : goal.returns-else-at-first
@@ -46,7 +49,8 @@ returns-else-at-first c =
     used_element c.args.self.now.places.items (length c.args.self.now.numbers.keys) c.args.from x c.requires.some c.index.ensures in
     let first : first_of hs ≡ c.at-first.result =
     first_of-drop held c.args.from x (omega (arith, len, c.requires.some)) ∙ (λ i. (sym is i).at) ∙ sym c.at-first.ensures in
-    let other : y ≡ get_or hs c.adjacent.count y = used_from c.args.self.now.places.items (length c.args.self.now.numbers.keys) c.args.from c.adjacent.count y (omega (arith, c.len-held.ensures.len, c.if-from-count.true)) c.index-then-from-count.ensures in
+    let other : y ≡ get_or hs c.adjacent.count y = used_from c.args.self.now.places.items (length c.args.self.now.numbers.keys) c.args.from c.adjacent.count y
+    (omega (arith, c.len-held.ensures.len, c.if-from-count.true)) c.index-then-from-count.ensures in
     let next : first_of (drop c.adjacent.count hs) ≡ c.at.result =
     first_of-drop hs c.adjacent.count y (omega (arith, len, lh, c.if-from-count.true)) ∙ (λ i. (sym other i).at) ∙ sym c.at.ensures in
     record {

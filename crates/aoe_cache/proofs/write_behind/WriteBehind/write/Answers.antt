@@ -4,7 +4,8 @@ use Rattle.aoe_cache.proofs.Down.{buffer_more, put_buffer, put_room}
 use Rattle.aoe_cache.proofs.write_behind.WriteBehind.write.Goals as goal
 
 pub fits-requires-clause-buffer : goal.fits-requires-clause-buffer
-fits-requires-clause-buffer g c = buffer_more (g.D.Disk.state c.args.self.now.disk).sectors (2 ^ 40) c.args.self.now.buffer c.requires.behind.disk.bound c.requires.behind.buffer
+fits-requires-clause-buffer g c =
+    buffer_more (g.D.Disk.state c.args.self.now.disk).sectors (2 ^ 40) c.args.self.now.buffer c.requires.behind.disk.bound c.requires.behind.buffer
 
 pub put-requires-clause-room : goal.put-requires-clause-room
 put-requires-clause-room g c =

@@ -11,7 +11,8 @@ put-requires-clause-room g c =
     let n : ℕ = length c.args.piece.now / 512 in
     let empty : held_of c.write_down.new.buffer ≡ [] = (empties c.in_ok-write_down.ensures.down).empty in
     let size : length (with_written c.args.at n c.args.piece.now (held_of c.write_down.new.buffer)) ≡ n =
-    ap (λ (l : List HeldSector). length (with_written c.args.at n c.args.piece.now l)) empty ∙ length-with_written c.args.at n c.args.piece.now [] ∙ omega arith in
+    ap (λ (l : List HeldSector). length (with_written c.args.at n c.args.piece.now l)) empty ∙ length-with_written c.args.at n c.args.piece.now []
+    ∙ omega arith in
     omega (arith, size, c.write_down.ensures.places, c.requires.behind.places, c.requires.range.within, c.if-piece-self.false)
 
 pub returns-clause-behind : goal.returns-clause-behind

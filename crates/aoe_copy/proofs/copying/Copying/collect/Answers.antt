@@ -5,7 +5,8 @@ use Rattle.aoe_copy.proofs.copying.Copying.collect.Goals as goal
 pub returns-in-Err-clause-collects : goal.returns-in-Err-clause-collects
 returns-in-Err-clause-collects g c = λ s seen later steps told stands keeps order.
     let a = c.advance.ensures in
-    let adv : Advanced c.args.self.now.host c.advance.new.self c.args.now = record { gives_up = a.gives_up; clock_is = a.clock; same = a.same; last = a.last } in
+    let adv : Advanced c.args.self.now.host c.advance.new.self c.args.now =
+    record { gives_up = a.gives_up; clock_is = a.clock; same = a.same; last = a.last } in
     let t = ticked (record seen { held = g.K.Sink.held c.args.sink.now }) adv told stands keeps order in
     let all = c.take_all-taken.ensures in
     let taken = all.takes (outcomes t.steps') t.keeps.there t.keeps.all (up-to t.stands t.keeps) t.order in
@@ -15,7 +16,8 @@ returns-in-Err-clause-collects g c = λ s seen later steps told stands keeps ord
 pub returns-in-Ok-taken-clause-collects : goal.returns-in-Ok-taken-clause-collects
 returns-in-Ok-taken-clause-collects g c = λ s seen later steps told stands keeps order.
     let a = c.advance.ensures in
-    let adv : Advanced c.args.self.now.host c.advance.new.self c.args.now = record { gives_up = a.gives_up; clock_is = a.clock; same = a.same; last = a.last } in
+    let adv : Advanced c.args.self.now.host c.advance.new.self c.args.now =
+    record { gives_up = a.gives_up; clock_is = a.clock; same = a.same; last = a.last } in
     let t = ticked (record seen { held = g.K.Sink.held c.args.sink.now }) adv told stands keeps order in
     let all = c.take_all-taken.ensures in
     let taken = all.takes (outcomes t.steps') t.keeps.there t.keeps.all (up-to t.stands t.keeps) t.order in
@@ -27,7 +29,8 @@ returns-in-Ok-taken-clause-collects g c = λ s seen later steps told stands keep
 pub returns-in-Err-taken-clause-collects : goal.returns-in-Err-taken-clause-collects
 returns-in-Err-taken-clause-collects g c = λ s seen later steps told stands keeps order.
     let a = c.advance.ensures in
-    let adv : Advanced c.args.self.now.host c.advance.new.self c.args.now = record { gives_up = a.gives_up; clock_is = a.clock; same = a.same; last = a.last } in
+    let adv : Advanced c.args.self.now.host c.advance.new.self c.args.now =
+    record { gives_up = a.gives_up; clock_is = a.clock; same = a.same; last = a.last } in
     let t = ticked (record seen { held = g.K.Sink.held c.args.sink.now }) adv told stands keeps order in
     let all = c.take_all-taken.ensures in
     let taken = all.takes (outcomes t.steps') t.keeps.there t.keeps.all (up-to t.stands t.keeps) t.order in

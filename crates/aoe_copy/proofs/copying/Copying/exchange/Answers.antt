@@ -27,7 +27,8 @@ returns-in-Ok-true-clause-exchanges g c = λ s turns seen steps stands keeps wel
     let so = c.in-Ok-send_all.ensures.sends s turns before w.steps' w.stands w.keeps (goes-on w well) in
     let waits = c.send_all.ensures.waiting ∙ c.in-Ok.ensures.waiting ∙ c.requires.waiting in
     rw c.hear.ensures.taken (was-answered c.in-Ok-true.field-0-test
-    (heard-one (record seen { taken = g.L.Link.taken c.send_all.new.link }) (sent-then w so.0) well (still-filled s.plan w.steps' so.0.steps' asks.1 so.1 so.2) out so.3 waits
+    (heard-one (record seen { taken = g.L.Link.taken c.send_all.new.link }) (sent-then w so.0) well
+    (still-filled s.plan w.steps' so.0.steps' asks.1 so.1 so.2) out so.3 waits
     (rw (c.send_all.ensures.given, c.send_all.ensures.turns) at c.in-Ok-true.ensures.one) c.hear.ensures.same))
 
 pub returns-in-Ok-false-clause-exchanges : goal.returns-in-Ok-false-clause-exchanges
@@ -38,5 +39,6 @@ returns-in-Ok-false-clause-exchanges g c = λ s turns seen steps stands keeps we
     let so = c.in-Ok-send_all.ensures.sends s turns before w.steps' w.stands w.keeps (goes-on w well) in
     let waits = c.send_all.ensures.waiting ∙ c.in-Ok.ensures.waiting ∙ c.requires.waiting in
     rw c.hear.ensures.taken (was-quiet c.in-Ok-false.field-0-test
-    (heard-one (record seen { taken = g.L.Link.taken c.send_all.new.link }) (sent-then w so.0) well (still-filled s.plan w.steps' so.0.steps' asks.1 so.1 so.2) out so.3 waits
+    (heard-one (record seen { taken = g.L.Link.taken c.send_all.new.link }) (sent-then w so.0) well
+    (still-filled s.plan w.steps' so.0.steps' asks.1 so.1 so.2) out so.3 waits
     (rw (c.send_all.ensures.given, c.send_all.ensures.turns) at c.in-Ok-false.ensures.one) c.hear.ensures.same))

@@ -20,7 +20,10 @@ returns-in-Err-clause-takes c = λ outs there all most order.
     let i = c.outcomes.invariant in
     let next = c.in-Some.ensures.first in (
       rw c.settle.ensures.same.given_is (c.settle.ensures.there outs (next-there (i.order outs order) next) (i.there outs there order)),
-      rw c.settle.ensures.same.given_is (c.settle.ensures.all outs c.take_done.new.self.waiting (λ bytes is. omega (arith, most-of (i.order outs order) next _ most bytes is, i.window.given_is, i.window.length_is, c.requires.tickets)) (rw next at (i.all outs all most order))),
+      rw c.settle.ensures.same.given_is
+          (c.settle.ensures.all outs c.take_done.new.self.waiting
+          (λ bytes is. omega (arith, most-of (i.order outs order) next _ most bytes is, i.window.given_is, i.window.length_is, c.requires.tickets))
+          (rw next at (i.all outs all most order))),
       fails-next (i.order outs order) next c.args.turns c.in-Err.refusal c.in-Err.ensures.err,
     )
 
@@ -32,7 +35,10 @@ outcomes-preserved c =
       there = λ outs there order.
           rw c.settle.ensures.same.given_is (c.settle.ensures.there outs (next-there (i.order outs order) next) (i.there outs there order));
       all = λ outs all most order.
-          rw c.settle.ensures.same.given_is (c.settle.ensures.all outs c.take_done.new.self.waiting (λ bytes is. omega (arith, most-of (i.order outs order) next _ most bytes is, i.window.given_is, i.window.length_is, c.requires.tickets)) (rw next at (i.all outs all most order)));
+          rw c.settle.ensures.same.given_is
+          (c.settle.ensures.all outs c.take_done.new.self.waiting
+          (λ bytes is. omega (arith, most-of (i.order outs order) next _ most bytes is, i.window.given_is, i.window.length_is, c.requires.tickets))
+          (rw next at (i.all outs all most order)));
       order = λ outs order. order-next (i.order outs order) next c.args.turns c.in-Ok.ensures.ok;
       host = c.in-Some.ensures.same ∙ ap (λ (h : Host). record h { waiting = c.take_done.new.self.waiting }) i.host;
       plan = i.plan;
@@ -43,5 +49,8 @@ outcomes-preserved c =
 
 pub returns-clause-takes : goal.returns-clause-takes
 returns-clause-takes c = λ outs there all most order.
-    let i = c.outcomes.invariant in
-    (i.there outs there order, rw c.in_default.ensures.first at (i.all outs all most order), (sym c.in_default.ensures.first ∙ c.in_default.ensures.none, order-over (i.order outs order) c.in_default.ensures.none))
+    let i = c.outcomes.invariant in (
+      i.there outs there order,
+      rw c.in_default.ensures.first at (i.all outs all most order),
+      (sym c.in_default.ensures.first ∙ c.in_default.ensures.none, order-over (i.order outs order) c.in_default.ensures.none),
+    )

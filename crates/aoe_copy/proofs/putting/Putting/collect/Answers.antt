@@ -6,7 +6,8 @@ use Rattle.aoe_copy.proofs.putting.Putting.collect.Goals as goal
 pub returns-in-Ok-clause-collects : goal.returns-in-Ok-clause-collects
 returns-in-Ok-clause-collects c = λ s seen later steps told stands keeps order.
     let a = c.advance.ensures in
-    let adv : Advanced c.args.self.now.host c.advance.new.self c.args.now = record { gives_up = a.gives_up; clock_is = a.clock; same = a.same; last = a.last } in
+    let adv : Advanced c.args.self.now.host c.advance.new.self c.args.now =
+    record { gives_up = a.gives_up; clock_is = a.clock; same = a.same; last = a.last } in
     let t = ticked seen adv told stands keeps order in
     let all = c.take_all.ensures in
     let taken = c.in-Ok.ensures.takes (outcomes t.steps') t.order in
@@ -23,6 +24,7 @@ returns-in-Ok-clause-collects c = λ s seen later steps told stands keeps order.
 pub returns-in-Err-clause-collects : goal.returns-in-Err-clause-collects
 returns-in-Err-clause-collects c = λ s seen later steps told stands keeps order.
     let a = c.advance.ensures in
-    let adv : Advanced c.args.self.now.host c.advance.new.self c.args.now = record { gives_up = a.gives_up; clock_is = a.clock; same = a.same; last = a.last } in
+    let adv : Advanced c.args.self.now.host c.advance.new.self c.args.now =
+    record { gives_up = a.gives_up; clock_is = a.clock; same = a.same; last = a.last } in
     let t = ticked seen adv told stands keeps order in
     ends-by c.args.turns c.in-Err.refusal t.stands (c.in-Err.ensures.takes (outcomes t.steps') t.order)

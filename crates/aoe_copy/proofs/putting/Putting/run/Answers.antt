@@ -4,7 +4,13 @@ use Rattle.aoe_copy.proofs.PutTurnLemmas.{begun, goes-on-answered, goes-on-quiet
 use Rattle.aoe_copy.proofs.putting.Putting.run.Goals as goal
 
 pub turns-init : goal.turns-init
-turns-init g c = record { fit = c.requires.fit; so = begun c.requires.begins c.requires.waiting c.requires.new; within = omega arith; faults = refl; source_faults = refl }
+turns-init g c = record {
+  fit = c.requires.fit;
+  so = begun c.requires.begins c.requires.waiting c.requires.new;
+  within = omega arith;
+  faults = refl;
+  source_faults = refl;
+}
 
 pub returns-in-Ok-Over-clause-run : goal.returns-in-Ok-Over-clause-run
 returns-in-Ok-Over-clause-run g c =

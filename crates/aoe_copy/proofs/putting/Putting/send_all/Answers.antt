@@ -22,8 +22,10 @@ returns-then-is_none-clause-fit g c = let same = c.pull.ensures.same in fit-host
 pub returns-then-is_none-clause-sends : goal.returns-then-is_none-clause-sends
 returns-then-is_none-clause-sends g c = λ s turns seen steps stands keeps well.
     let same = c.pull.ensures.same in
-    let stays = when-none ((log : List Event) → Matches log c.loop.self.host → Matches log c.pull.new.self) c.pull.result c.if-is_none.ensures c.pull.ensures.stays in
-    let quiet = when-none ((log : List Event) → Matches log c.loop.self.host → IsQuiet c.loop.self.host (commands log)) c.pull.result c.if-is_none.ensures c.pull.ensures.quiet in
+    let stays = when-none ((log : List Event) → Matches log c.loop.self.host → Matches log c.pull.new.self) c.pull.result c.if-is_none.ensures
+    c.pull.ensures.stays in
+    let quiet = when-none ((log : List Event) → Matches log c.loop.self.host → IsQuiet c.loop.self.host (commands log)) c.pull.result c.if-is_none.ensures
+    c.pull.ensures.quiet in
     sends-over turns (c.loop.invariant.sent s seen steps stands keeps well) quiet stays same.0 same.2 refl
 
 pub returns-in-Err-clause-fit : goal.returns-in-Err-clause-fit
@@ -42,7 +44,8 @@ loop-preserved g c =
     record {
       fit = fit-host i.fit a.same.0 a.same.2 refl;
       waiting = a.same.3 ∙ i.waiting;
-      sent = λ s seen steps stands keeps well. sends-more seen (i.sent s seen steps stands keeps well) well p.1 refl (rw (← c.as_slice.ensures.value) c.in-Ok.ensures.took);
+      sent = λ s seen steps stands keeps well. sends-more seen (i.sent s seen steps stands keeps well) well p.1 refl
+          (rw (← c.as_slice.ensures.value) c.in-Ok.ensures.took);
       given = c.send.ensures.given ∙ i.given;
       turns = c.send.ensures.turns ∙ i.turns;
       faults = c.in-Ok.ensures.no_fault ∙ i.faults;

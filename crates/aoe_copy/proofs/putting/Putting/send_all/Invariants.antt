@@ -10,7 +10,8 @@ abbrev pub invariant-loop : goal.invariant-loop
 invariant-loop g l = record {
   fit : IsFit l.self;
   waiting : l.self.host.waiting ≡ l.fn.self.host.waiting;
-  sent : (c : Setting) (seen : PutSeen) (steps : List PutStep) → Stands c (record seen { taken = g.L.Link.taken l.fn.link }) (ahead l.fn.self.feed) steps → Keeps c steps l.fn.self
+  sent : (c : Setting) (seen : PutSeen) (steps : List PutStep) → Stands c (record seen { taken = g.L.Link.taken l.fn.link }) (ahead l.fn.self.feed) steps
+      → Keeps c steps l.fn.self
       → GoesOn steps → Sent-so l.counter c (record seen { taken = g.L.Link.taken l.link }) steps l.self;
   given : g.L.Link.given l.link ≡ g.L.Link.given l.fn.link;
   turns : g.L.Link.turns l.link ≡ g.L.Link.turns l.fn.link;

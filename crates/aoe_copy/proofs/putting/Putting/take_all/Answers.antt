@@ -9,7 +9,8 @@ outcomes-init c = record { order = λ outs order. order; host = refl; same = ref
 
 pub returns-in-Some-failure-clause-takes : goal.returns-in-Some-failure-clause-takes
 returns-in-Some-failure-clause-takes c = λ outs order.
-    fails-next (c.outcomes.invariant.order outs order) c.in-Some.ensures.first c.args.turns c.in-Some-failure.refusal (sym c.failure.ensures ∙ c.in-Some-failure.is)
+    fails-next (c.outcomes.invariant.order outs order) c.in-Some.ensures.first c.args.turns c.in-Some-failure.refusal
+    (sym c.failure.ensures ∙ c.in-Some-failure.is)
 
 pub outcomes-preserved : goal.outcomes-preserved
 outcomes-preserved c =

@@ -18,4 +18,5 @@ ready-preserved g c = record {
 }
 
 pub returns-clause-gives : goal.returns-clause-gives
-returns-clause-gives g c = λ outs there. let same = c.in_default.ensures.none in (rw same (c.ready.invariant.gives outs there), rw same c.in_default.ensures.empty)
+returns-clause-gives g c = λ outs there. let same = c.in_default.ensures.none in
+    (rw same (c.ready.invariant.gives outs there), rw same c.in_default.ensures.empty)

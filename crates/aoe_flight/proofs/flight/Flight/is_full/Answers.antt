@@ -11,10 +11,12 @@ pub returns-then-len-room-clause-value : goal.returns-then-len-room-clause-value
 returns-then-len-room-clause-value c =
     let live = ap length (live-view (values c.self.inside.commands) c.self.view_is c.args.now.0 c.requires) in
     let room = ap (λ (t : FlightTable). t.room) c.self.view_is in
-    full-none c.is_any_over.result _ _ _ c.args.self.now.room _ c.is_any_over.ensures.some c.is_any_over.ensures.none live room c.self.invariant.0.fits (omega (arith, c.len.ensures, c.if-len-room.true))
+    full-none c.is_any_over.result _ _ _ c.args.self.now.room _ c.is_any_over.ensures.some c.is_any_over.ensures.none live room c.self.invariant.0.fits
+    (omega (arith, c.len.ensures, c.if-len-room.true))
 
 pub returns-then-len-room-clause-sent : goal.returns-then-len-room-clause-sent
-returns-then-len-room-clause-sent c = λ sent recalls. rw (← length-recalled c.args.self.now sent c.args.now.0 recalls c.requires) (returns-then-len-room-clause-value c)
+returns-then-len-room-clause-sent c = λ sent recalls. rw (← length-recalled c.args.self.now sent c.args.now.0 recalls c.requires)
+    (returns-then-len-room-clause-value c)
 
 pub returns-else-len-room-clause-value : goal.returns-else-len-room-clause-value
 returns-else-len-room-clause-value c =
@@ -26,4 +28,5 @@ returns-else-len-room-clause-value c =
     )
 
 pub returns-else-len-room-clause-sent : goal.returns-else-len-room-clause-sent
-returns-else-len-room-clause-sent c = λ sent recalls. rw (← length-recalled c.args.self.now sent c.args.now.0 recalls c.requires) (returns-else-len-room-clause-value c)
+returns-else-len-room-clause-sent c = λ sent recalls. rw (← length-recalled c.args.self.now sent c.args.now.0 recalls c.requires)
+    (returns-else-len-room-clause-value c)

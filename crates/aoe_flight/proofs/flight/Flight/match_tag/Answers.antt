@@ -15,7 +15,8 @@ returns-clause-flying c =
     rw (← c.self.view_is) (mapped ∙ ap (option_map (λ (d : Outstanding). d.ticket)) (c.find_tag.ensures ∙ sym live))
 
 pub returns-clause-only : goal.returns-clause-only
-returns-clause-only c = rw (← c.self.view_is) (count-live c.self.inside.rest.0 c.self.inside.latest.0 (values c.self.inside.commands) c.args.tag (c.self.invariant.0.distinct c.args.tag))
+returns-clause-only c = rw (← c.self.view_is)
+    (count-live c.self.inside.rest.0 c.self.inside.latest.0 (values c.self.inside.commands) c.args.tag (c.self.invariant.0.distinct c.args.tag))
 
 pub returns-clause-flying_sent : goal.returns-clause-flying_sent
 returns-clause-flying_sent c = match-recalled (flies_with c.args.tag) c.args.self.now _ c.map.result refl (returns-clause-flying c)

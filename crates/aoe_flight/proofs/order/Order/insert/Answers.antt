@@ -18,7 +18,8 @@ invariant_of-self c =
     done-ok c.insert.result _ _ _ c.insert.ensures.items c.insert.ensures.full (search rules) in
     let behind = all-behind c.args.entry t.entries place c.place-place.ensures.order (c.is_at.ensures.out c.if-not-is_at.true) in
     record {
-      order = rw (items, same) (ordered-insert c.args.entry t.entries place c.place-place.ensures.order c.place-place.ensures.bound c.place-place.ensures.low behind);
+      order = rw (items, same) (ordered-insert c.args.entry t.entries place c.place-place.ensures.order c.place-place.ensures.bound c.place-place.ensures.low
+          behind);
       fits = rw items (omega (arith, length-insert xs place c.args.entry (omega (arith, c.place-place.ensures.bound, long)), c.requires, rooms, long));
       reserved = omega (arith, c.self.invariant.reserved, c.insert.ensures.capacity);
     }

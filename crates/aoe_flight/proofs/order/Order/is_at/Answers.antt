@@ -12,7 +12,8 @@ returns-in-Some-clause-here c = λ is.
     let P : OrderTable → Type 0 = λ t. slice_get t.entries c.args.place ≡ Some c.in-Some.other.now in
     let there =
     subst P c.self.view_is (slice_get_read xs (length xs) c.args.place c.in-Some.other.now refl c.in-Some.ensures.item.3.0 c.in-Some.ensures.item.1) in
-    at-place c.args.self.now.entries c.args.place c.args.entry.now c.in-Some.other.now c.requires there (sym c.is_before.ensures ∙ not-true c.is_before.result is)
+    at-place c.args.self.now.entries c.args.place c.args.entry.now c.in-Some.other.now c.requires there
+    (sym c.is_before.ensures ∙ not-true c.is_before.result is)
 
 pub returns-in-Some-clause-out : goal.returns-in-Some-clause-out
 returns-in-Some-clause-out c = λ is.

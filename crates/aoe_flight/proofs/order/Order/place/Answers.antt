@@ -8,11 +8,13 @@ use Rattle.aoe_flight.proofs.order.Order.place.Goals as goal
 pub returns-clause-low : goal.returns-clause-low
 returns-clause-low c =
     let xs = c.self.inside.entries.items in
-    let point = IsPartitionPoint-from_clause (λ (e : Entry). before e c.args.entry.now) xs c.partition_point.result c.partition_point.ensures.partitioned (partitioned c.args.entry.now xs c.self.invariant.order) (λ a r f h. search rules) in
+    let point = IsPartitionPoint-from_clause (λ (e : Entry). before e c.args.entry.now) xs c.partition_point.result c.partition_point.ensures.partitioned
+    (partitioned c.args.entry.now xs c.self.invariant.order) (λ a r f h. search rules) in
     rw (← c.self.view_is) point.0
 
 pub returns-clause-high : goal.returns-clause-high
 returns-clause-high c =
     let xs = c.self.inside.entries.items in
-    let point = IsPartitionPoint-from_clause (λ (e : Entry). before e c.args.entry.now) xs c.partition_point.result c.partition_point.ensures.partitioned (partitioned c.args.entry.now xs c.self.invariant.order) (λ a r f h. search rules) in
+    let point = IsPartitionPoint-from_clause (λ (e : Entry). before e c.args.entry.now) xs c.partition_point.result c.partition_point.ensures.partitioned
+    (partitioned c.args.entry.now xs c.self.invariant.order) (λ a r f h. search rules) in
     rw (← c.self.view_is) point.1

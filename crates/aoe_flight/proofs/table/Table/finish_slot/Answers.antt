@@ -8,7 +8,8 @@ insert-requires-2 c =
     let i = c.self.invariant in
     let at = rw (← c.self.view_is) at c.requires.there in
     let out = c.remove-2.ensures in
-    let gone = removed c.self.inside.tickets c.remove-2.new.self (by_ticket c.args.slot c.args.command) _ c.by_ticket.ensures out.shorter out.length out.kept out.only out.room in
+    let gone = removed c.self.inside.tickets c.remove-2.new.self
+    (by_ticket c.args.slot c.args.command) _ c.by_ticket.ensures out.shorter out.length out.kept out.only out.room in
     let less = gone.fewer (i.has_tickets.all c.args.slot c.args.command at (flies-true c.args.command c.requires.flies)) in
     omega (arith, less, i.tickets_room.fits, i.fits, i.resting_room)
 

@@ -15,6 +15,7 @@ returns-in_err-command-clause-none c =
 
 pub returns-clause-some : goal.returns-clause-some
 returns-clause-some c =
-    rw (← c.self.view_is) (first-slot c.self.inside.slots c.self.inside.tickets.entries c.args.ticket.0 c.args.from c.in_ok-slot.slot c.in_ok-command.command.now
+    rw (← c.self.view_is) (first-slot c.self.inside.slots c.self.inside.tickets.entries c.args.ticket.0 c.args.from c.in_ok-slot.slot
+    c.in_ok-command.command.now
     c.self.invariant.has_tickets (rw (← c.from.ensures) c.in_ok-slot.ensures.there) c.in_ok-slot.ensures.from
     (rw (← c.from.ensures) c.in_ok-slot.ensures.first) (sym c.in_ok-command.ensures))

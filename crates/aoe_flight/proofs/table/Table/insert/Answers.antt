@@ -50,4 +50,5 @@ invariant_of-self c =
 pub returns-clause-values : goal.returns-clause-values
 returns-clause-values c =
     let updates = c.insert_reserved-slot.ensures.updates in
-    rw (← c.self.view_is) (values-inserted c.self.inside.slots.slots _ c.insert_reserved-slot.result c.args.command c.insert_reserved-slot.ensures.was_vacant updates.changed updates.others)
+    rw (← c.self.view_is) (values-inserted c.self.inside.slots.slots _ c.insert_reserved-slot.result c.args.command c.insert_reserved-slot.ensures.was_vacant
+    updates.changed updates.others)

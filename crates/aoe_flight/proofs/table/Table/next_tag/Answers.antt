@@ -21,4 +21,5 @@ pub passed-preserved : goal.passed-preserved
 passed-preserved c =
     let most : c.args.last ≤ 4294967295 = omega (arith, c.ranges.last.fits) in
     let taken = sym c.is_taken.ensures ∙ c.passed-test.true in
-    (passes-more (values c.args.self.now) c.args.last c.passed.steps c.passed.tag _ c.passed.invariant most c.requires taken c.tag_after-tag-in-passed.ensures).0
+    (passes-more (values c.args.self.now) c.args.last c.passed.steps c.passed.tag _ c.passed.invariant most c.requires taken
+    c.tag_after-tag-in-passed.ensures).0

@@ -21,6 +21,7 @@ returns-else-is_over-clause-none c =
     let rest = c.args.rest.0 in
     let now = c.args.now.0 in
     let command = c.in_ok-command.command.now in
-    rw (← c.self.view_is) (none-past (is_over rest now) c.in_ok-first.first command (over-rests rest now) c.self.invariant.has_resting c.in_ok-first.ensures.order
+    rw (← c.self.view_is) (none-past (is_over rest now) c.in_ok-first.first command
+    (over-rests rest now) c.self.invariant.has_resting c.in_ok-first.ensures.order
     (sym c.in_ok-first.ensures.value) (sym c.in_ok-command.ensures)
     (λ k d at_k finished later. over-past rest now command d finished (sym c.is_over.ensures ∙ c.if-is_over.false) later))

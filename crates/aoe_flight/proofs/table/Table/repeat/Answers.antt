@@ -13,5 +13,6 @@ flying-preserved c =
 
 pub returns-clause-values : goal.returns-clause-values
 returns-clause-values c =
-    changed-all (change_of c.args.ticket.0 (after_repeat c.args.now c.args.path c.args.wait)) (flies_as c.args.ticket.0) c.args.self.now c.flying.self c.flying.from
+    changed-all (change_of c.args.ticket.0 (after_repeat c.args.now c.args.path c.args.wait))
+    (flies_as c.args.ticket.0) c.args.self.now c.flying.self c.flying.from
     (λ e out. rw out refl) c.flying.invariant.0 c.in_default.ensures.none

@@ -15,11 +15,14 @@ use Rattle.aoe_initiator.proofs.initiator.Initiator.advance.Goals as goal
 
 -- the flying command with the lowest ticket that has to be given up
 abbrev IsFirstExpired : Host → Ticket → Type 0
-IsFirstExpired host t = (sent : List Outstanding) → Recalls host.flight sent → (o : Outstanding) × (o.ticket ≡ t) × IsFirst (is_expired host.flight.dead host.clock) lower sent o
+IsFirstExpired host t = (sent : List Outstanding) → Recalls host.flight sent
+    → (o : Outstanding) × (o.ticket ≡ t) × IsFirst (is_expired host.flight.dead host.clock) lower sent o
 
 pub give_up-requires-clause-flies : goal.give_up-requires-clause-flies
 give_up-requires-clause-flies c =
-    rw (← c.self-in-expired.view_is) (expired-flies c.self-in-expired.inside.flight.dead c.self-in-expired.inside.clock.0 c.self-in-expired.inside.flight c.in-Some.ticket c.in-Some.ensures.first)
+    rw (← c.self-in-expired.view_is)
+    (expired-flies c.self-in-expired.inside.flight.dead c.self-in-expired.inside.clock.0 c.self-in-expired.inside.flight c.in-Some.ticket
+    c.in-Some.ensures.first)
 
 pub expired-smaller : goal.expired-smaller
 expired-smaller c =
@@ -41,7 +44,8 @@ expired-preserved c =
       same = same-then c.args.self.now c.expired.self c.give_up.new.self c.expired.invariant.same step.same;
       last = step.last ∙ c.expired.invariant.last;
       tag = ap (λ (h : Host). h.flight.last_tag) closes.after ∙ c.expired.invariant.tag;
-      gives_up = gave-up-more c.args.self.now c.expired.self c.give_up.new.self c.args.now c.in-Some.ticket c.in-Some-place_of.at c.expired.invariant.same.dead c.expired.invariant.gives_up (rw (← c.self-in-expired.view_is) found) c.give_up.ensures
+      gives_up = gave-up-more c.args.self.now c.expired.self c.give_up.new.self c.args.now c.in-Some.ticket c.in-Some-place_of.at c.expired.invariant.same.dead
+          c.expired.invariant.gives_up (rw (← c.self-in-expired.view_is) found) c.give_up.ensures
           (rw (← c.self-in-expired.view_is) c.in-Some.ensures.first_sent);
     }
 
@@ -55,8 +59,12 @@ returns-in_default-place_of-clause-gives_up c =
       given.0,
       given.1,
       λ log m.
-          let here = given.2 log m in
-          (here.0, expired-placed c.expired.self _ c.in-Some.ticket here.1 (subst Q c.self-in-expired.view_is c.in-Some.ensures.first_sent) (rw (← c.self-in-expired.view_is) missing), here.1),
+          let here = given.2 log m in (
+            here.0,
+            expired-placed c.expired.self _ c.in-Some.ticket here.1 (subst Q c.self-in-expired.view_is c.in-Some.ensures.first_sent)
+                (rw (← c.self-in-expired.view_is) missing),
+            here.1,
+          ),
     )
 
 pub expired-init : goal.expired-init

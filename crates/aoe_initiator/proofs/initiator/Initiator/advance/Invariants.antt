@@ -13,7 +13,8 @@ invariant-expired l = record {
   last : l.self.last_ticket ≡ l.fn.self.last_ticket;
   tag : l.self.flight.last_tag ≡ l.fn.self.flight.last_tag;
   gives_up : (dones : List Done) × (l.self.waiting ≡ l.fn.self.waiting ++ reverse dones)
-      × ((log : List Event) → Matches log l.fn.self → GaveUpInTurn l.fn.self.dead l.self.clock (Advances l.fn.now ∷ log) dones × Matches (ended dones (Advances l.fn.now ∷ log)) l.self);
+      × ((log : List Event) → Matches log l.fn.self → GaveUpInTurn l.fn.self.dead l.self.clock (Advances l.fn.now ∷ log) dones
+      × Matches (ended dones (Advances l.fn.now ∷ log)) l.self);
 }
 
 abbrev pub decreases-expired : goal.decreases-expired

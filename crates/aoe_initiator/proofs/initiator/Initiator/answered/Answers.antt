@@ -29,20 +29,24 @@ pub returns-in_err-ticket-clause-none : goal.returns-in_err-ticket-clause-none
 returns-in_err-ticket-clause-none c =
     let is : head c.args.frame.now ≡ Some c.in_ok-header.header = search rules in
     if-none c.from_residual-in_err-ticket.result c.args.self.now c.args.frame.now (λ log m.
-    all-untagged c.args.self.now log c.args.frame.now c.in_ok-header.header is (c.in_err-ticket.ensures.none_sent (sent_of (commands log)) (rw (← c.self.view_is) at m.sent)))
+    all-untagged c.args.self.now log c.args.frame.now c.in_ok-header.header is
+    (c.in_err-ticket.ensures.none_sent (sent_of (commands log)) (rw (← c.self.view_is) at m.sent)))
 
 pub returns-in_err-at-clause-none : goal.returns-in_err-at-clause-none
 returns-in_err-at-clause-none c =
     let missing : place c.in_ok-ticket.ticket c.self.inside.pending.items ≡ None = search rules in
     if-none c.from_residual-in_err-at.result c.args.self.now c.args.frame.now (λ log m.
-    let found = flyer (commands log) c.in_ok-header.header.tag c.in_ok-ticket.ticket (c.in_ok-ticket.ensures.flying_sent (sent_of (commands log)) (rw (← c.self.view_is) at m.sent)) in
+    let found = flyer (commands log) c.in_ok-header.header.tag c.in_ok-ticket.ticket
+    (c.in_ok-ticket.ensures.flying_sent (sent_of (commands log)) (rw (← c.self.view_is) at m.sent)) in
     absurd (flyer-placed c.args.self.now log c.in_ok-header.header.tag c.in_ok-ticket.ticket found.0 m found.1 (rw (← c.self.view_is) missing)))
 
 pub returns-then-not-is_from-clause-none : goal.returns-then-not-is_from-clause-none
 returns-then-not-is_from-clause-none c = λ log m.
     let is : head c.args.frame.now ≡ Some c.in_ok-header.header = search rules in
-    let found = flyer (commands log) c.in_ok-header.header.tag c.in_ok-ticket.ticket (c.in_ok-ticket.ensures.flying_sent (sent_of (commands log)) (rw (← c.self.view_is) at m.sent)) in
-    not-from-at c.args.self.now log c.args.frame.now c.in_ok-header.header c.in_ok-ticket.ticket c.in_ok-at.at c.is_from.result found.0 m is (rw (← c.self.view_is) c.in_ok-ticket.ensures.only) found.1
+    let found = flyer (commands log) c.in_ok-header.header.tag c.in_ok-ticket.ticket
+    (c.in_ok-ticket.ensures.flying_sent (sent_of (commands log)) (rw (← c.self.view_is) at m.sent)) in
+    not-from-at c.args.self.now log c.args.frame.now c.in_ok-header.header c.in_ok-ticket.ticket c.in_ok-at.at c.is_from.result found.0 m is
+    (rw (← c.self.view_is) c.in_ok-ticket.ensures.only) found.1
     (placed (goal.at.returns-then-not-is_from-clause-none c).In_ok-at) c.if-not-is_from.true c.is_from.ensures
 
 pub returns-in_err-path-clause-none : goal.returns-in_err-path-clause-none
@@ -54,7 +58,8 @@ returns-in_err-path-clause-none c =
     let p = get-there c.self.inside.pending.items c.in_ok-at.at inside in
     let hears : is_response_to c.args.self.now c.in_ok-header.header ≡ true = sym c.hears.ensures ∙ c.if-not-hears.false in
     if-none c.from_residual-in_err-path.result c.args.self.now c.args.frame.now (λ log m.
-    no-path c.args.self.now log c.in_ok-header.header c.in_ok-at.at p.0 c.is_from.result m (rw (← c.self.view_is) p.1) hears c.if-not-is_from.false c.is_from.ensures c.in_err-path.ensures.none)
+    no-path c.args.self.now log c.in_ok-header.header c.in_ok-at.at p.0 c.is_from.result m
+    (rw (← c.self.view_is) p.1) hears c.if-not-is_from.false c.is_from.ensures c.in_err-path.ensures.none)
 
 pub returns-in_err-answer-clause-none : goal.returns-in_err-answer-clause-none
 returns-in_err-answer-clause-none c =
@@ -62,8 +67,10 @@ returns-in_err-answer-clause-none c =
     let none : answer c.index.result.now.op c.in_ok-header.header (drop 24 c.args.frame.now) ≡ None =
     rw (← (take_rest c.args.frame.now 24)) (sym c.read_answer.ensures.value ∙ c.in_err-answer.was) in
     if-none c.from_residual-in_err-answer.result c.args.self.now c.args.frame.now (λ log m.
-    let found = flyer (commands log) c.in_ok-header.header.tag c.in_ok-ticket.ticket (c.in_ok-ticket.ensures.flying_sent (sent_of (commands log)) (rw (← c.self.view_is) at m.sent)) in
-    none-says c.args.self.now log c.args.frame.now c.in_ok-header.header c.in_ok-ticket.ticket c.in_ok-at.at c.index.result.now found.0 m is (rw (← c.self.view_is) c.in_ok-ticket.ensures.only) found.1
+    let found = flyer (commands log) c.in_ok-header.header.tag c.in_ok-ticket.ticket
+    (c.in_ok-ticket.ensures.flying_sent (sent_of (commands log)) (rw (← c.self.view_is) at m.sent)) in
+    none-says c.args.self.now log c.args.frame.now c.in_ok-header.header c.in_ok-ticket.ticket c.in_ok-at.at c.index.result.now found.0 m is
+    (rw (← c.self.view_is) c.in_ok-ticket.ensures.only) found.1
     (placed (goal.at.returns-in_err-answer-clause-none c).In_ok-at) (read (goal.at.returns-in_err-answer-clause-none c).After-index) none)
 
 pub returns-clause-fills : goal.returns-clause-fills
@@ -78,13 +85,17 @@ returns-clause-some c = λ log m.
     let given : answer c.index.result.now.op c.in_ok-header.header (drop 24 c.args.frame.now) ≡ Some c.in_ok-answer.answer =
     rw (← (take_rest c.args.frame.now 24)) (sym c.read_answer.ensures.value ∙ c.in_ok-answer.was) in
     let hears : is_response_to c.args.self.now c.in_ok-header.header ≡ true = sym c.hears.ensures ∙ c.if-not-hears.false in
-    let found = flyer (commands log) c.in_ok-header.header.tag c.in_ok-ticket.ticket (c.in_ok-ticket.ensures.flying_sent (sent_of (commands log)) (rw (← c.self.view_is) at m.sent)) in
-    found-answer c.args.self.now log c.args.frame.now c.in_ok-header.header c.in_ok-ticket.ticket c.in_ok-at.at c.index.result.now found.0 c.in_ok-path.path c.in_ok-answer.answer c.is_from.result m is found.1
-    (placed (goal.at.returns-clause-some c).In_ok-at) (read (goal.at.returns-clause-some c).After-index) hears c.if-not-is_from.false c.is_from.ensures c.in_ok-path.ensures.pair given
+    let found = flyer (commands log) c.in_ok-header.header.tag c.in_ok-ticket.ticket
+    (c.in_ok-ticket.ensures.flying_sent (sent_of (commands log)) (rw (← c.self.view_is) at m.sent)) in
+    found-answer c.args.self.now log c.args.frame.now c.in_ok-header.header c.in_ok-ticket.ticket c.in_ok-at.at c.index.result.now found.0 c.in_ok-path.path
+    c.in_ok-answer.answer c.is_from.result m is found.1
+    (placed (goal.at.returns-clause-some c).In_ok-at)
+    (read (goal.at.returns-clause-some c).After-index) hears c.if-not-is_from.false c.is_from.ensures c.in_ok-path.ensures.pair given
 
 pub returns-clause-there : goal.returns-clause-there
 returns-clause-there c = placed (goal.at.returns-clause-there c).In_ok-at
 
 pub returns-clause-flies : goal.returns-clause-flies
 returns-clause-flies c =
-    rw (← c.self.view_is) (flies-found c.in_ok-header.header.tag c.self.inside.flight c.in_ok-ticket.ticket (sym c.match_tag.ensures.flying ∙ c.in_ok-ticket.was))
+    rw (← c.self.view_is) (flies-found c.in_ok-header.header.tag c.self.inside.flight c.in_ok-ticket.ticket
+    (sym c.match_tag.ensures.flying ∙ c.in_ok-ticket.was))

@@ -8,7 +8,11 @@ use Rattle.aoe_initiator.proofs.initiator.Initiator.attach.Goals as goal
 
 pub invariant_of-self-2 : goal.invariant_of-self-2
 invariant_of-self-2 c =
-    let d : Device = record { about = record { id = c.args.id; remotes = c.copy_of.result; total = c.args.total; max = c.args.max }; holds = no_commands c.self.inside.life.requests.0; paths = new_paths c.self.inside.ports.items c.copy_of.result.items } in
+    let d : Device = record {
+      about = record { id = c.args.id; remotes = c.copy_of.result; total = c.args.total; max = c.args.max };
+      holds = no_commands c.self.inside.life.requests.0;
+      paths = new_paths c.self.inside.ports.items c.copy_of.result.items;
+    } in
     let pushed : c.push_reserved.new.self.items ≡ c.self.inside.devices.items ++ d ∷ [] = rw (← c.in-Ok.ensures) (search rules) in
     let some : 0 < length c.copy_of.result.items = search rules in
     sound-attached _ c.self.inside.clock.0 c.self.inside.last_ticket.0 _ c.self.inside.devices.items c.push_reserved.new.self.items d _ _ _ pushed
@@ -16,6 +20,10 @@ invariant_of-self-2 c =
 
 pub returns-clause-matches : goal.returns-clause-matches
 returns-clause-matches c = λ log m.
-    let d : Device = record { about = record { id = c.args.id; remotes = c.copy_of.result; total = c.args.total; max = c.args.max }; holds = no_commands c.self.inside.life.requests.0; paths = new_paths c.self.inside.ports.items c.copy_of.result.items } in
+    let d : Device = record {
+      about = record { id = c.args.id; remotes = c.copy_of.result; total = c.args.total; max = c.args.max };
+      holds = no_commands c.self.inside.life.requests.0;
+      paths = new_paths c.self.inside.ports.items c.copy_of.result.items;
+    } in
     let pushed : c.push_reserved.new.self.items ≡ c.self.inside.devices.items ++ d ∷ [] = rw (← c.in-Ok.ensures) (search rules) in
     matches-attached log _ _ d (rw (← c.self.view_is) at m) refl refl (rw pushed refl)

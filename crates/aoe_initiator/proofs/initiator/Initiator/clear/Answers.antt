@@ -14,22 +14,26 @@ invariant_of-self-2 c = sound-cleared _ c.self.inside.clock.0 _ _ c.self.inside.
 
 pub returns-in_err-ticket-clause-stays : goal.returns-in_err-ticket-clause-stays
 returns-in_err-ticket-clause-stays c = λ log m.
-    matches-cleared log _ _ (rw (← c.self.view_is) at m) (times-of c.self.inside.clock.0 c.self.inside.last_ticket.0 c.self.inside.devices.items c.self.invariant.attached) c.next_clear.ensures.value
+    matches-cleared log _ _ (rw (← c.self.view_is) at m)
+    (times-of c.self.inside.clock.0 c.self.inside.last_ticket.0 c.self.inside.devices.items c.self.invariant.attached) c.next_clear.ensures.value
 
 pub returns-in_err-at-clause-stays : goal.returns-in_err-at-clause-stays
 returns-in_err-at-clause-stays c = λ log m.
-    matches-cleared log _ _ (rw (← c.self.view_is) at m) (times-of c.self.inside.clock.0 c.self.inside.last_ticket.0 c.self.inside.devices.items c.self.invariant.attached) c.next_clear.ensures.value
+    matches-cleared log _ _ (rw (← c.self.view_is) at m)
+    (times-of c.self.inside.clock.0 c.self.inside.last_ticket.0 c.self.inside.devices.items c.self.invariant.attached) c.next_clear.ensures.value
 
 pub returns-clause-stays : goal.returns-clause-stays
 returns-clause-stays c = λ log m.
-    matches-cleared log _ _ (rw (← c.self.view_is) at m) (times-of c.self.inside.clock.0 c.self.inside.last_ticket.0 c.self.inside.devices.items c.self.invariant.attached) c.next_clear.ensures.value
+    matches-cleared log _ _ (rw (← c.self.view_is) at m)
+    (times-of c.self.inside.clock.0 c.self.inside.last_ticket.0 c.self.inside.devices.items c.self.invariant.attached) c.next_clear.ensures.value
 
 pub returns-in_err-ticket-clause-none : goal.returns-in_err-ticket-clause-none
 returns-in_err-ticket-clause-none c = rw c.from_residual.ensures (rw (← c.self.view_is) (λ room. (None, c.in_err-ticket.ensures.lowest, tt)))
 
 pub returns-in_err-at-clause-none : goal.returns-in_err-at-clause-none
 returns-in_err-at-clause-none c =
-    rw c.from_residual-in_err-at.ensures (rw (← c.self.view_is) (λ room. (Some c.in_ok-ticket.ticket, c.in_ok-ticket.ensures.lowest, sym c.place_of.ensures ∙ c.in_err-at.was)))
+    rw c.from_residual-in_err-at.ensures
+    (rw (← c.self.view_is) (λ room. (Some c.in_ok-ticket.ticket, c.in_ok-ticket.ensures.lowest, sym c.place_of.ensures ∙ c.in_err-at.was)))
 
 pub returns-clause-lowest : goal.returns-clause-lowest
 returns-clause-lowest c = rw (← c.self.view_is) c.in_ok-ticket.ensures.lowest

@@ -19,7 +19,9 @@ pub into_outcome-requires : goal.into_outcome-requires
 into_outcome-requires c =
     let p : Pending = c.close-command.result in
     let P : Host → Type 0 = λ h. place c.args.heard.ticket h.pending ≡ Some c.args.heard.at in
-    let inside : c.args.heard.at < length c.self.inside.pending.items = placed-inside (λ (q : Pending). nat_eq q.ticket.0 c.args.heard.ticket.0) c.self.inside.pending.items c.args.heard.at (subst P (sym c.self.view_is) c.requires.there) in
+    let inside : c.args.heard.at < length c.self.inside.pending.items =
+    placed-inside (λ (q : Pending). nat_eq q.ticket.0 c.args.heard.ticket.0) c.self.inside.pending.items c.args.heard.at
+    (subst P (sym c.self.view_is) c.requires.there) in
     let there : slice_get c.self.inside.pending.items c.args.heard.at ≡ Some p =
     slice_get_read c.self.inside.pending.items (length c.self.inside.pending.items) c.args.heard.at p refl inside c.close-command.ensures.command in
     let F : Host → Type 0 = λ h. IfSome (slice_get h.pending c.args.heard.at) (λ (q : Pending). CanFill c.args.heard.answer c.args.args.now (data_len q.op)) in
@@ -33,27 +35,37 @@ pub invariant_of-self : goal.invariant_of-self
 invariant_of-self c =
     let p : Pending = c.close-command.result in
     let done : Done = record { ticket = p.ticket; outcome = c.into_outcome.result } in
-    let inside : c.args.heard.at < length c.self.inside.pending.items = placed-inside (λ (q : Pending). nat_eq q.ticket.0 c.args.heard.ticket.0) c.self.inside.pending.items c.args.heard.at (rw (← c.self.view_is) at c.requires.there) in
+    let inside : c.args.heard.at < length c.self.inside.pending.items =
+    placed-inside (λ (q : Pending). nat_eq q.ticket.0 c.args.heard.ticket.0) c.self.inside.pending.items c.args.heard.at
+    (rw (← c.self.view_is) at c.requires.there) in
     let came : Option Arrival = Some (record { path = c.args.heard.path; trip = c.trip_at.result }) in
     let time = ap (λ (t : FlightTable). t.latest) c.close-command.ensures.flight in
-    sound-closed _ c.self.inside.clock.0 _ p.device.0 c.args.heard.at p.ticket came c.self.inside.flight c.close-command.new.flight c.self.inside.devices.items c.close-command.new.devices.items
+    sound-closed _ c.self.inside.clock.0 _ p.device.0 c.args.heard.at p.ticket came c.self.inside.flight c.close-command.new.flight c.self.inside.devices.items
+    c.close-command.new.devices.items
     c.self.inside.pending.items c.close-command.new.pending.items c.self.inside.done.items c.push_back_reserved.new.self.items done _ _
-    (omega (arith, time, c.self.invariant.time)) c.close-command.ensures.devices c.close-command.ensures.pending c.push_back_reserved.ensures.items c.push_back_reserved.ensures.capacity inside c.self.invariant
+    (omega (arith, time, c.self.invariant.time)) c.close-command.ensures.devices c.close-command.ensures.pending c.push_back_reserved.ensures.items
+    c.push_back_reserved.ensures.capacity inside c.self.invariant
 
 pub returns-clause-closes : goal.returns-clause-closes
 returns-clause-closes c =
     let p : Pending = c.close-command.result in
-    let inside : c.args.heard.at < length c.self.inside.pending.items = placed-inside (λ (q : Pending). nat_eq q.ticket.0 c.args.heard.ticket.0) c.self.inside.pending.items c.args.heard.at (rw (← c.self.view_is) at c.requires.there) in
+    let inside : c.args.heard.at < length c.self.inside.pending.items =
+    placed-inside (λ (q : Pending). nat_eq q.ticket.0 c.args.heard.ticket.0) c.self.inside.pending.items c.args.heard.at
+    (rw (← c.self.view_is) at c.requires.there) in
     let came : Option Arrival = Some (record { path = c.args.heard.path; trip = c.trip_at.result }) in
     let more : Outcome → List Done = λ o. c.self.inside.done.items ++ record { ticket = p.ticket; outcome = o } ∷ [] in
-    let closed = closes-from _ c.args.heard.at p came (outcome_of c.args.heard.answer c.args.args.now) _ _ _ _ inside c.close-command.ensures.command c.close-command.ensures.flight c.close-command.ensures.devices c.close-command.ensures.pending
+    let closed = closes-from _ c.args.heard.at p came
+    (outcome_of c.args.heard.answer c.args.args.now) _ _ _ _ inside c.close-command.ensures.command c.close-command.ensures.flight
+    c.close-command.ensures.devices c.close-command.ensures.pending
     (c.push_back_reserved.ensures.items ∙ ap more c.into_outcome.ensures) in
     rw (← c.self.view_is) (c.flying-flying.result, c.flying-flying.ensures.value, rw (← c.trip_at.ensures) closed)
 
 pub returns-clause-ticket : goal.returns-clause-ticket
 returns-clause-ticket c =
     let p : Pending = c.close-command.result in
-    let inside : c.args.heard.at < length c.self.inside.pending.items = placed-inside (λ (q : Pending). nat_eq q.ticket.0 c.args.heard.ticket.0) c.self.inside.pending.items c.args.heard.at (rw (← c.self.view_is) at c.requires.there) in
+    let inside : c.args.heard.at < length c.self.inside.pending.items =
+    placed-inside (λ (q : Pending). nat_eq q.ticket.0 c.args.heard.ticket.0) c.self.inside.pending.items c.args.heard.at
+    (rw (← c.self.view_is) at c.requires.there) in
     let there : slice_get c.self.inside.pending.items c.args.heard.at ≡ Some p =
     slice_get_read c.self.inside.pending.items (length c.self.inside.pending.items) c.args.heard.at p refl inside c.close-command.ensures.command in
     rw (← c.self.view_is) (rw there refl)

@@ -13,13 +13,15 @@ use Rattle.aoe_initiator.proofs.initiator.Initiator.launch.Goals as goal
 pub invariant_of-self : goal.invariant_of-self
 invariant_of-self c =
     let time = ap (λ (t : FlightTable). t.latest) c.in_err-tag.ensures.unchanged in
-    sound-sent _ _ _ c.self.inside.clock c.args.ticket None c.note_sent-route.result.path c.self.inside.flight c.launch.new.self c.self.inside.devices.items c.note_sent-route.new.devices.items _ _ _ (omega (arith, time))
+    sound-sent _ _ _ c.self.inside.clock c.args.ticket None c.note_sent-route.result.path c.self.inside.flight c.launch.new.self c.self.inside.devices.items
+    c.note_sent-route.new.devices.items _ _ _ (omega (arith, time))
     c.note_sent-route.ensures.value c.self.invariant
 
 pub invariant_of-self-2 : goal.invariant_of-self-2
 invariant_of-self-2 c =
     let time = ap (λ (t : FlightTable). t.latest) c.in_ok-tag.ensures.same in
-    sound-sent _ _ _ c.self.inside.clock c.args.ticket None c.note_sent-route.result.path c.self.inside.flight c.launch.new.self c.self.inside.devices.items c.note_sent-route.new.devices.items _ _ _ (omega (arith, time))
+    sound-sent _ _ _ c.self.inside.clock c.args.ticket None c.note_sent-route.result.path c.self.inside.flight c.launch.new.self c.self.inside.devices.items
+    c.note_sent-route.new.devices.items _ _ _ (omega (arith, time))
     c.note_sent-route.ensures.value c.self.invariant
 
 pub returns-clause-sent : goal.returns-clause-sent
@@ -32,11 +34,14 @@ returns-clause-sent c =
     let R : Option Device → Type 0 = λ o. IfSome o (λ e. IsRoute e None c.note_sent-route.result) in
     let routed : IsRoute d.0 None c.note_sent-route.result = subst R d.1 c.note_sent-route.ensures.route in
     rw (← c.self.view_is)
-    (launches-from _ c.args.ticket c.args.at c.in_ok-tag.tag p d.0 c.note_sent-route.result c.write_request.new.out.items c.wait_after-wait.result c.launch.new.self c.note_sent-route.new.devices.items inside c.index-command.ensures
-    d.1 routed c.write_request.ensures.bytes c.note_sent-route.ensures.value c.in_ok-tag.ensures.same c.in_ok-tag.ensures.room c.wait_after-wait.ensures c.in_ok-tag.ensures.recalls)
+    (launches-from _ c.args.ticket c.args.at c.in_ok-tag.tag p d.0 c.note_sent-route.result c.write_request.new.out.items c.wait_after-wait.result
+    c.launch.new.self c.note_sent-route.new.devices.items inside c.index-command.ensures
+    d.1 routed c.write_request.ensures.bytes c.note_sent-route.ensures.value c.in_ok-tag.ensures.same c.in_ok-tag.ensures.room c.wait_after-wait.ensures
+    c.in_ok-tag.ensures.recalls)
 
 pub returns-clause-tag : goal.returns-clause-tag
 returns-clause-tag c = rw (← c.self.view_is) (ap (λ (t : FlightTable). t.last_tag) c.in_ok-tag.ensures.same, c.in_ok-tag.ensures.tag)
 
 pub returns-in_err-tag-clause-no_tag : goal.returns-in_err-tag-clause-no_tag
-returns-in_err-tag-clause-no_tag c = holds-anyway c.from_residual.result (rw (← c.self.view_is) (ap (λ (t : FlightTable). t.last_tag) c.in_err-tag.ensures.unchanged))
+returns-in_err-tag-clause-no_tag c =
+    holds-anyway c.from_residual.result (rw (← c.self.view_is) (ap (λ (t : FlightTable). t.last_tag) c.in_err-tag.ensures.unchanged))

@@ -12,7 +12,8 @@ pub returns-in-Some-clause-taken : goal.returns-in-Some-clause-taken
 returns-in-Some-clause-taken c = λ log m.
     let heard = c.in-Some.heard in
     let f = c.finish.ensures.closes.0 in
-    takes-finished c.args.self.now c.finish.new.self log c.args.frame.now heard.at heard.ticket heard.path f heard.answer c.finish.result m c.in-Some.ensures.there c.finish.ensures.closes.1
+    takes-finished c.args.self.now c.finish.new.self log c.args.frame.now heard.at heard.ticket heard.path f heard.answer c.finish.result m
+    c.in-Some.ensures.there c.finish.ensures.closes.1
     (rw (← (take_rest c.args.frame.now 24)) c.finish.ensures.closes.2) c.finish.ensures.ticket (c.in-Some.ensures.some log m)
 
 pub returns-in-Some-clause-same : goal.returns-in-Some-clause-same

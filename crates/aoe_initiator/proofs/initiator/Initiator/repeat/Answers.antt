@@ -14,7 +14,9 @@ use Rattle.aoe_initiator.proofs.initiator.Initiator.repeat.Goals as goal
 pub invariant_of-self : goal.invariant_of-self
 invariant_of-self c =
     let time = ap (λ (t : FlightTable). t.latest) c.repeat.ensures.value in
-    sound-sent _ _ _ c.self.inside.clock c.args.ticket (Some c.flying-flying.result.path) c.note_sent-route.result.path c.self.inside.flight c.repeat.new.self c.self.inside.devices.items c.note_sent-route.new.devices.items _ _ _
+    sound-sent _ _ _ c.self.inside.clock c.args.ticket
+    (Some c.flying-flying.result.path) c.note_sent-route.result.path c.self.inside.flight c.repeat.new.self c.self.inside.devices.items
+    c.note_sent-route.new.devices.items _ _ _
     (omega (arith, time)) c.note_sent-route.ensures.value c.self.invariant
 
 pub returns-clause-sent : goal.returns-clause-sent
@@ -27,5 +29,6 @@ returns-clause-sent c =
     let R : Option Device → Type 0 = λ o. IfSome o (λ e. IsRoute e missed c.note_sent-route.result) in
     let routed : IsRoute d.0 missed c.note_sent-route.result = subst R d.1 c.note_sent-route.ensures.route in
     rw (← c.self.view_is)
-    (repeats-from _ c.args.ticket c.in_ok-at.at c.flying-flying.result p d.0 c.note_sent-route.result c.write_request.new.out.items c.wait_after-wait.result c.repeat.new.self c.note_sent-route.new.devices.items found c.index-command.ensures
+    (repeats-from _ c.args.ticket c.in_ok-at.at c.flying-flying.result p d.0 c.note_sent-route.result c.write_request.new.out.items c.wait_after-wait.result
+    c.repeat.new.self c.note_sent-route.new.devices.items found c.index-command.ensures
     c.flying-flying.ensures.value d.1 routed c.write_request.ensures.bytes c.wait_after-wait.ensures c.repeat.ensures.value c.note_sent-route.ensures.value)

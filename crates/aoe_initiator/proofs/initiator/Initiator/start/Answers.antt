@@ -26,16 +26,20 @@ returns-in_err-ticket-clause-same c =
     (left.same, left.clock, left.last, left.waiting)
 
 pub returns-clause-next : goal.returns-clause-next
-returns-clause-next c = start-next-all c.launch.result c.args.self.now c.clear.new.self _ c.in_ok-ticket.ticket c.in_ok-ticket.at _ c.clear.ensures.in_time (cleared c) c.launch.ensures.sent c.launch.ensures.free
+returns-clause-next c = start-next-all c.launch.result c.args.self.now c.clear.new.self _ c.in_ok-ticket.ticket c.in_ok-ticket.at _ c.clear.ensures.in_time
+    (cleared c) c.launch.ensures.sent c.launch.ensures.free
 
 pub returns-clause-frame : goal.returns-clause-frame
-returns-clause-frame c = IfSome_then c.launch.result c.launch.ensures.sent (λ sent launches log m. start-frame m (cleared c) launches (c.clear.ensures.stays log m))
+returns-clause-frame c = IfSome_then c.launch.result c.launch.ensures.sent
+    (λ sent launches log m. start-frame m (cleared c) launches (c.clear.ensures.stays log m))
 
 pub returns-clause-path : goal.returns-clause-path
-returns-clause-path c = IfSome_then c.launch.result c.launch.ensures.sent (λ sent launches log m. start-path m (cleared c) launches (c.clear.ensures.stays log m))
+returns-clause-path c = IfSome_then c.launch.result c.launch.ensures.sent
+    (λ sent launches log m. start-path m (cleared c) launches (c.clear.ensures.stays log m))
 
 pub returns-clause-sends : goal.returns-clause-sends
-returns-clause-sends c = IfSome_then c.launch.result c.launch.ensures.sent (λ sent launches log m. start-sends m (cleared c) launches (c.clear.ensures.stays log m) c.launch.ensures.in_time)
+returns-clause-sends c = IfSome_then c.launch.result c.launch.ensures.sent
+    (λ sent launches log m. start-sends m (cleared c) launches (c.clear.ensures.stays log m) c.launch.ensures.in_time)
 
 pub returns-clause-quiet : goal.returns-clause-quiet
 returns-clause-quiet c = start-quiet c.launch.result c.args.self.now c.clear.new.self c.in_ok-ticket.ticket c.in_ok-ticket.at (cleared c) c.launch.ensures.none
@@ -43,7 +47,8 @@ returns-clause-quiet c = start-quiet c.launch.result c.args.self.now c.clear.new
 pub returns-clause-same : goal.returns-clause-same
 returns-clause-same c =
     let first = left-cleared c.args.self.now c.clear.new.self c.clear.ensures.same c.clear.ensures.devices in
-    let second = left-launched c.args.self.now c.clear.new.self _ c.in_ok-ticket.ticket c.in_ok-ticket.at _ c.launch.result (cleared c) c.launch.ensures.sent c.launch.ensures.none in
+    let second = left-launched c.args.self.now c.clear.new.self _ c.in_ok-ticket.ticket c.in_ok-ticket.at _ c.launch.result
+    (cleared c) c.launch.ensures.sent c.launch.ensures.none in
     let left = left-then first second in
     (left.same, left.clock, left.last, left.waiting)
 

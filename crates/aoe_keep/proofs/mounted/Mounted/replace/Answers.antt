@@ -28,7 +28,8 @@ returns-clause-ok g c = record {
   mounted = record {
     room = c.in_ok-open.ensures.ok.room;
     disk = kept_replaced c.open.new.self.place c.spare_slot-slot.result c.spare_turn-turn.result _ c.is_none-self.result c.copy-self.result c.args.next.now _
-        c.spare_slot-slot.ensures.slot c.spare_turn-turn.ensures.turn refl (unplaced c.open.new.self.place c.is_none-self.result c.is_none-self.ensures) c.copy-self.ensures c.in_ok-open.ensures.ok.disk;
+        c.spare_slot-slot.ensures.slot c.spare_turn-turn.ensures.turn refl
+        (unplaced c.open.new.self.place c.is_none-self.result c.is_none-self.ensures) c.copy-self.ensures c.in_ok-open.ensures.ok.disk;
   };
   finds = finds_replaced c.open.new.self.place c.args.next.now _ c.in_ok-open.ensures.ok.disk;
   format = formats_replaced c.open.new.self.place c.args.next.now (g.D.Disk.state c.open.new.self.disk) c.in_ok-open.ensures.ok.disk;
@@ -52,7 +53,8 @@ pub returns-in_err-stage-clause-calls : goal.returns-in_err-stage-clause-calls
 returns-in_err-stage-clause-calls g c =
     let clear = rw c.in_ok-clear.was at c.clear.ensures.calls in
     let stage = rw c.in_err-stage.was at c.stage.ensures.calls in
-    fails_to_stage g.D.Disk.state c.args.next.now clear c.clear.ensures.place c.stage.new.self c.from_residual-in_err-stage.ensures.0 stage c.stage.ensures.place c.stage.ensures.closed
+    fails_to_stage g.D.Disk.state c.args.next.now clear c.clear.ensures.place c.stage.new.self c.from_residual-in_err-stage.ensures.0 stage
+    c.stage.ensures.place c.stage.ensures.closed
 
 pub returns-in_err-open-clause-calls : goal.returns-in_err-open-clause-calls
 returns-in_err-open-clause-calls g c =
@@ -67,6 +69,7 @@ returns-clause-calls g c =
     let clear = rw c.in_ok-clear.was at c.clear.ensures.calls in
     let stage = rw c.in_ok-stage.was at c.stage.ensures.calls in
     let last = rw c.in_ok-open.was at c.open.ensures.calls in
-    replaces g.D.Disk.state c.args.next.now clear c.clear.ensures.place c.stage.new.self stage c.stage.ensures.place c.open.new.self.disk c.copy-self.result last
+    replaces g.D.Disk.state c.args.next.now clear c.clear.ensures.place c.stage.new.self stage c.stage.ensures.place c.open.new.self.disk c.copy-self.result
+    last
     (c.spare_slot-slot.ensures.slot ∙ ap spare c.open.ensures.place) (c.spare_turn-turn.ensures.turn ∙ ap turn_after c.open.ensures.place) refl
     (unplaced c.open.new.self.place c.is_none-self.result c.is_none-self.ensures ∙ ap is_unplaced c.open.ensures.place)

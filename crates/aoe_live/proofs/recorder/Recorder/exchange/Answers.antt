@@ -34,7 +34,8 @@ returns-clause-exchanges g c =
     let after = links g.L.Link.turns g.L.Link.given g.L.Link.taken c.hand-2.new.one c.hand-2.new.two in
     let over =
     asked-one p.world.entries before.one asked.one before.two first c.in-Ok.ensures.gave c.recv.ensures.passing c.in-Ok.ensures.turns c.recv.ensures.taken in
-    let over_too = asked-two q.world.entries mid.two asked_too.two mid.one second c.in-Ok-recv.ensures.gave c.recv-2.ensures.passing c.in-Ok-recv.ensures.turns c.recv-2.ensures.taken in
+    let over_too = asked-two q.world.entries mid.two asked_too.two mid.one second c.in-Ok-recv.ensures.gave c.recv-2.ensures.passing c.in-Ok-recv.ensures.turns
+    c.recv-2.ensures.taken in
     let same = ap (λ bytes. handing sender.Host (turn_of c.in-Ok.got bytes) p.world.entries) c.as_slice.ensures.value in
     let same_too = ap (λ bytes. handing sender.Shelf (turn_of c.in-Ok-recv.got bytes) q.world.entries) c.as_slice-2.ensures.value in
     exchange-does p q before asked mid first over

@@ -20,7 +20,8 @@ pass_on-requires-clause-tally g c =
     let tail =
     line-tail c.args.self.now.sectors c.args.event c.args.self.now.world.entries c.record.new.self.world.entries c.requires.recorded c.in-Ok.ensures.comes in
     ap (λ (r : Recorder). r.tally) c.in-Ok.ensures.rest ∙ c.requires.kept.tally
-    ∙ sym (ap tally_of (looked-at c.args.self.now.world.entries c.record.new.self.world.entries tail.0 c.record.new.self.told tail.1 (ap (λ (r : Recorder). r.told) c.in-Ok.ensures.rest ∙ c.requires.kept.told)))
+    ∙ sym (ap tally_of (looked-at c.args.self.now.world.entries c.record.new.self.world.entries tail.0 c.record.new.self.told tail.1
+    (ap (λ (r : Recorder). r.told) c.in-Ok.ensures.rest ∙ c.requires.kept.told)))
 
 pub returns-in-Err-clause-steps : goal.returns-in-Err-clause-steps
 returns-in-Err-clause-steps g c =

@@ -36,7 +36,9 @@ returns-in-Err-clause-steps g c =
     (links g.L.Link.turns g.L.Link.given g.L.Link.taken c.args.one.now c.args.two.now)
     (links g.L.Link.turns g.L.Link.given g.L.Link.taken c.ticks.one c.ticks.two)
     (links g.L.Link.turns g.L.Link.given g.L.Link.taken c.line.new.one c.line.new.two)
-    i.sectors i.commands i.recorded (among-moves p.sectors (ticks c.args.ms) (whole c.ticks.counter) (Tick 10000000 ∷ []) at.0 q.world.entries at.1) _ _ c.in-Err.refusal c.in-Err.ensures.steps
+    i.sectors i.commands i.recorded
+    (among-moves p.sectors (ticks c.args.ms) (whole c.ticks.counter) (Tick 10000000 ∷ []) at.0 q.world.entries at.1) _ _ c.in-Err.refusal
+    c.in-Err.ensures.steps
 
 pub ticks-preserved : goal.ticks-preserved
 ticks-preserved g c =
@@ -51,7 +53,8 @@ ticks-preserved g c =
       kept = e.kept;
       recorded = recorded-as [] [] (whole c.ticks.counter ++ Tick 10000000 ∷ []) (whole (c.ticks.counter + 1)) p r before after
           (replicate_more c.ticks.counter (Tick 10000000))
-          (recorded-then [] [] [] [] (whole c.ticks.counter) (Tick 10000000 ∷ []) p q r before (links g.L.Link.turns g.L.Link.given g.L.Link.taken c.ticks.one c.ticks.two) after i.sectors i.recorded e.steps.whole);
+          (recorded-then [] [] [] [] (whole c.ticks.counter) (Tick 10000000 ∷ []) p q r before
+          (links g.L.Link.turns g.L.Link.given g.L.Link.taken c.ticks.one c.ticks.two) after i.sectors i.recorded e.steps.whole);
       sectors = e.steps.sectors ∙ i.sectors;
       commands = e.steps.commands ∙ i.commands;
       faults_one = e.faults_one.no_fault (λ x. absurd cc) ∙ i.faults_one;
@@ -74,4 +77,5 @@ returns-clause-steps g c =
     let after = links g.L.Link.turns g.L.Link.given g.L.Link.taken c.line-2.new.one c.line-2.new.two in
     does-behind (Among (Tick rest ∷ [])) (Among (ticks c.args.ms)) [] [] (whole n) p q r before mid after i.sectors i.commands i.recorded
     (among-moves p.sectors (ticks c.args.ms) (whole n) (Tick rest ∷ []) [] q.world.entries part) _ _ c.line-2.result
-    (λ last. recorded-as [] [] (whole n ++ Tick rest ∷ []) (ticks c.args.ms) p r before after (sym part) (recorded-then [] [] [] [] (whole n) (Tick rest ∷ []) p q r before mid after i.sectors i.recorded last)) c.line-2.ensures.steps
+    (λ last. recorded-as [] [] (whole n ++ Tick rest ∷ []) (ticks c.args.ms) p r before after (sym part)
+    (recorded-then [] [] [] [] (whole n) (Tick rest ∷ []) p q r before mid after i.sectors i.recorded last)) c.line-2.ensures.steps

@@ -11,13 +11,15 @@ returns-in-Ok-push-clause-follows c =
 
 pub returns-in-Ok-push-clause-comes : goal.returns-in-Ok-push-clause-comes
 returns-in-Ok-push-clause-comes c =
-    line-comes c.args.self.now.sectors c.args.self.now.script c.args.self.now.world c.args.event c.requires.follows c.requires.recorded c.step.new.self c.in-Ok.ensures.comes
+    line-comes c.args.self.now.sectors c.args.self.now.script c.args.self.now.world c.args.event c.requires.follows c.requires.recorded c.step.new.self
+    c.in-Ok.ensures.comes
 
 pub returns-in-Err-clause-fails : goal.returns-in-Err-clause-fails
 returns-in-Err-clause-fails c =
     let begins = rw c.requires.follows.going at c.in-Err.ensures.begins in
     let why = rw c.requires.follows.going at c.in-Err.ensures.why in
-    rw (c.stopped.ensures) (fails-at c.args.self.now.sectors c.args.self.now.script c.args.self.now.world c.args.event c.requires.follows (omega (arith, c.if-count-ge-MAX_EVENTS.false, c.count.ensures.count))
+    rw (c.stopped.ensures) (fails-at c.args.self.now.sectors c.args.self.now.script c.args.self.now.world c.args.event c.requires.follows
+    (omega (arith, c.if-count-ge-MAX_EVENTS.false, c.count.ensures.count))
     c.in-Err.refusal c.step.new.self.entries c.step.new.self.lines c.in-Err.ensures.lines
     (record { lawful = c.in-Err.ensures.lawful; reading = c.in-Err.ensures.reading; room = c.in-Err.ensures.room }) begins why)
 

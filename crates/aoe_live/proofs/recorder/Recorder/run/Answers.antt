@@ -30,7 +30,8 @@ returns-in-Err-clause-lives g c =
     c.since-ms.result c.since-ms.ensures (not-before c.turns.last (g.C.Clock.least c.turns.clock) c.now-now.result i.later c.now-now.ensures.least)
     c.in-Err.refusal c.turn.new.self.world.entries
     (ends-as c.turns.self.sectors c.args.self.now.sectors c.turns.self.commands c.args.self.now.commands c.args.turns c.since-ms.result
-    c.in-Err.refusal c.turns.self.script.events c.turns.self.world.entries c.turn.new.self.world.entries one one_after two two_after i.sectors i.commands c.in-Err.ensures.ends)
+    c.in-Err.refusal c.turns.self.script.events c.turns.self.world.entries c.turn.new.self.world.entries one one_after two two_after i.sectors i.commands
+    c.in-Err.ensures.ends)
 
 pub returns-then-is_over-clause-lives : goal.returns-then-is_over-clause-lives
 returns-then-is_over-clause-lives g c =

@@ -10,8 +10,10 @@ abbrev pub invariant-turns : goal.invariant-turns
 invariant-turns g l = record {
   kept : IsKept l.self;
   going : Going l.fn.self.sectors l.fn.self.commands l.turns l.quiet l.last l.self.world.entries l.self.script.events
-      (outside (wire (g.L.Link.turns l.fn.one) (g.L.Link.given l.fn.one) (g.L.Link.taken l.fn.one)) (wire (g.L.Link.turns l.fn.two) (g.L.Link.given l.fn.two) (g.L.Link.taken l.fn.two)) (g.C.Clock.answers l.fn.clock))
-      (outside (wire (g.L.Link.turns l.one) (g.L.Link.given l.one) (g.L.Link.taken l.one)) (wire (g.L.Link.turns l.two) (g.L.Link.given l.two) (g.L.Link.taken l.two)) (g.C.Clock.answers l.clock));
+      (outside (wire (g.L.Link.turns l.fn.one) (g.L.Link.given l.fn.one) (g.L.Link.taken l.fn.one))
+      (wire (g.L.Link.turns l.fn.two) (g.L.Link.given l.fn.two) (g.L.Link.taken l.fn.two)) (g.C.Clock.answers l.fn.clock))
+      (outside (wire (g.L.Link.turns l.one) (g.L.Link.given l.one) (g.L.Link.taken l.one))
+      (wire (g.L.Link.turns l.two) (g.L.Link.given l.two) (g.L.Link.taken l.two)) (g.C.Clock.answers l.clock));
   within : l.quiet ≤ l.turns;
   later : IfSome l.last (λ last. last ≤ g.C.Clock.least l.clock);
   sectors : l.self.sectors ≡ l.fn.self.sectors;

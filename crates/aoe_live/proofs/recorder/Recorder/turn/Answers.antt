@@ -17,7 +17,8 @@ returns-in-Ok-ask-clause-taken g c =
     x.exchanges.whole x.exchanges.sectors x.exchanges.commands x.kept.tally c.ask.new.self
     (links g.L.Link.turns g.L.Link.given g.L.Link.taken c.ask.new.one c.ask.new.two)
     c.in-Ok-ask.ensures.steps.whole
-    _ (ap (λ (t : Tally). not (t.ended == c.args.self.now.tally.ended)) c.in-Ok-ask.ensures.kept.tally ∙ ap (λ (t : Tally). not ((tally_of c.ask.new.self.world.entries).ended == t.ended)) c.requires.kept.tally)
+    _ (ap (λ (t : Tally). not (t.ended == c.args.self.now.tally.ended)) c.in-Ok-ask.ensures.kept.tally
+    ∙ ap (λ (t : Tally). not ((tally_of c.ask.new.self.world.entries).ended == t.ended)) c.requires.kept.tally)
 
 pub returns-in-Err-ask-clause-ends : goal.returns-in-Err-ask-clause-ends
 returns-in-Err-ask-clause-ends g c =

@@ -8,8 +8,11 @@ pub marks-preserved-then-index-eq0 : goal.marks-preserved-then-index-eq0
 marks-preserved-then-index-eq0 c =
     let m = c.self.inside in
     let read = get_or_read m.words.items (c.marks.s / 64) _ (omega (arith, c.self.invariant.room)) c.index.ensures 0 in
-    let none : get_or m.words.items (c.marks.s / 64) 0 ≡ 0 = sym read ∙ c.if-index-eq0.true in
-    (omega arith, clear_more (bits_of m.words.items m.len) c.args.from 64 c.marks.s c.marks.invariant.0 c.marks.invariant.1 (λ k le lt. clear_word m.words.items m.len c.marks.s k none c.if-s-eq0.true le lt))
+    let none : get_or m.words.items (c.marks.s / 64) 0 ≡ 0 = sym read ∙ c.if-index-eq0.true in (
+      omega arith,
+      clear_more (bits_of m.words.items m.len) c.args.from 64 c.marks.s c.marks.invariant.0 c.marks.invariant.1
+          (λ k le lt. clear_word m.words.items m.len c.marks.s k none c.if-s-eq0.true le lt),
+    )
 
 pub contains-requires : goal.contains-requires
 contains-requires c = rw (← c.self.view_is) (omega (arith, length-bits_of c.self.inside.words.items c.self.inside.len))

@@ -20,7 +20,8 @@ invariant_of-self c =
     let m = c.self.inside in
     marks_from m.words.items m.len m.count m.lowest _ c.self.invariant
     (omega (arith, c.first_from-at.ensures.within, ap length c.self.view_is, length-bits_of m.words.items m.len))
-    (rw c.self.view_is (clear_front c.args.self.now m.lowest c.first_from-at.result (rw c.self.view_is at c.self.invariant.lowest) c.first_from-at.ensures.clear))
+    (rw c.self.view_is (clear_front c.args.self.now m.lowest c.first_from-at.result
+    (rw c.self.view_is at c.self.invariant.lowest) c.first_from-at.ensures.clear))
 
 pub returns-clause-run : goal.returns-clause-run
 returns-clause-run c =
@@ -33,7 +34,8 @@ returns-clause-run c =
     record {
       some = elim (cases_lt 0 n) [
         | inl some ↦ some
-        | inr none ↦ let z : n ≡ 0 = omega arith in absurd (both_ways (is_loose c.args.self.now at) (rw (z, e) at (c.run_from-n.ensures.longest (omega arith))) first)
+        | inr none ↦ let z : n ≡ 0 = omega arith in
+            absurd (both_ways (is_loose c.args.self.now at) (rw (z, e) at (c.run_from-n.ensures.longest (omega arith))) first)
       ];
       most = c.run_from-n.ensures.most;
       within = c.run_from-n.ensures.within;

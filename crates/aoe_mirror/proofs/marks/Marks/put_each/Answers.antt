@@ -27,7 +27,8 @@ invariant_of-self c =
     let long = length-bits_of m.words.items m.len in
     let same = ap length is in
     marks_from m.words.items m.len m.count m.lowest _ c.self.invariant (omega (arith, c.max-self-inside.ensures, c.self.invariant.low, c.requires.within))
-    (rw is (clear_through c.args.self.now c.args.at n m.lowest c.max-self-inside.result c.requires.within (rw is at c.self.invariant.lowest) c.if-at-self.true (elim (cases_lt m.lowest (c.args.at + n)) [
+    (rw is (clear_through c.args.self.now c.args.at n m.lowest c.max-self-inside.result c.requires.within (rw is at c.self.invariant.lowest) c.if-at-self.true
+    (elim (cases_lt m.lowest (c.args.at + n)) [
       | inl below ↦ inr (omega (arith, c.max-self-inside.ensures))
       | inr past ↦ inl (omega (arith, c.max-self-inside.ensures))
     ])))

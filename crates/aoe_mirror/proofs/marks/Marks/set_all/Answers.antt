@@ -21,4 +21,5 @@ pub returns : goal.returns
 returns c =
     let n = c.self.inside.len in
     let whole : length c.args.self.now ≡ n = rw (← c.self.view_is) (length-bits_of c.self.inside.words.items n) in
-    rw whole (bits_of_ones c.fill.new.self.items c.self.inside.words.len n (c.fill.ensures.items (λ y e. e)) (omega (arith, c.self.invariant.room, c.self.inside.words.ok.0)))
+    rw whole (bits_of_ones c.fill.new.self.items c.self.inside.words.len n (c.fill.ensures.items (λ y e. e))
+    (omega (arith, c.self.invariant.room, c.self.inside.words.ok.0)))

@@ -24,9 +24,11 @@ returns-in-Ok-clause-blames g c =
     let new = pair_of g.D.Disk.state c.resync-copied.new.self in
     rw (← c.self.view_is) (elim c.lowest-self-inside.ensures.either [
       | inl same ↦ rw same (blames_before _ old mid new c.resync-copied.ensures.copies.counts c.in-Ok.ensures.blames)
-      | inr other ↦ blames_then _ old mid new c.in-Ok.ensures.syncs.counts c.resync-copied.ensures.copies.counts (told_blames c.resync-copied.result _ mid new other c.resync-copied.ensures.blames)
+      | inr other ↦ blames_then _ old mid new c.in-Ok.ensures.syncs.counts c.resync-copied.ensures.copies.counts
+          (told_blames c.resync-copied.result _ mid new other c.resync-copied.ensures.blames)
     ])
 
 pub returns-in-Err-clause-mirror : goal.returns-in-Err-clause-mirror
 returns-in-Err-clause-mirror g c =
-    rw (← c.self.view_is) (err_syncs c.in-Err.disk _ (pair_of g.D.Disk.state c.self.inside.sides) (pair_of g.D.Disk.state c.sync.new.self) c.in-Err.ensures.syncs)
+    rw (← c.self.view_is) (err_syncs c.in-Err.disk _ (pair_of g.D.Disk.state c.self.inside.sides)
+    (pair_of g.D.Disk.state c.sync.new.self) c.in-Err.ensures.syncs)

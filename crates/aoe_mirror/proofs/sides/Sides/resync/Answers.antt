@@ -19,10 +19,13 @@ pub returns-in-Err-clause-blames : goal.returns-in-Err-clause-blames
 returns-in-Err-clause-blames g c =
     let size : length (take (512 * c.in-Some.n) c.args.scratch.now) ≡ 512 * c.in-Some.n =
     length-take-le (512 * c.in-Some.n) c.args.scratch.now (omega (arith, c.in-Some.ensures.run.most, c.requires.scratch)) in
-    rw c.in-Err.is at (copy_blames (pair_of g.D.Disk.state c.args.self.now) c.requires.mirror c.in-Some.at c.in-Some.n c.in-Some.ensures.run c.copy_run.result (pair_of g.D.Disk.state c.copy_run.new.self) (rw (size, c.first_run.ensures.same) at c.copy_run.ensures))
+    rw c.in-Err.is at (copy_blames (pair_of g.D.Disk.state c.args.self.now) c.requires.mirror c.in-Some.at c.in-Some.n c.in-Some.ensures.run c.copy_run.result
+    (pair_of g.D.Disk.state c.copy_run.new.self) (rw (size, c.first_run.ensures.same) at c.copy_run.ensures))
 
 pub returns-clause-copies : goal.returns-clause-copies
 returns-clause-copies g c =
     let size : length (take (512 * c.in-Some.n) c.args.scratch.now) ≡ 512 * c.in-Some.n =
     length-take-le (512 * c.in-Some.n) c.args.scratch.now (omega (arith, c.in-Some.ensures.run.most, c.requires.scratch)) in
-    rw c.put_each.ensures (done_copies (pair_of g.D.Disk.state c.args.self.now) c.requires.mirror c.in-Some.at c.in-Some.n c.in-Some.ensures.run c.copy_run.result (pair_of g.D.Disk.state c.copy_run.new.self) (rw (size, c.first_run.ensures.same) at c.copy_run.ensures) (ap is_err c.in_default-copy_run.is))
+    rw c.put_each.ensures (done_copies
+    (pair_of g.D.Disk.state c.args.self.now) c.requires.mirror c.in-Some.at c.in-Some.n c.in-Some.ensures.run c.copy_run.result
+    (pair_of g.D.Disk.state c.copy_run.new.self) (rw (size, c.first_run.ensures.same) at c.copy_run.ensures) (ap is_err c.in_default-copy_run.is))

@@ -9,7 +9,8 @@ returns-in-Ok g c =
     let old = pair_of g.D.Disk.state c.args.self.now in
     let f = c.follow.ensures in
     subst (MirrorWrites c.args.at c.args.piece.now (Ok tt) old) (sym f.is)
-    (through_writes c.args.at c.args.piece.now old c.requires.mirror c.requires.range (g.D.Disk.state c.write.new.self) c.write.result (ap is_err c.in-Ok.is) c.write.ensures f.answer f.written f.write (Ok tt) refl)
+    (through_writes c.args.at c.args.piece.now old c.requires.mirror c.requires.range (g.D.Disk.state c.write.new.self) c.write.result
+    (ap is_err c.in-Ok.is) c.write.ensures f.answer f.written f.write (Ok tt) refl)
 
 pub returns-in-Err : goal.returns-in-Err
 returns-in-Err g c =
@@ -18,6 +19,8 @@ returns-in-Err g c =
     let lead = g.D.Disk.state c.write.new.self in
     elim c.fall_over.ensures [
       | inl h ↦ subst (MirrorWrites c.args.at c.args.piece.now c.fall_over.result old) (sym h.is)
-          (halted_writes c.args.at c.args.piece.now old c.requires.mirror c.requires.range lead c.write.result (ap is_err c.in-Err.is) c.write.ensures new.follower h.follower c.fall_over.result h.failed)
-      | inr s ↦ swapped_writes c.args.at c.args.piece.now old c.requires.mirror c.requires.range lead c.write.result (ap is_err c.in-Err.is) c.write.ensures (is_err c.fall_over.result) new s c.fall_over.result refl
+          (halted_writes c.args.at c.args.piece.now old c.requires.mirror c.requires.range lead c.write.result
+          (ap is_err c.in-Err.is) c.write.ensures new.follower h.follower c.fall_over.result h.failed)
+      | inr s ↦ swapped_writes c.args.at c.args.piece.now old c.requires.mirror c.requires.range lead c.write.result (ap is_err c.in-Err.is) c.write.ensures
+          (is_err c.fall_over.result) new s c.fall_over.result refl
     ]

@@ -28,7 +28,8 @@ returns-then-has_expired c =
     rw (← c.deref.ensures.value) (c.in_ok-frame.ensures.lookup.3.0, c.in_ok-frame.ensures.lookup.1) in
     let sent : frames_of kept ≡ c.args.self.now.sent = ap (λ (net : Network). net.sent) c.self.view_is in
     let some = found kept c.args.no.0 c.in_ok-index.index frame c.in_ok-index.ensures.0 c.in_ok-index.ensures.1 read.0 read.1 in
-    expired c.args.self.now c.args.no.0 c.args.now.0 (frame_of frame) (rw (← sent) some) (ltb-true (lifetime c.args.self.now.life frame.bytes) (c.args.now.0 - frame.birth.0) (sym c.has_expired.ensures ∙ c.if-has_expired.true))
+    expired c.args.self.now c.args.no.0 c.args.now.0 (frame_of frame) (rw (← sent) some)
+    (ltb-true (lifetime c.args.self.now.life frame.bytes) (c.args.now.0 - frame.birth.0) (sym c.has_expired.ensures ∙ c.if-has_expired.true))
 
 pub returns : goal.returns
 returns c =

@@ -15,7 +15,12 @@ returns-in_default-clause-value c =
     let marks : length (map (λ (path : PathState). path.missed) paths) ≤ c.args.p.0 =
     omega (arith, past, length-map paths (λ (path : PathState). path.missed)) in
     let trips : length (map (λ (path : PathState). path.trips) paths) ≤ c.args.p.0 = omega (arith, past, length-map paths (λ (path : PathState). path.trips)) in
-    rw (← c.self.view_is, set_past (map (λ (path : PathState). path.missed) paths) c.args.p.0 false marks, set_past (map (λ (path : PathState). path.trips) paths) c.args.p.0 _ trips) refl
+    rw (
+      ← c.self.view_is,
+      set_past (map (λ (path : PathState). path.missed) paths) c.args.p.0 false marks,
+      set_past
+          (map (λ (path : PathState). path.trips) paths) c.args.p.0 _ trips,
+    ) refl
 
 pub returns-in_default-clause-recalls : goal.returns-in_default-clause-recalls
 returns-in_default-clause-recalls c = λ log recalls.

@@ -6,7 +6,15 @@ use Rattle.aoe_paths.proofs.RecallLemmas.{recalls-new}
 use Rattle.aoe_paths.proofs.paths.Paths.new.Goals as goal
 
 pub returns-clause-value : goal.returns-clause-value
-returns-clause-value c = rw (c.copy_of.ensures, c.copy_of-2.ensures, c.in_ok-fresh.ensures, c.len.ensures.value, c.len-2.ensures.value, marks-replicate, trips-replicate) refl
+returns-clause-value c = rw (
+  c.copy_of.ensures,
+  c.copy_of-2.ensures,
+  c.in_ok-fresh.ensures,
+  c.len.ensures.value,
+  c.len-2.ensures.value,
+  marks-replicate,
+  trips-replicate,
+) refl
 
 pub returns-clause-recalls : goal.returns-clause-recalls
 returns-clause-recalls c =

@@ -8,5 +8,6 @@ pub returns : goal.returns
 returns c =
     elim c.match-next_word.branch [
       | in-Some+then-is_full w ↦ full_list c.args.line.now (map (λ word. word.now) c.words.list.items) _ c.words.invariant.so_far (search (rules, length-map))
-      | in_default w ↦ ended_list c.args.line.now (map (λ word. word.now) c.words.list.items) _ c.words.invariant.so_far (search rules) (search (rules, length-map))
+      | in_default w ↦ ended_list c.args.line.now (map (λ word. word.now) c.words.list.items) _ c.words.invariant.so_far (search rules)
+          (search (rules, length-map))
     ]

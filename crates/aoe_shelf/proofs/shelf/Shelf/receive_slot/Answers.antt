@@ -22,8 +22,10 @@ returns-clause-receives g c =
 
 pub returns-clause-under : goal.returns-clause-under
 returns-clause-under g c =
-    changed c.args.slot _ c.self.inside.targets.items _ _ _ (ap (λ (shelf : ShelfTable _ _). shelf.targets) c.self.view_is) c.requires c.index_mut.ensures.value c.receive.ensures.under
+    changed c.args.slot _ c.self.inside.targets.items _ _ _
+    (ap (λ (shelf : ShelfTable _ _). shelf.targets) c.self.view_is) c.requires c.index_mut.ensures.value c.receive.ensures.under
 
 pub returns-clause-firm : goal.returns-clause-firm
 returns-clause-firm g c =
-    changed c.args.slot _ c.self.inside.targets.items _ _ _ (ap (λ (shelf : ShelfTable _ _). shelf.targets) c.self.view_is) c.requires c.index_mut.ensures.value c.receive.ensures.firm
+    changed c.args.slot _ c.self.inside.targets.items _ _ _
+    (ap (λ (shelf : ShelfTable _ _). shelf.targets) c.self.view_is) c.requires c.index_mut.ensures.value c.receive.ensures.firm

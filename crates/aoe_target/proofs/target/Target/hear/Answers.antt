@@ -59,7 +59,8 @@ returns-in-Silent-clause-receives g c =
 
 pub returns-in-Refused-clause-receives : goal.returns-in-Refused-clause-receives
 returns-in-Refused-clause-receives g c =
-    let v = judged_is _ _ (Refused c.in-Refused.error) c.in-Some.ensures.there c.in-Some.ensures.fields c.args_of.ensures c.lists-kept.ensures c.in-Refused.ensures.verdict in
+    let v = judged_is _ _ (Refused c.in-Refused.error) c.in-Some.ensures.there c.in-Some.ensures.fields c.args_of.ensures c.lists-kept.ensures
+    c.in-Refused.ensures.verdict in
     let t : Mounted _ _ = record { station = c.self.inside.station; keep = c.self.inside.keep; store = c.self.inside.store } in
     rw (← c.self.view_is) (unmoved _ _ t _ _ _ (Refused c.in-Refused.error) (record {
       by = v;
@@ -68,20 +69,23 @@ returns-in-Refused-clause-receives g c =
       kept = refl;
       silent = λ (clash : heard.Replied effect.None ≡ heard.Silent). absurd cc;
       ignored = λ (clash : heard.Replied effect.None ≡ heard.Ignored). absurd cc;
-      step = λ k h. refused_step t.station _ _ k c.args.frame.now h c.copy.result c.in-Refused.error c.refuse.new.out.items v (c.copy.ensures ∙ c.in-Some.ensures.fields) c.refuse.ensures refl;
+      step = λ k h. refused_step t.station _ _ k c.args.frame.now h c.copy.result c.in-Refused.error c.refuse.new.out.items v
+          (c.copy.ensures ∙ c.in-Some.ensures.fields) c.refuse.ensures refl;
     }))
 
 pub returns-in-Lists-clause-receives : goal.returns-in-Lists-clause-receives
 returns-in-Lists-clause-receives g c =
     let v =
-    judged_is _ _ (Lists c.in-Lists.command) c.in-Some.ensures.there c.in-Some.ensures.fields c.args_of.ensures c.lists-kept.ensures c.in-Lists.ensures.verdict in
+    judged_is _ _ (Lists c.in-Lists.command) c.in-Some.ensures.there c.in-Some.ensures.fields c.args_of.ensures c.lists-kept.ensures
+    c.in-Lists.ensures.verdict in
     let old : Mounted _ _ = record { station = c.self.inside.station; keep = c.self.inside.keep; store = c.self.inside.store } in
     let new : Mounted _ _ = record { station = c.self.inside.station; keep = c.tell.new.keep; store = c.self.inside.store } in
     let calls = by_it g.S.Store.state g.D.Disk.state _ c.tell.result old new (Lists c.in-Lists.command) v
     (record { call = tt; log = logs_none (g.S.Store.state old.store); idle = λ _. refl; edit = c.tell.ensures.edit; unedited = c.tell.ensures.idle }) in
     rw (← c.self.view_is) (record {
       station = refl;
-      step = λ k h. lists_step c.self.inside.station _ _ k c.args.frame.now h c.in-Lists.command c.tell.result c.tell.new.out.items v c.tell.ensures.allowed c.tell.ensures.keeps refl;
+      step = λ k h. lists_step c.self.inside.station _ _ k c.args.frame.now h c.in-Lists.command c.tell.result c.tell.new.out.items v c.tell.ensures.allowed
+          c.tell.ensures.keeps refl;
       silent = c.tell.ensures.empty;
       ignored = λ is. absurd (c.tell.ensures.heard is);
       call = calls.call;
@@ -96,16 +100,21 @@ returns-in-Lists-clause-receives g c =
 pub returns-in-Ata-clause-receives : goal.returns-in-Ata-clause-receives
 returns-in-Ata-clause-receives g c =
     let d : AtaDecision = record c.in-Ata.decision { answer = as_marked c.kept.inside.read_only c.in-Ata.decision.answer } in
-    let v = judged_is _ _ (Ata d) c.in-Some.ensures.there c.in-Some.ensures.fields c.args_of.ensures c.lists-kept.ensures (ap (λ (lists : Settings). marked lists.read_only (Ata c.in-Ata.decision)) c.kept.view_is ∙ c.in-Ata.ensures.verdict) in
+    let v = judged_is _ _ (Ata d) c.in-Some.ensures.there c.in-Some.ensures.fields c.args_of.ensures c.lists-kept.ensures
+    (ap (λ (lists : Settings). marked lists.read_only (Ata c.in-Ata.decision)) c.kept.view_is ∙ c.in-Ata.ensures.verdict) in
     let e = c.serve-effect.result in
     let old : Mounted _ _ = record { station = c.self.inside.station; keep = c.self.inside.keep; store = c.self.inside.store } in
     let new : Mounted _ _ = record { station = c.self.inside.station; keep = c.self.inside.keep; store = c.serve-effect.new.store } in
     let calls = by_it g.S.Store.state g.D.Disk.state _ (heard.Replied e) old new (Ata d) v
     (record { call = c.serve-effect.ensures.call; log = c.serve-effect.ensures.log; idle = c.serve-effect.ensures.idle; edit = tt; unedited = λ _. refl }) in
-    let kept : is_edit_fault e ≡ false = keeps_lists c.self.inside.station (option_map sectors_of (g.S.Store.state c.self.inside.store).contents) c.in-Some.header d.args d.answer e c.serve-effect.new.out.items c.serve-effect.ensures.allowed in
+    let kept : is_edit_fault e ≡ false =
+    keeps_lists c.self.inside.station
+    (option_map sectors_of (g.S.Store.state c.self.inside.store).contents) c.in-Some.header d.args d.answer e c.serve-effect.new.out.items
+    c.serve-effect.ensures.allowed in
     rw (← c.self.view_is) (record {
       station = refl;
-      step = λ k h. ata_step c.self.inside.station _ _ k c.args.frame.now h c.in-Some.header d e c.serve-effect.new.out.items v c.in-Some.ensures.fields c.serve-effect.ensures.allowed c.serve-effect.ensures.leaves refl refl;
+      step = λ k h. ata_step c.self.inside.station _ _ k c.args.frame.now h c.in-Some.header d e c.serve-effect.new.out.items v c.in-Some.ensures.fields
+          c.serve-effect.ensures.allowed c.serve-effect.ensures.leaves refl refl;
       silent = λ (clash : heard.Replied e ≡ heard.Silent). absurd cc;
       ignored = λ (clash : heard.Replied e ≡ heard.Ignored). absurd cc;
       call = calls.call;
@@ -133,24 +142,28 @@ returns-in-Silent-clause-under g c =
 
 pub returns-in-Refused-clause-under : goal.returns-in-Refused-clause-under
 returns-in-Refused-clause-under g c =
-    let v = judged_is _ _ (Refused c.in-Refused.error) c.in-Some.ensures.there c.in-Some.ensures.fields c.args_of.ensures c.lists-kept.ensures c.in-Refused.ensures.verdict in
+    let v = judged_is _ _ (Refused c.in-Refused.error) c.in-Some.ensures.there c.in-Some.ensures.fields c.args_of.ensures c.lists-kept.ensures
+    c.in-Refused.ensures.verdict in
     rw (← c.self.view_is, v) refl
 
 pub returns-in-Lists-clause-under : goal.returns-in-Lists-clause-under
 returns-in-Lists-clause-under g c =
     let v =
-    judged_is _ _ (Lists c.in-Lists.command) c.in-Some.ensures.there c.in-Some.ensures.fields c.args_of.ensures c.lists-kept.ensures c.in-Lists.ensures.verdict in
+    judged_is _ _ (Lists c.in-Lists.command) c.in-Some.ensures.there c.in-Some.ensures.fields c.args_of.ensures c.lists-kept.ensures
+    c.in-Lists.ensures.verdict in
     rw (← c.self.view_is, v) refl
 
 pub returns-in-Ata-clause-under : goal.returns-in-Ata-clause-under
 returns-in-Ata-clause-under g c =
     let d : AtaDecision = record c.in-Ata.decision { answer = as_marked c.kept.inside.read_only c.in-Ata.decision.answer } in
-    let v = judged_is _ _ (Ata d) c.in-Some.ensures.there c.in-Some.ensures.fields c.args_of.ensures c.lists-kept.ensures (ap (λ (lists : Settings). marked lists.read_only (Ata c.in-Ata.decision)) c.kept.view_is ∙ c.in-Ata.ensures.verdict) in
+    let v = judged_is _ _ (Ata d) c.in-Some.ensures.there c.in-Some.ensures.fields c.args_of.ensures c.lists-kept.ensures
+    (ap (λ (lists : Settings). marked lists.read_only (Ata c.in-Ata.decision)) c.kept.view_is ∙ c.in-Ata.ensures.verdict) in
     rw (← c.self.view_is, v) c.serve-effect.ensures.under
 
 pub invariant_of-self-in-Ata : goal.invariant_of-self-in-Ata
 invariant_of-self-in-Ata g c =
-    let same = same_sectors g.S.Store.state (calls_for (as_marked c.kept.inside.read_only c.in-Ata.decision.answer)) (is_fault c.serve-effect.result) c.self.inside.store c.serve-effect.new.store c.serve-effect.ensures.call c.serve-effect.ensures.idle in
+    let same = same_sectors g.S.Store.state (calls_for (as_marked c.kept.inside.read_only c.in-Ata.decision.answer))
+    (is_fault c.serve-effect.result) c.self.inside.store c.serve-effect.new.store c.serve-effect.ensures.call c.serve-effect.ensures.idle in
     (record { size = c.self.invariant.0.size ∙ sym same; bound = c.self.invariant.0.bound; room = c.self.invariant.0.room }, c.self.invariant.1)
 
 pub returns-in-Lists-clause-firm : goal.returns-in-Lists-clause-firm

@@ -12,6 +12,7 @@ invariant_of-self c = elim c.match-insert.branch [
 pub returns-clause-noted : goal.returns-clause-noted
 returns-clause-noted c = elim c.match-insert.branch [
   | in-Ok w ↦ rw w.result-is
-      (noted-is c.self.inside.devices.entries c.args.id c.args.port c.args.args c.self.invariant c.self.view_is c.ports_of-ports.ensures c.add_port.ensures w.in-Ok.ensures.entries)
+      (noted-is c.self.inside.devices.entries c.args.id c.args.port c.args.args c.self.invariant c.self.view_is c.ports_of-ports.ensures c.add_port.ensures
+      w.in-Ok.ensures.entries)
   | in-Err w ↦ rw w.result-is tt
 ]

@@ -11,7 +11,8 @@ returns-in-Err-send_all-clause-exchanges g c = λ base log same m tags. (
 pub returns-in-Err-hear-clause-exchanges : goal.returns-in-Err-hear-clause-exchanges
 returns-in-Err-hear-clause-exchanges g c = λ base log same m tags.
     let u = c.in-Err-hear.ensures.err in (
-      rw c.hear.ensures.taken (broken c.submit_all.ensures.some c.in-Ok.ensures.filled same m tags c.in-Ok-send_all.ensures.some (inl c.in-Ok-send_all.ensures.some.took)),
+      rw c.hear.ensures.taken (broken c.submit_all.ensures.some c.in-Ok.ensures.filled same m tags c.in-Ok-send_all.ensures.some
+          (inl c.in-Ok-send_all.ensures.some.took)),
       record { turns = u.turns ∙ c.send_all.ensures.turns; given_is = u.given_is ∙ c.send_all.ensures.given },
     )
 

@@ -9,7 +9,8 @@ pub returns-then-is_none-clause-some : goal.returns-then-is_none-clause-some
 returns-then-is_none-clause-some g c =
     let same = c.pull.ensures.same in
     sends-all c.requires c.loop.invariant.sending
-    (when-none ((log : List Event) → Matches log c.loop.self.host → IsQuiet c.loop.self.host (commands log)) c.pull.result c.if-is_none.ensures c.pull.ensures.quiet)
+    (when-none ((log : List Event) → Matches log c.loop.self.host → IsQuiet c.loop.self.host (commands log)) c.pull.result c.if-is_none.ensures
+    c.pull.ensures.quiet)
     (when-none ((log : List Event) → Matches log c.loop.self.host → Matches log c.pull.new.self) c.pull.result c.if-is_none.ensures c.pull.ensures.stays)
     (record { same = same.0; last = same.2 }) same.3
     (when-none (c.pull.new.self.flight.last_tag ≡ c.loop.self.host.flight.last_tag) c.pull.result c.if-is_none.ensures c.pull.ensures.no_tag)

@@ -38,7 +38,8 @@ returns-in-Some-Err-clause-turn g c = λ base start rounds run below.
     let adv : Advanced c.args.self.now.host c.advance.new.self c.args.now =
     record { gives_up = a.gives_up; clock_is = a.clock; same = a.same; last = a.last; tag = a.no_tag } in
     let end = rw c.in-Some-Err.field-0-is at c.in-Some-Err.ensures.end in
-    refused-turn base c.take_all.new.self.host c.args.turns start c.args.self.now.course c.take_all.new.self.course rounds c.args.now _ _ _ c.in-Some-Err.refusal
+    refused-turn base c.take_all.new.self.host c.args.turns start c.args.self.now.course c.take_all.new.self.course rounds c.args.now _ _ _
+    c.in-Some-Err.refusal
     (of-outcome c.args.turns c.args.self.now.course c.advance.new.self.waiting c.in-Some-Err.refusal (sym end))
     (ends-turn adv c.take_all.ensures.host run c.take_all.ensures.matches (Err c.in-Some-Err.refusal) end)
 
@@ -46,7 +47,8 @@ pub returns-in-Some-Err-clause-link : goal.returns-in-Some-Err-clause-link
 returns-in-Some-Err-clause-link g c =
     let end = rw c.in-Some-Err.field-0-is at c.in-Some-Err.ensures.end in
     record {
-      cause = λ is below. absurd (not-link c.args.turns c.in-Some-Err.refusal (of-outcome c.args.turns c.args.self.now.course c.advance.new.self.waiting c.in-Some-Err.refusal (sym end)) cc);
+      cause = λ is below. absurd (not-link c.args.turns c.in-Some-Err.refusal
+          (of-outcome c.args.turns c.args.self.now.course c.advance.new.self.waiting c.in-Some-Err.refusal (sym end)) cc);
       no_fault = λ untold. refl;
       one_fault = omega arith;
     }

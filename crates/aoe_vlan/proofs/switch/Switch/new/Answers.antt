@@ -10,7 +10,12 @@ use Rattle.aoe_vlan.proofs.TableLemmas.{covers-all, covers-more, covers-none}
 use Rattle.aoe_vlan.proofs.switch.Switch.new.Goals as goal
 
 pub ports-init : goal.ports-init
-ports-init c = (c.in_ok-copies.ensures.items, subst (λ (l : List Table). AreBlank l) (sym c.new-tables.ensures.items) (λ vid. tt), covers-none carries c.args.ports.now c.new-tables.result.items)
+ports-init c = (
+  c.in_ok-copies.ensures.items,
+  subst (λ (l : List Table). AreBlank l) (sym c.new-tables.ensures.items)
+      (λ vid. tt),
+  covers-none carries c.args.ports.now c.new-tables.result.items,
+)
 
 pub ports-preserved : goal.ports-preserved
 ports-preserved c =

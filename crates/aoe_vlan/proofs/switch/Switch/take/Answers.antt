@@ -11,7 +11,9 @@ use Rattle.aoe_vlan.proofs.switch.Switch.take.Goals as goal
 pub learn-place-requires-clause-table : goal.learn-place-requires-clause-table
 learn-place-requires-clause-table c =
     let lt : c.args.port < length c.self.inside.ports.items = omega (arith, c.requires, ap (λ (k : Knowing). length k.ports) c.self.view_is) in
-    c.self.invariant.2 c.in-Some.vid (any-there c.self.inside.ports.items c.args.port c.index.result.now c.args.frame.now c.in-Some.vid lt c.index.ensures (sym c.vlan_of.ensures ∙ c.in-Some.is))
+    c.self.invariant.2 c.in-Some.vid
+    (any-there c.self.inside.ports.items c.args.port c.index.result.now c.args.frame.now c.in-Some.vid lt c.index.ensures
+    (sym c.vlan_of.ensures ∙ c.in-Some.is))
 
 pub invariant_of-self : goal.invariant_of-self
 invariant_of-self c =
@@ -26,7 +28,11 @@ invariant_of-self c =
       c.self.invariant.1,
       λ w any. subst (λ (l : List Table). IsSome (stations_of w l)) (sym c.learn-place.ensures.tables)
           (some-kept c.in-Some.vid w _ c.args.port s.tables.items (c.self.invariant.2 w any)),
-      (i ∷ before.0, subst (λ (l : List Table). HasLearnt record { ports = s.ports.items; tables = l } (i ∷ before.0)) (sym c.learn-place.ensures.tables) after),
+      (
+        i ∷ before.0,
+        subst (λ (l : List Table). HasLearnt record { ports = s.ports.items; tables = l } (i ∷ before.0))
+            (sym c.learn-place.ensures.tables) after,
+      ),
     )
 
 pub returns-clause-vid : goal.returns-clause-vid

@@ -32,7 +32,8 @@ invariant_of-self-in-Err c =
     let can = c.events_law.ensures.comes script c.args.event.now going.staged.good good in
     let left = c.in-Err.ensures script.setups knows can going.staged.within in
     stopped c.self.invariant c.args.event.now (c.events_law.ensures.ranges script c.args.event.now good) can
-    c.refusal_of-refusal.result left.begun left.lawful c.history.ensures.room (rw c.refusal_of-refusal.ensures (counted-at (setup_of script.setups) c.run-ran.new.sim.run c.in-Err.refusal))
+    c.refusal_of-refusal.result left.begun left.lawful c.history.ensures.room
+    (rw c.refusal_of-refusal.ensures (counted-at (setup_of script.setups) c.run-ran.new.sim.run c.in-Err.refusal))
 
 pub returns-in-Ok-clause-comes : goal.returns-in-Ok-clause-comes
 returns-in-Ok-clause-comes c =
