@@ -4,7 +4,7 @@
 // frames go over UDP on the loopback interface from LINK to SHELF, two ports. With a LIFETIME, in
 // milliseconds, it keeps the order that `aoe get` and `aoe put` keep: a command is sent when one of the
 // 131,072 tags is free, which is two lifetimes after its last frame, and the flush, besides, when no frame of
-// a write can arrive any more.
+// a write can arrive any more. With -DVNI=N each frame is that of a VXLAN of this number (RFC 7348).
 #include <arpa/inet.h>
 #include <endian.h>
 #include <stdint.h>
@@ -21,6 +21,11 @@
 #endif
 #ifndef UNDER_WAY
 #define UNDER_WAY 64
+#endif
+#ifdef VNI
+enum { AHEAD = 8 };
+#else
+enum { AHEAD = 0, VNI = 0 };
 #endif
 enum { HEADER = 24, DATA = HEADER + 12, MOST = 9018, SECTOR = 512, ROOM = 131072 };
 enum { READ = 0x24, WRITE = 0x34, FLUSH = 0xea };
@@ -52,11 +57,13 @@ static uint64_t sectors_of(const struct command *command) {
 
 static void give(const struct command *command) {
     static const uint8_t header[] = {2, 0, 0, 0, 0, 1, 2, 0, 0, 0, 0, 10, 0x88, 0xa2, 0x10, 0, 0, 1, 0, 0};
-    static uint8_t frame[MOST];
+    static uint8_t datagram[AHEAD + MOST];
+    uint8_t *frame = datagram + AHEAD;
     uint32_t tag = htobe32(command->tag);
     uint64_t lba = htole64(start + command->first), sectors = sectors_of(command);
     size_t length = DATA;
     memset(frame, 0, 60);
+    if (AHEAD) memcpy(datagram, (uint8_t[]){8, 0, 0, 0, VNI >> 16, VNI >> 8 & 0xff, VNI & 0xff, 0}, 8);
     memcpy(frame, header, sizeof header);
     memcpy(frame + 20, &tag, 4);
     frame[HEADER] = code == WRITE ? 0x41 : 0x40;
@@ -69,7 +76,7 @@ static void give(const struct command *command) {
     }
     if (length < 60) length = 60;
     if (code != FLUSH) sent_at[command->first / EACH % ROOM] = now();
-    if (sendto(link_socket, frame, length, 0, (struct sockaddr *)&shelf, sizeof shelf) < 0) fail("a command couldn't be sent");
+    if (sendto(link_socket, datagram, AHEAD + length, 0, (struct sockaddr *)&shelf, sizeof shelf) < 0) fail("a command couldn't be sent");
 }
 
 static void wait_until(double time) {
@@ -98,18 +105,19 @@ static int ends(const uint8_t *frame, size_t length) {
 }
 
 static void run(uint64_t total) {
-    static uint8_t frame[MOST];
+    static uint8_t datagram[AHEAD + MOST];
     sent = answered = 0;
     memset(commands, 0, sizeof commands);
     for (int place = 0; place < UNDER_WAY && sent < total; place++) begin(place);
     while (answered < total) {
-        ssize_t length = recvfrom(link_socket, frame, sizeof frame, 0, NULL, NULL);
+        ssize_t length = recvfrom(link_socket, datagram, sizeof datagram, 0, NULL, NULL);
         if (length < 0) {
             for (int place = 0; place < UNDER_WAY; place++)
                 if (commands[place].under_way) give(&commands[place]), again++;
             continue;
         }
-        int place = ends(frame, length);
+        const uint8_t *frame = datagram + AHEAD;
+        int place = ends(frame, length - AHEAD);
         if (place < 0) continue;
         struct command *command = &commands[place];
         if (code == READ) memcpy(data + command->first * SECTOR, frame + DATA, sectors_of(command) * SECTOR);
