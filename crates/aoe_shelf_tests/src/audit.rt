@@ -236,3 +236,19 @@ fn exchanges_that_it_does_not(rt: HostRuntime) -> Result<(), Fail> {
     assert!(rt; is_found(alloc, &swapped, 3, Kind::Reply));
     Ok(())
 }
+
+#[test]
+fn says_why_it_says_no(rt: HostRuntime) -> Result<(), Fail> {
+    let found = |number, kind| AuditRefusal::Finding { number, kind };
+    let texts = [
+        (AuditRefusal::NoMemory, "no memory"),
+        (found(2, Kind::Short), "record 2: Short"),
+        (found(4, Kind::Reply), "record 4: Reply"),
+        (found(3, Kind::Missing), "record 3: Missing"),
+    ];
+    for (refusal, wanted) in &texts {
+        let text = format!(in rt.alloc(); "{refusal}")?;
+        assert!(rt; text.as_str() == *wanted);
+    }
+    Ok(())
+}

@@ -100,3 +100,25 @@ fn a_capture_passes(rt: HostRuntime) -> Result<(), Fail> {
     assert!(rt; ends(rt.alloc(), sink.bytes(), 0, Ok(()), LINE)?);
     Ok(())
 }
+
+#[test]
+fn says_why_a_file_does_not_pass(rt: HostRuntime) -> Result<(), Fail> {
+    let found = |number, kind| AuditStop::Finding { number, kind };
+    let texts = [
+        (AuditStop::SourceFault, "source fault"),
+        (AuditStop::SinkFault, "sink fault"),
+        (AuditStop::NoMemory, "no memory"),
+        (AuditStop::BadHeader, "bad header"),
+        (AuditStop::BadRecord { number: 5 }, "bad record 5"),
+        (AuditStop::Records, "too many records"),
+        (AuditStop::CaptureBytes, "too many captured bytes"),
+        (found(4, Kind::Reply), "record 4: Reply"),
+        (found(3, Kind::Missing), "record 3: Missing"),
+        (found(2, Kind::Short), "record 2: Short"),
+    ];
+    for (stop, wanted) in &texts {
+        let text = format!(in rt.alloc(); "{stop}")?;
+        assert!(rt; text.as_str() == *wanted);
+    }
+    Ok(())
+}
