@@ -1,8 +1,9 @@
+use crate::checks::holds;
 use aoe_base::Blob;
 use aoe_io::{JoinedLink, MemSink, MemSource, SetClock};
 use aoe_live::{LiveRefusal, live};
 use aoe_world::{ReplayEnd, replay};
-use std::alloc::Global;
+use std::alloc::{AllocError, Global};
 use std::test::Fail;
 
 /// What comes of so many commands over two links.
@@ -48,5 +49,33 @@ fn a_replay_of_what_was_recorded_finishes_all_commands(rt: HostRuntime) -> Resul
     let script = recorded(rt.alloc())?;
     let text = replayed(rt.alloc(), script.bytes())?;
     assert!(rt; text.is_some_and(|text| count_done(text.bytes()) == 11));
+    Ok(())
+}
+
+/// Whether this is the text of a refusal.
+fn is_told(alloc: Global, refusal: LiveRefusal, text: &str) -> Result<bool, AllocError> {
+    let told = format!(in alloc; "{refusal}")?;
+    Ok(told.as_str() == text)
+}
+
+#[test]
+fn says_why_there_is_no_script(rt: HostRuntime) -> Result<(), Fail> {
+    let full = LiveRefusal::Full {
+        frames: 200_000,
+        bytes: 7,
+    };
+    let cases = [
+        (LiveRefusal::NoMemory, "out of memory"),
+        (LiveRefusal::LinkFault { link: 1 }, "link 1 failed"),
+        (
+            LiveRefusal::Unanswered { turns: 5000 },
+            "no answer in 5000 turns",
+        ),
+        (full, "the network is full: 200000 frames, 7 bytes"),
+        (LiveRefusal::TooMany, "more than 50000 lines"),
+    ];
+    for (refusal, text) in &cases {
+        holds(&rt, is_told(rt.alloc(), *refusal, text)?, text);
+    }
     Ok(())
 }
