@@ -7,6 +7,7 @@ use Rattle.aoe_base.specs.declared.address.TargetId.{TargetId}
 use Rattle.aoe_base.specs.declared.counted.PathNo.{PathNo}
 use Rattle.aoe_frame.specs.Header.{fields}
 use Rattle.aoe_flight.specs.FlightTable.{no_commands}
+use Rattle.aoe_hold.specs.Extents.{no_extent}
 use Rattle.aoe_initiator.specs.declared.device.Attached.{Attached}
 use Rattle.aoe_initiator.specs.declared.device.Device.{Device}
 use Rattle.aoe_initiator.specs.declared.op.Op.{Op}
@@ -100,7 +101,7 @@ abbrev pub devices_of : List Mac → ℕ → ℕ → List HostCommand → ℕ �
 devices_of ports requests now cs n [] = []
 devices_of ports requests now cs n (d ∷ ds) = record {
   about = d;
-  holds = record { life = requests; latest = now; greatest = None; commands = entered_at n cs; ready = [] };
+  holds = record { life = requests; latest = now; greatest = None; commands = entered_at n cs; ready = []; extent = no_extent };
   paths = new_paths ports d.remotes.items;
 } ∷ devices_of ports requests now cs (n + 1) ds
 

@@ -73,7 +73,11 @@ covers-entered extent keys kept c has covers = All-push (IsWithin (widened exten
     wider : Covers (widened extent c) keys kept
     wider k d below =
         let within = covers k d below in
-        record { reached = omega (arith, within.reached); unflushed = λ out. within.unflushed (or_parts extent.flushes (is_flush c.kind) out).0; keyed = within.keyed }
+        record {
+          reached = omega (arith, within.reached);
+          unflushed = λ out. within.unflushed (or_parts extent.flushes (is_flush c.kind) out).0;
+          keyed = within.keyed;
+        }
 
     own : IsWithin (widened extent c) keys c
     own = record { reached = omega arith; unflushed = λ out. (or_parts extent.flushes (is_flush c.kind) out).1; keyed = has }

@@ -1,7 +1,7 @@
 -- What keeps a command back among those that pass a test.
 use Rattle.std.proofs.Common.{ℕ, ◌≡◌, ◌&&◌, ◌||◌, ◌++◌, not, Bool, true, false, List, [], ◌∷◌, max, None, inl, inr, ◌∙◌, arith, nat_eq, nat_le}
-use Rattle.std.specs.Prelude.{position, All}
-use Rattle.std.specs.List.{list_any}
+use Rattle.std.specs.Prelude.{All}
+use Rattle.std.specs.List.{find, list_any}
 use Rattle.std.proofs.lemmas.Bool.{cases_lt, le-leb, lt-leb}
 use Rattle.std.proofs.lemmas.List.{append_assoc}
 use Rattle.std.proofs.lemmas.List.Folds.{list_any_none}
@@ -12,8 +12,7 @@ use Rattle.aoe_hold.specs.declared.queue.Keeper.TheVariants.{Blocker, Clear}
 use Rattle.aoe_hold.specs.Commands.{conflict}
 use Rattle.aoe_hold.specs.Queue.{blocks, is_blocked, lingers, IsFree, IsKeeperOf, Knows}
 use Rattle.aoe_hold.proofs.ListLemmas.{any-alike, any-or, any-weaker, none-any}
-use Rattle.aoe_hold.proofs.OrderLemmas.{others-missing}
-use Rattle.aoe_hold.proofs.StageLemmas.{one-at, StandsAt}
+use Rattle.aoe_hold.proofs.StageLemmas.{find-none}
 
 -- where none passes the test
 pub free-none : (life : ℕ) (test : Command → Bool) (commands : List Command) (c : Command) → All (λ e. test e ≡ false) commands → IsFree life 0 test commands c
@@ -23,18 +22,19 @@ free-none life test commands c out = record {
   none = λ now after. list_any_none (λ e. test e && lingers life now c e) commands (λ k d below. rw (out k d below));
 }
 
-pub free-missing : (life ticket : ℕ) (commands : List Command) (c : Command) → position (λ e. nat_eq e.ticket.0 ticket) commands ≡ None
+pub free-missing : (life ticket : ℕ) (commands : List Command) (c : Command) → find (λ e. nat_eq e.ticket.0 ticket) commands ≡ None
     → IsFree life 0 (λ e. nat_eq e.ticket.0 ticket) commands c
 free-missing life ticket commands c missing =
-    free-none life (λ e. nat_eq e.ticket.0 ticket) commands c (others-missing (λ e. nat_eq e.ticket.0 ticket) commands missing)
+    free-none life (λ e. nat_eq e.ticket.0 ticket) commands c (find-none (λ e. nat_eq e.ticket.0 ticket) commands missing)
 
-pub free-one : {ticket i : ℕ} {commands : List Command} {e : Command} (life from : ℕ) (c : Command) → StandsAt ticket commands i e → blocks c e ≡ false
+pub free-one : {commands : List Command} {e : Command} (ticket life from : ℕ) (c : Command)
+    → ((p : Command → Bool) → list_any (λ d. nat_eq d.ticket.0 ticket && p d) commands ≡ p e) → blocks c e ≡ false
     → ((now : ℕ) → lingers life now c e ≡ not (nat_le from now)) → IsFree life from (λ d. nat_eq d.ticket.0 ticket) commands c
-free-one {ticket} {i} {commands} {e} life from c at out late = record {
-  free = one-at at (blocks c) ∙ out;
+free-one {commands} {e} ticket life from c one out late = record {
+  free = one (blocks c) ∙ out;
   some = λ now before.
-      any-weaker (λ d. nat_eq d.ticket.0 ticket) (λ d. lingers life now c d) commands (rw (one-at at (λ d. lingers life now c d), late now, lt-leb from now before));
-  none = λ now after. rw (one-at at (λ d. lingers life now c d), late now, le-leb from now after);
+      any-weaker (λ d. nat_eq d.ticket.0 ticket) (λ d. lingers life now c d) commands (rw (one (λ d. lingers life now c d), late now, lt-leb from now before));
+  none = λ now after. rw (one (λ d. lingers life now c d), late now, le-leb from now after);
 }
 
 any-either : (first second p : Command → Bool) (commands : List Command) → list_any (λ e. first e && p e) commands ≡ false

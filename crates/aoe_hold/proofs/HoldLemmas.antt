@@ -76,7 +76,14 @@ module _ {life latest : ℕ} {commands : List Command} {c : Command} {timed bloc
       let before = held-live life latest commands blocked.waiters held.held in
       let now = queued.held (λ _. false) (λ k d below _. before k d below) in
       record {
-        all = λ test. omega (arith, held.all test, queued.timed test, queued.blocked test, split (is_blocked (live life latest commands) c) (test c), unsent-entered life latest commands c fresh test);
+        all = λ test. omega (
+          arith,
+          held.all test,
+          queued.timed test,
+          queued.blocked test,
+          split (is_blocked (live life latest commands) c) (test c),
+          unsent-entered life latest commands c fresh test,
+        );
         held = held-pushed _ c blocked_new.waiters (λ k d below. now k d below refl);
         room = omega (arith, queued.blocked_room);
       }
@@ -129,7 +136,8 @@ index-ended {life} {latest} {unsent} {ticket} {i} {commands} {ended} {new} {time
     (r.free ∙ all-none (λ w. is_blocked after w.command) timed.waiters (free-ended at timed.waiters free.0)) in
     let rest = r.held (held-ended at new blocked.waiters is all_held.held) in
     let held : All (IsHeldBy after) blocked_new.waiters = λ k d below. rest k d below (none k d below) in
-    let all : HasAll after timed_new.waiters ready.waiters blocked_new.waiters = λ test. omega (arith, all_held.all test, r.all test, unsent-ended ticket commands test) in (
+    let all : HasAll after timed_new.waiters ready.waiters blocked_new.waiters =
+    λ test. omega (arith, all_held.all test, r.all test, unsent-ended ticket commands test) in (
       record {
         same = waiters-all after timed_new.waiters ready.waiters blocked_new.waiters all free_new (free-ended at ready.waiters free.1)
             (held-blocked after blocked_new.waiters held);
@@ -151,7 +159,8 @@ held-moved moved held = record { all = λ test. omega (arith, moved.same test, h
 pub index-moved : {life latest now unsent : ℕ} {commands : List Command} {timed ready timed_new ready_new : QueueTable} → latest ≤ now
     → Moved now timed ready timed_new ready_new → IsIndex life latest unsent commands timed ready → IsIndex life now unsent commands timed_new ready_new
 index-moved {life} {latest} {now} {unsent} {commands} later moved index =
-    let knows = moved.knows life commands (λ k d below t from. index.knows_timed k d below t (omega arith)) (λ k d below t from. index.knows_ready k d below t (omega arith)) in
+    let knows = moved.knows life commands (λ k d below t from. index.knows_timed k d below t (omega arith))
+    (λ k d below t from. index.knows_ready k d below t (omega arith)) in
     record {
       same = λ test. moved.same test ∙ index.same test;
       knows_timed = knows.0;

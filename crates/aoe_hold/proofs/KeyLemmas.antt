@@ -1,5 +1,5 @@
 -- The order of keys, and which of them lie in a range.
-use Rattle.std.proofs.Common.{ℕ, cond, ◌≡◌, ◌+◌, ◌-◌, ◌<◌, ◌≤◌, ◌||◌, ◌⊎◌, Bool, true, false, List, [], ◌∷◌, ◌++◌, get_or, length, take, max, inl, inr, refl, sym, ◌∙◌, arith, nat_eq, nat_lt}
+use Rattle.std.proofs.Common.{ℕ, cond, ◌≡◌, ◌+◌, ◌-◌, ◌<◌, ◌≤◌, ◌&&◌, ◌||◌, ◌⊎◌, Bool, true, false, List, [], ◌∷◌, ◌++◌, get_or, length, take, max, inl, inr, refl, sym, ◌∙◌, arith, nat_eq, nat_le, nat_lt, not}
 use Rattle.std.specs.Prelude.{All, Err, Ok, OnOk, Result}
 use Rattle.std.specs.Result.{is_err}
 use Rattle.std.specs.List.{filter, list_any}
@@ -12,7 +12,7 @@ use Rattle.std.specs.BTreeMap.{is_at}
 use Rattle.std.specs.BTreeMap.Range.{range_contains}
 use Rattle.std.specs.BTreeSet.{contains, BTreeSet}
 use Rattle.std.specs.declared.ops.Bound.TheVariants.{Included, Excluded}
-use Rattle.std.proofs.lemmas.Bool.{and_parts, cases_Bool, cases_lt, eq-eqb, eqb-false, false_from_ne_true, ltb-true, or_left, or_right, true≢false}
+use Rattle.std.proofs.lemmas.Bool.{and_parts, cases_Bool, cases_lt, eq-eqb, eqb-false, false_from_ne_true, le-leb, le-ltb, lt-leb, lt-ltb, ltb-true, or_left, or_right, true≢false}
 use Rattle.std.proofs.lemmas.List.{take_all}
 use Rattle.std.proofs.lemmas.List.Elements.{All-head, All-more, All-nil, All-tail}
 use Rattle.std.proofs.lemmas.Cmp.{ranked}
@@ -23,7 +23,7 @@ use Rattle.aoe_hold.specs.declared.command.Command.{Command}
 use Rattle.aoe_hold.specs.declared.keys.Key.{Key}
 use Rattle.aoe_hold.specs.declared.command.Stage.{Stage}
 use Rattle.aoe_hold.specs.Commands.{after_stage, is_past, is_write, live}
-use Rattle.aoe_hold.specs.Extents.{is_key_of, key_cmp, key_of, AreKeysOf, AreLeft, HasKey}
+use Rattle.aoe_hold.specs.Extents.{is_key_of, key_cmp, key_of, lies_between, AreKeysOf, AreLeft, HasKey}
 use Rattle.aoe_hold.proofs.ListLemmas.{any-implies, any-push}
 
 pub beq-same : (a b : Bool) → beq a b ≡ true → a ≡ b
@@ -46,11 +46,17 @@ nat-equal x y Greater is equal = absurd cc
 bool-equal : (x y : Bool) → is_eq (bool_cmp x y) ≡ true → x ≡ y
 bool-equal x y is = grind arith
 
-same-key : (a b : Key) → is_at (key_cmp a) b ≡ true → (a.writes ≡ b.writes) × (a.first ≡ b.first) × (a.ticket.0 ≡ b.ticket.0)
+pub same-key : (a b : Key) → is_at (key_cmp a) b ≡ true → (a.writes ≡ b.writes) × (a.first ≡ b.first) × (a.ticket.0 ≡ b.ticket.0)
 same-key a b is =
     let outer = then-equal (bool_cmp a.writes b.writes) (ordering_then (nat_cmp a.first b.first) (nat_cmp a.ticket.0 b.ticket.0)) is in
     let inner = then-equal (nat_cmp a.first b.first) (nat_cmp a.ticket.0 b.ticket.0) outer.1 in
     (bool-equal a.writes b.writes outer.0, nat-equal a.first b.first _ refl inner.0, nat-equal a.ticket.0 b.ticket.0 _ refl inner.1)
+
+pub key-is : (a b : Key) → (a.writes ≡ b.writes) × (a.first ≡ b.first) × (a.ticket.0 ≡ b.ticket.0) → a ≡ b
+key-is a b is =
+    let whole : (let x : Key = record { writes = a.writes; first = a.first; ticket = record { 0 = a.ticket.0 } } in x)
+    ≡ record { writes = b.writes; first = b.first; ticket = record { 0 = b.ticket.0 } } = rw (is.0, is.1, is.2) refl in
+    whole
 
 other-key : (a b : Command) → nat_eq a.ticket.0 b.ticket.0 ≡ false → is_at (key_cmp (key_of a)) (key_of b) ≡ false
 other-key a b out = false_from_ne_true _ (λ is. eqb-false _ _ out (same-key (key_of a) (key_of b) is).2)
@@ -73,25 +79,11 @@ pub key-stays : (old new : BTreeSet Key) (removed : Key) (gone c : Command)
     → removed ≡ key_of gone → nat_eq gone.ticket.0 c.ticket.0 ≡ false → HasKey old c → HasKey new c
 key-stays old new removed gone c is key out has = is ∙ rw (key, other-key gone c out) has
 
-le-then : (o p : Ordering) → is_le o ≡ true → is_le p ≡ true → is_le (ordering_then o p) ≡ true
-le-then o p first second = grind arith
-
 nat-le : (x y : ℕ) → x ≤ y → is_le (nat_cmp x y) ≡ true
 nat-le x y le = elim (cases_lt x y) [
   | inl below ↦ rw (← nat_cmp_is x y Less below)
   | inr above ↦ rw (← nat_cmp_is x y Equal (omega arith))
 ]
-
-bool-same : (x : Bool) → bool_cmp x x ≡ Equal
-bool-same x = grind arith
-
-in-range : (low high k : Key) → low.writes ≡ k.writes → high.writes ≡ k.writes → low.ticket.0 ≡ 0 → low.first ≤ k.first → k.first < high.first
-    → range_contains key_cmp (Included low) (Excluded high) k ≡ true
-in-range low high k from to zeroth above below =
-    let first : is_le (key_cmp low k) ≡ true =
-    rw (from, bool-same k.writes) (le-then _ _ (nat-le low.first k.first above) (nat-le low.ticket.0 k.ticket.0 (omega arith))) in
-    let last : is_le (key_cmp high k) ≡ false = rw (to, bool-same k.writes, sym (nat_cmp_is high.first k.first Greater below)) in
-    rw (first, last)
 
 -- a span that overlaps another begins ahead of its end, and no further in front of it than its own length
 overlap-near : (a b : Span) (reach : ℕ) → overlap a b ≡ true → a.count ≤ reach + 1 → (b.at - reach ≤ a.at) × (a.at < b.at + b.count)
@@ -101,17 +93,45 @@ overlap-near a b reach is short =
     let second = ltb-true _ _ parts.1 in
     (omega arith, omega arith)
 
+-- which keys lie in a range of one sort
+both-ends : (w v : Bool) (o p : Ordering) → (is_le (ordering_then (bool_cmp w v) o) && not (is_le (ordering_then (bool_cmp w v) p)))
+    ≡ (beq v w && (is_le o && not (is_le p)))
+both-ends w v o p = grind arith
+
+least-ticket : (x y t : ℕ) → is_le (ordering_then (nat_cmp x y) (nat_cmp 0 t)) ≡ nat_le x y
+least-ticket x y t = elim (cases_lt x y) [
+  | inl below ↦ rw (sym (nat_cmp_is x y Less below), le-leb x y (omega arith))
+  | inr from ↦ elim (cases_lt y x) [
+    | inl above ↦ rw (sym (nat_cmp_is x y Greater above), lt-leb x y above)
+    | inr same ↦ rw (sym (nat_cmp_is x y Equal (omega arith)), le-leb x y (omega arith)) (nat-le 0 t (omega arith))
+  ]
+]
+
+not-le : (x y : ℕ) → not (nat_le x y) ≡ nat_lt y x
+not-le x y = elim (cases_lt y x) [
+  | inl below ↦ rw (lt-leb x y below, lt-ltb y x below)
+  | inr from ↦ rw (le-leb x y from, le-ltb y x from)
+]
+
+pub range-is : (writes : Bool) (first until : ℕ) (low high k : Key) → low ≡ record { writes = writes; first = first; ticket = record { 0 = 0 } }
+    → high ≡ record { writes = writes; first = until; ticket = record { 0 = 0 } }
+    → range_contains key_cmp (Included low) (Excluded high) k ≡ lies_between writes first until k
+range-is writes first until low high k from to =
+    rw (from, to) (both-ends writes k.writes (ordering_then (nat_cmp first k.first) (nat_cmp 0 k.ticket.0))
+    (ordering_then (nat_cmp until k.first) (nat_cmp 0 k.ticket.0))
+    ∙ rw (least-ticket first k.first k.ticket.0, least-ticket until k.first k.ticket.0, not-le until k.first) refl)
+
 -- the key of a command whose span overlaps another is met in the range of that
-pub key-met : (keys : BTreeSet Key) (near : List Key) (low high : Key) (e c : Command) (reach : ℕ)
-    → near ≡ filter (range_contains key_cmp (Included low) (Excluded high)) keys.keys
-    → low.writes ≡ is_write e.kind → high.writes ≡ is_write e.kind → low.ticket.0 ≡ 0 → low.first ≡ c.span.at - reach → high.first ≡ c.span.at + c.span.count
+pub key-met : (keys : BTreeSet Key) (near : List Key) (writes : Bool) (first until : ℕ) (e c : Command) (reach : ℕ)
+    → near ≡ filter (lies_between writes first until) keys.keys
+    → is_write e.kind ≡ writes → first ≡ c.span.at - reach → until ≡ c.span.at + c.span.count
     → HasKey keys e → e.span.count ≤ reach + 1 → overlap e.span c.span ≡ true → list_any (λ k. nat_eq e.ticket.0 k.ticket.0) near ≡ true
-key-met keys near low high e c reach is low_writes high_writes zeroth low_first high_first has short over =
+key-met keys near writes first until e c reach is sort low high has short over =
     let near_by = overlap-near e.span c.span reach over short in
     let own : Key → Bool = is_at (key_cmp (key_of e)) in
-    let inside : (k : Key) → own k ≡ true → range_contains key_cmp (Included low) (Excluded high) k ≡ true = λ k found.
+    let inside : (k : Key) → own k ≡ true → lies_between writes first until k ≡ true = λ k found.
     let same = same-key (key_of e) k found in
-    in-range low high k (low_writes ∙ same.0) (high_writes ∙ same.0) zeroth (omega (arith, near_by.0, same.1)) (omega (arith, near_by.1, same.1)) in
+    rw (sym same.0 ∙ sort, le-leb first k.first (omega (arith, near_by.0, same.1)), lt-ltb k.first until (omega (arith, near_by.1, same.1))) (grind arith) in
     any-implies own (λ k. nat_eq e.ticket.0 k.ticket.0) (λ k found. eq-eqb _ _ (same-key (key_of e) k found).2) near
     (rw is (any-filter_same own _ true inside keys.keys ∙ has))
 

@@ -7,6 +7,7 @@ mod IndexLemmas
 mod KeyLemmas
 mod ListLemmas
 mod MoveLemmas
+mod NearLemmas
 mod OrderLemmas
 mod OutsideLemmas
 mod PastLemmas

@@ -33,6 +33,10 @@ filter-map p q f out (x ∷ xs) = elim (cases_Bool (p x)) [
   | inr goes ↦ rw (goes, out x goes) (filter-map p q f out xs)
 ]
 
+pub filter-alike : {X : Type 0} (p q : X → Bool) → ((x : X) → p x ≡ q x) → (xs : List X) → filter p xs ≡ filter q xs
+filter-alike p q same [] = refl
+filter-alike p q same (x ∷ xs) = rw (same x, filter-alike p q same xs) refl
+
 pub any-agree : {X : Type 0} (p q : X → Bool) (xs : List X) → All (λ x. p x ≡ q x) xs → list_any p xs ≡ list_any q xs
 any-agree p q [] same = refl
 any-agree p q (x ∷ xs) same = rw (same 0 x (omega arith), any-agree p q xs (λ k d below. same (suc k) d (omega arith))) refl

@@ -1,12 +1,14 @@
 -- The stage of one command changes.
-use Rattle.std.proofs.Common.{ℕ, zero, suc, ◌≡◌, ◌+◌, ◌<◌, ◌&&◌, cond, Bool, true, false, List, [], ◌∷◌, length, get_or, set, Some, None, refl, sym, ap, ◌∙◌, arith, nat_eq}
+use Rattle.std.proofs.Common.{ℕ, zero, suc, ◌≡◌, ◌+◌, ◌<◌, ◌&&◌, cond, Bool, true, false, List, [], ◌∷◌, length, get_or, set, Some, None, inl, inr, refl, sym, ap, ◌∙◌, arith, nat_eq}
 use Rattle.std.specs.Prelude.{position, All}
-use Rattle.std.specs.List.{list_any}
-use Rattle.std.proofs.lemmas.Bool.{eq-eqb, eqb-true}
+use Rattle.std.specs.List.{find, list_any, position_or_len}
+use Rattle.std.proofs.lemmas.Bool.{cases_Bool, cases_lt, eq-eqb, eqb-true, le-ltb, lt-ltb}
 use Rattle.std.proofs.lemmas.List.{get_or_default}
-use Rattle.std.proofs.lemmas.List.Folds.{list_any_none, map_fixed}
+use Rattle.std.proofs.lemmas.List.Elements.{All-cons, All-head, All-nil, All-tail}
+use Rattle.std.proofs.lemmas.List.Folds.{find_at, list_any_none, map_fixed}
 use Rattle.std.proofs.lemmas.List.Quantifiers.{position-Some}
 use Rattle.std.proofs.lemmas.List.Sums.{sum_by-set}
+use Rattle.std.proofs.lemmas.Option.{slice_get-get_or}
 use Rattle.aoe_base.specs.declared.counted.Millis.{Millis}
 use Rattle.aoe_hold.specs.declared.command.Command.{Command}
 use Rattle.aoe_hold.specs.declared.command.Stage.{Stage}
@@ -102,3 +104,41 @@ module _ {ticket : ℕ} {commands : List Command} {i : ℕ} {command : Command} 
   pub new-ends : (stage : Stage) → stage ≡ stage_finished command.stage
       → (let made : Command = record command { stage = stage } in made) ≡ with_stage ticket stage_finished command
   new-ends stage is = rw (is, eq-eqb _ _ place-ticket) refl
+
+-- ---- the command that is found by its ticket
+
+pub find-at : (p : Command → Bool) (commands : List Command) (i : ℕ) (d : Command) → position p commands ≡ Some i
+    → find p commands ≡ Some (get_or commands i d)
+find-at p commands i d found = elim (cases_lt (position_or_len p commands) (length commands)) [
+  | inl within ↦
+      let same : Some (position_or_len p commands) ≡ Some i = rw (lt-ltb _ _ within) at found in
+      let is : position_or_len p commands ≡ i = cc in
+      find_at p commands ∙ rw is (slice_get-get_or commands i d (omega (arith, within, is)))
+  | inr past ↦ let none : None ≡ Some i = rw (le-ltb _ _ past) at found in absurd cc
+]
+
+pub find-missing : (p : Command → Bool) (commands : List Command) → All (λ c. p c ≡ false) commands → find p commands ≡ None
+find-missing p [] out = refl
+find-missing p (c ∷ commands) out =
+    rw (All-head (λ c. p c ≡ false) c commands out) (find-missing p commands (All-tail (λ c. p c ≡ false) c commands out))
+
+pub find-none : (p : Command → Bool) (commands : List Command) → find p commands ≡ None → All (λ c. p c ≡ false) commands
+find-none p [] none = All-nil (λ c. p c ≡ false)
+find-none p (c ∷ commands) none = elim (cases_Bool (p c)) [
+  | inl here ↦ let found : Some c ≡ None = rw here at none in absurd cc
+  | inr other ↦ All-cons (λ c. p c ≡ false) c commands other (find-none p commands (rw other at none))
+]
+
+pub one-found : (ticket : ℕ) (commands : List Command) (e : Command) → is_ascending commands ≡ true
+    → find (λ c. nat_eq c.ticket.0 ticket) commands ≡ Some e → (p : Command → Bool)
+    → list_any (λ d. nat_eq d.ticket.0 ticket && p d) commands ≡ p e
+one-found ticket [] e up found p = absurd cc
+one-found ticket (c ∷ commands) e up found p = elim (cases_Bool (nat_eq c.ticket.0 ticket)) [
+  | inl here ↦
+      let same : Some c ≡ Some e = rw here at found in
+      let is : c ≡ e = cc in
+      let others = others-behind ticket c commands up here in
+      let none = list_any_none (λ d. nat_eq d.ticket.0 ticket && p d) commands (λ k d below. rw (others k d below) refl) in
+      rw (here, none, is) (grind arith)
+  | inr other ↦ rw other (one-found ticket commands e (ascending-rest c commands up) (rw other at found) p)
+]

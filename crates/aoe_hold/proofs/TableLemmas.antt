@@ -9,6 +9,7 @@ use Rattle.std.proofs.lemmas.List.Sums.{sum_by_push}
 use Rattle.aoe_base.specs.declared.counted.Millis.{Millis}
 use Rattle.aoe_hold.specs.declared.command.Command.{Command}
 use Rattle.aoe_hold.specs.declared.command.Stage.TheVariants.{Unsent}
+use Rattle.aoe_hold.specs.declared.extent.Extent.{Extent}
 use Rattle.aoe_hold.specs.Commands.{after_stage, clear_tickets, is_unsent, live, stage_finished, stage_sent, unsent_count}
 use Rattle.aoe_hold.specs.HoldTable.{after_finish, after_send, at_time, HoldTable, Recalls, is_ascending}
 use Rattle.aoe_hold.proofs.LiveLemmas.{live-live, live-same, recalls-after_stage, recalls-enter, tickets-same}
@@ -23,19 +24,26 @@ above-view table view ticket is above = rw is above
 pub count-enter : (commands : List Command) (c : Command) → c.stage ≡ Unsent → unsent_count (commands ++ c ∷ []) ≡ unsent_count commands + 1
 count-enter commands c fresh = sum_by_push (λ (d : Command). cond (is_unsent d) 1 0) commands c ∙ rw fresh refl
 
-abbrev pub table_of : ℕ → ℕ → Option ℕ → List Command → List ℕ → HoldTable
-table_of life latest greatest commands ready = record { life = life; latest = latest; greatest = greatest; commands = commands; ready = ready }
+abbrev pub table_of : ℕ → ℕ → Option ℕ → List Command → List ℕ → Extent → HoldTable
+table_of life latest greatest commands ready extent = record {
+  life = life;
+  latest = latest;
+  greatest = greatest;
+  commands = commands;
+  ready = ready;
+  extent = extent;
+}
 
 -- the table shows its fields
-module _ {life latest : ℕ} {greatest : Option ℕ} {held : List Command} {ready : List ℕ} {table : HoldTable}
-    (is : table_of life latest greatest held ready ≡ table) where
+module _ {life latest : ℕ} {greatest : Option ℕ} {held : List Command} {ready : List ℕ} {extent : Extent} {table : HoldTable}
+    (is : table_of life latest greatest held ready extent ≡ table) where
   recalls-of : (entered : List Command) → Recalls table entered → live life latest held ≡ live life latest entered
   recalls-of entered recalls = rw (← is) at recalls
 
   pub time-of : (now : ℕ) → table.latest ≤ now → latest ≤ now
   time-of now later = rw (← is) at later
 
-  pub finish-value : (ticket : ℕ) → table_of life latest greatest (after_stage ticket stage_finished held) ready ≡ after_finish table ticket
+  pub finish-value : (ticket : ℕ) → table_of life latest greatest (after_stage ticket stage_finished held) ready extent ≡ after_finish table ticket
   finish-value ticket = rw (← is) refl
 
   pub finish-recalls : (ticket : ℕ) (entered : List Command) → Recalls table entered
@@ -44,7 +52,7 @@ module _ {life latest : ℕ} {greatest : Option ℕ} {held : List Command} {read
       recalls-after_stage life latest latest ticket stage_finished held entered (omega arith) (λ last. refl) (recalls-of entered recalls)
 
   pub send-value : (ticket : ℕ) (now : Millis) (ready_after : List ℕ) → ready_after ≡ filter (λ other. not (nat_eq other ticket)) ready
-      → table_of life now.0 greatest (after_stage ticket (stage_sent now) held) ready_after ≡ after_send table ticket now
+      → table_of life now.0 greatest (after_stage ticket (stage_sent now) held) ready_after extent ≡ after_send table ticket now
   send-value ticket now ready_after ready_is = rw (← is, ready_is) refl
 
   pub send-recalls : (ticket : ℕ) (now : Millis) → table.latest ≤ now.0 → (entered : List Command) → Recalls table entered
@@ -58,7 +66,7 @@ module _ {life latest : ℕ} {greatest : Option ℕ} {held : List Command} {read
       recalls-enter life latest c (live life latest held) entered (live-live life latest latest held (omega arith) ∙ recalls-of entered recalls)
 
   pub time-value : (now : ℕ) (ready_after : List ℕ) → ready_after ≡ clear_tickets life now held
-      → table_of life now greatest held ready_after ≡ at_time table now
+      → table_of life now greatest held ready_after extent ≡ at_time table now
   time-value now ready_after ready_is = rw (← is, ready_is) refl
 
   pub time-recalls : (now : ℕ) → table.latest ≤ now → (entered : List Command) → Recalls table entered → live life now held ≡ live life now entered

@@ -1,5 +1,6 @@
 -- What the held commands are at most, and by what each is found.
-use Rattle.std.specs.Prelude.{ℕ, ◌≡◌, ◌+◌, ◌-◌, ◌≤◌, ◌||◌, ◌⊎◌, Bool, false, true, max, nat_eq, not, List, All}
+use Rattle.std.specs.Prelude.{ℕ, ◌≡◌, ◌+◌, ◌-◌, ◌≤◌, ◌&&◌, ◌||◌, ◌⊎◌, Bool, false, true, max, nat_eq, nat_le, nat_lt, not, List, [], ◌∷◌, All}
+use Rattle.std.specs.Bool.{beq}
 use Rattle.std.specs.Ordering.{bool_cmp, nat_cmp, ordering_then}
 use Rattle.std.specs.declared.cmp.Ordering.{Ordering}
 use Rattle.std.specs.BTreeMap.{is_at}
@@ -36,6 +37,10 @@ Covers extent keys commands = All (IsWithin extent keys) commands
 abbrev pub is_key_of : Key → Command → Bool
 is_key_of key c = is_at (key_cmp (key_of c)) key
 
+-- a key is of a command that writes, or of one that doesn't, and whose first sector lies from one on and ahead of another
+abbrev pub lies_between : Bool → ℕ → ℕ → Key → Bool
+lies_between writes first until key = beq key.writes writes && (nat_le first key.first && nat_lt key.first until)
+
 -- each key of the first set is in the second
 abbrev pub AreAmong : BTreeSet Key → BTreeSet Key → Type 0
 AreAmong few many = (key : Key) → contains key_cmp few key ≡ true → contains key_cmp many key ≡ true
@@ -59,6 +64,11 @@ IsNonePast life now commands c = All (λ e. is_past life now e ≡ true → nat_
 
 abbrev pub no_extent : Extent
 no_extent = record { reach = 0; flushes = false }
+
+-- the extent of the commands that are still held
+abbrev pub kept_extent : Extent → List Command → Extent
+kept_extent extent [] = no_extent
+kept_extent extent (c ∷ commands) = extent
 
 -- the extent of one command more
 abbrev pub widened : Extent → Command → Extent

@@ -1,25 +1,29 @@
 -- What a host keeps of its commands at one device.
-use Rattle.std.specs.Prelude.{ℕ, ◌≡◌, ◌<◌, ◌&&◌, Bool, true, false, not, take, nat_eq, nat_lt, nat_le, List, [], ◌∷◌, ◌++◌, Option, Some, None, All}
-use Rattle.std.specs.List.{filter, list_all}
+use Rattle.std.specs.Prelude.{ℕ, ◌≡◌, ◌<◌, ◌≤◌, ◌^◌, ◌&&◌, Bool, true, false, not, take, nat_eq, nat_lt, nat_le, List, [], ◌∷◌, ◌++◌, Option, Some, None, All}
+use Rattle.std.specs.List.{filter, list_all, list_any}
 use Rattle.aoe_base.specs.declared.counted.Ticket.{Ticket}
 use Rattle.aoe_base.specs.declared.sectors.Span.{Span}
 use Rattle.aoe_base.specs.declared.counted.Millis.{Millis}
 use Rattle.aoe_hold.specs.declared.command.Command.{Command}
 use Rattle.aoe_hold.specs.declared.command.Kind.{Kind}
 use Rattle.aoe_hold.specs.declared.command.Stage.TheVariants.{Unsent}
+use Rattle.aoe_hold.specs.declared.extent.Extent.{Extent}
 use Rattle.aoe_hold.specs.Commands.{after_stage, clear_tickets, is_past, live, stage_finished, stage_sent, unsent_count}
+use Rattle.aoe_hold.specs.Extents.{kept_extent, no_extent, widened}
 
 -- how long a frame can arrive, the latest time that was told, the greatest ticket entered, and the commands
--- that are held, in the order of their tickets; and the tickets of those that were found clear and weren't sent
+-- that are held, in the order of their tickets; the tickets of those that were found clear and weren't sent; and
+-- what the commands were at most since none was held
 pub record HoldTable : Type 0 where
   pub life : ℕ
   pub latest : ℕ
   pub greatest : Option ℕ
   pub commands : List Command
   pub ready : List ℕ
+  pub extent : Extent
 
 abbrev pub no_commands : ℕ → HoldTable
-no_commands life = record { life = life; latest = 0; greatest = None; commands = []; ready = [] }
+no_commands life = record { life = life; latest = 0; greatest = None; commands = []; ready = []; extent = no_extent }
 
 -- of these commands that were entered, the table holds each that a later answer can go by
 abbrev pub Recalls : HoldTable → List Command → Type 0
@@ -33,6 +37,7 @@ abbrev pub with_command : HoldTable → Command → HoldTable
 with_command table c = record table {
   greatest = Some c.ticket.0;
   commands = live table.life table.latest table.commands ++ c ∷ [];
+  extent = widened (kept_extent table.extent (live table.life table.latest table.commands)) c;
 }
 
 -- the commands that are clear at a later time
@@ -69,6 +74,10 @@ StandInOrder greatest unsent commands =
 -- before this time none of the commands is past
 abbrev pub NonePastBefore : ℕ → ℕ → List Command → Type 0
 NonePastBefore life from commands = (now : ℕ) → now < from → All (λ c. is_past life now c ≡ false) commands
+
+-- at each time of 64 bits that isn't before this one, one of the commands is past
+abbrev pub OnePastFrom : ℕ → ℕ → List Command → Type 0
+OnePastFrom life from commands = (now : ℕ) → now < 2 ^ 64 → from ≤ now → list_any (is_past life now) commands ≡ true
 
 -- so many of the first commands are past
 abbrev pub ArePast : ℕ → ℕ → ℕ → List Command → Type 0

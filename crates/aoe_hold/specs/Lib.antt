@@ -4,3 +4,4 @@ pub mod Queue
 pub mod Order
 pub mod Extents
 pub mod Held
+pub mod Looks

@@ -65,7 +65,8 @@ pub record IsIndex (life latest unsent : ℕ) (commands : List Command) (timed r
   pub timed_room : unsent ≤ timed.room
   pub ready_room : unsent ≤ ready.room
 
--- no unfinished command in conflict is among those that pass the test, and from the time on no frame can arrive of one of them that a command waits for; before it one can
+-- no unfinished command in conflict is among those that pass the test, and from the time on no frame can arrive of one of them that a command waits for;
+-- before it one can
 pub record IsFree (life from : ℕ) (test : Command → Bool) (commands : List Command) (c : Command) : Type 0 where
   pub free : list_any (λ e. test e && blocks c e) commands ≡ false
   pub some : (now : ℕ) → now < from → list_any (λ e. lingers life now c e) commands ≡ true

@@ -1,5 +1,5 @@
 //! Commands, and which of them keep others back.
-ghost use Rattle.std.specs.Prelude.{◌≡◌, ◌+◌, ◌<◌, ◌&&◌, ℕ, false, not, nat_le};
+ghost use Rattle.std.specs.Prelude.{◌≡◌, ◌+◌, ◌^◌, ◌<◌, ◌≤◌, ◌&&◌, ℕ, false, true, not, nat_le};
 ghost use Rattle.aoe_hold.specs.Queue.{blocks, lingers};
 ghost use Rattle.aoe_hold.specs.Commands.{comes_first, conflict, finished, has_effect, is_flush, is_past, is_unsent, is_write, rests_on_effects, stage_finished, stage_sent};
 
@@ -123,9 +123,10 @@ impl Command {
         }
     }
 
-    /// The time before which the command isn't past, as long as it isn't sent again.
+    /// The time before which the command isn't past, and from which on it is.
     pub fn past_from(&self, life: Millis) -> u128
-        ensures { (now : ℕ) → now < result → is_past life.0 now self.now ≡ false }
+        ensures before { (now : ℕ) → now < result → is_past life.0 now self.now ≡ false }
+        ensures from { (now : ℕ) → now < 2 ^ 64 → result ≤ now → is_past life.0 now self.now ≡ true }
     {
         match self.stage {
             Stage::Finished(last) => expiry(last, life),

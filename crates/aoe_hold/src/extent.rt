@@ -2,9 +2,10 @@
 ghost use Rattle.std.specs.Prelude.{◌≡◌};
 ghost use Rattle.std.specs.BTreeSet.{BTreeSet as Seen};
 ghost use Rattle.aoe_hold.specs.declared.keys.Key.{Key as KeyValue};
-ghost use Rattle.aoe_hold.specs.Extents.{goes_by_span, no_extent, widened, Covers};
+ghost use Rattle.aoe_hold.specs.Extents.{goes_by_span, kept_extent, no_extent, widened, Covers};
 
 use crate::command::{Command, Kind};
+use crate::held::HeldCommands;
 
 /// A bound of the held commands.
 #[derive(Clone, Copy)]
@@ -28,9 +29,10 @@ impl Extent {
     }
 
     /// The extent of what is still held.
-    pub fn kept(self, commands: &[Command]) -> Extent
-        ensures { (keys : Seen KeyValue) → Covers self keys commands.now
-            → Covers result keys commands.now }
+    pub fn kept(self, commands: &HeldCommands) -> Extent
+        ensures value { result ≡ kept_extent self commands.now.items }
+        ensures covers { (keys : Seen KeyValue) → Covers self keys commands.now.items
+            → Covers result keys commands.now.items }
     {
         if commands.is_empty() {
             Extent::new()

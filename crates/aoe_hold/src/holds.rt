@@ -1,20 +1,22 @@
 //! The commands of one host at one device.
-ghost use Rattle.std.specs.Prelude.{◌≡◌, ◌+◌, ◌-◌, ◌^◌, ◌<◌, ◌≤◌, ◌&&◌, ℕ, nat_eq, nat_le, not, cond, false, true, List, [], ◌∷◌, ◌++◌, length, All, Contains, IfNone, IfSome, OnErr, OnOk};
+ghost use Rattle.std.specs.Prelude.{◌≡◌, ◌+◌, ◌*◌, ◌-◌, ◌^◌, ◌<◌, ◌≤◌, ◌&&◌, ℕ, nat_eq, nat_le, not, cond, false, true, List, [], ◌∷◌, ◌++◌, length, All, Contains, IfNone, IfSome, OnErr, OnOk};
 ghost use Rattle.std.specs.List.{count_by, filter, list_any};
 ghost use Rattle.std.specs.Option.{ForSome};
 ghost use Rattle.aoe_hold.specs.Commands.{after_stage, clear_tickets, finished, stage_finished, stage_sent, unsent_count};
-ghost use Rattle.aoe_hold.specs.Extents.{AddsOnly, AreAmong, Covers, HasKey};
+ghost use Rattle.aoe_hold.specs.declared.command.Command.{Command as CommandValue};
+ghost use Rattle.aoe_hold.specs.Extents.{goes_by_span, AddsOnly, AreAmong, AreKeysOf, Covers, HasKey};
 ghost use Rattle.aoe_hold.specs.HoldTable.{after_finish, after_send, at_time, is_ascending, new_command, no_commands, with_command, ArePast, Recalls};
+ghost use Rattle.aoe_hold.specs.Looks.{is_near, looks_back, looks_to_drop};
 ghost use Rattle.aoe_hold.specs.Queue.{blocks, has_ticket, AreOutside, is_blocked, lingers, waited_for, IsKeeper, Moved, Queued, Released};
 
 use crate::command::{Command, Kind, Stage};
 use crate::extent::Extent;
 use crate::held::HeldCommands;
-use crate::keys::{Key, keeper_by_span, place_of};
+use crate::keeper::keeper_by_span;
+use crate::keys::place_of;
 use crate::queue::{Keeper, Queue, Waiter};
 use aoe_base::{Millis, NoMemory, Span, Steps, Ticket};
 use std::alloc::Global;
-use std::collections::BTreeSet;
 use std::marker::{Brand, Model};
 use std::sync::ledger::{Blank, Ledger};
 
@@ -121,22 +123,27 @@ fn keeper_by_walk(
 }
 
 /// What keeps a command back that is entered after those that are held.
-fn keeper_of(
-    commands: &[Command],
-    keys: &BTreeSet<Key>,
+fn keeper_of<L: Ledger>(
+    commands: &HeldCommands,
     extent: Extent,
     command: &Command,
     life: Millis,
     latest: Millis,
+    steps: &mut Steps<L>,
 ) -> Keeper
-    requires ascending { is_ascending commands.now ≡ true }
-    requires covers { Covers extent keys.now commands.now }
-    ensures { IsKeeper life.0 latest.0 commands.now command.now result }
+    requires ascending { is_ascending commands.now.items ≡ true }
+    requires covers { Covers extent commands.now.keys commands.now.items }
+    ensures keeper { IsKeeper life.0 latest.0 commands.now.items command.now result }
+    ensures by_span { goes_by_span extent command.now.kind ≡ true
+        → (held : List CommandValue) → AreKeysOf commands.now.keys held
+        → steps.new ≤ steps.old + 2 + 2 * count_by (is_near extent command.now) held }
+    ensures by_walk { goes_by_span extent command.now.kind ≡ false
+        → steps.new ≡ steps.old + length commands.now.items }
 {
     if extent.goes_by_span(command.kind) {
-        keeper_by_span(keys, commands, extent, command, life)
+        keeper_by_span(commands, extent, command, life, steps)
     } else {
-        keeper_by_walk(commands, 0, command, life, latest)
+        keeper_by_walk(commands.look_all(steps), 0, command, life, latest)
     }
 }
 
@@ -256,7 +263,7 @@ pub struct Holds {
     /// How many commands were never sent.
     unsent: u32,
 
-    /// Before this time none of the commands is past.
+    /// Before this time none of the commands is past, and from then on one is.
     past_from: u128,
 
     commands: HeldCommands,
@@ -282,7 +289,7 @@ pub struct Holds {
 impl Model for Holds {
     ghost use Rattle.std.specs.Prelude.{map, option_map};
     ghost use Rattle.aoe_hold.specs.Extents.{AreKeysOf, Covers};
-    ghost use Rattle.aoe_hold.specs.HoldTable.{ArePast, HoldTable, StandInOrder, NonePastBefore};
+    ghost use Rattle.aoe_hold.specs.HoldTable.{ArePast, HoldTable, StandInOrder, NonePastBefore, OnePastFrom};
     ghost use Rattle.aoe_hold.specs.Queue.{ticket_of, AreHeld, IsIndex};
 
     ghost Value = { HoldTable };
@@ -293,6 +300,7 @@ impl Model for Holds {
       greatest = option_map (λ t. t.0) holds.greatest;
       commands = holds.commands.items;
       ready = map ticket_of holds.ready.waiters;
+      extent = holds.extent;
     } };
 
     ghost invariant = { λ holds.
@@ -302,7 +310,8 @@ impl Model for Holds {
         × AreHeld holds.unsent holds.commands.items holds.timed holds.ready holds.blocked
         × ArePast holds.life.0 holds.latest.0 holds.gone holds.commands.items
         × Covers holds.extent holds.commands.keys holds.commands.items
-        × AreKeysOf holds.commands.keys holds.commands.items };
+        × AreKeysOf holds.commands.keys holds.commands.items
+        × OnePastFrom holds.life.0 holds.past_from holds.commands.items };
 }
 
 impl Holds {
@@ -325,7 +334,63 @@ impl Holds {
         }
     }
 
-    fn enter_counted<L: Ledger>(
+    /// Enters a command. Its ticket is above all that were entered. The commands that are past are
+    /// dropped.
+    ///
+    /// The bound has four steps more than there are looks at held commands: both ends of what is
+    /// near, and the key of the new command and itself.
+    pub fn enter_counted<L: Ledger>(
+        &mut self,
+        ticket: Ticket,
+        kind: Kind,
+        span: Span,
+        steps: &mut Steps<L>,
+    ) -> Result<(), NoMemory>
+        requires above { ForSome self.old.greatest (λ greatest. greatest < ticket.0) }
+        requires room { unsent_count self.old.commands < 2 ^ 32 - 1 }
+        ensures ok { OnOk result (self.new ≡ with_command self.old (new_command ticket kind span)) }
+        ensures recalls { OnOk result ((entered : List Command) → Recalls self.old entered
+            → Recalls self.new (entered ++ new_command ticket kind span ∷ [])) }
+        ensures err { OnErr result (self.new ≡ self.old) }
+        ensures bound { steps.new ≤ steps.old + 4 + looks_to_drop self.old
+            + looks_back self.old (new_command ticket kind span) }
+    {
+        let command = Command {
+            ticket,
+            kind,
+            span,
+            stage: Stage::Unsent,
+        };
+        make_room(
+            &mut self.commands,
+            &command,
+            &mut self.timed,
+            &mut self.ready,
+            &mut self.blocked,
+            self.unsent + 1,
+        )?;
+        self.past_from = self
+            .commands
+            .forget(self.life, self.latest, self.past_from, steps);
+        self.gone = 0;
+        let extent = self.extent.kept(&self.commands);
+        let keeper = keeper_of(
+            &self.commands,
+            extent,
+            &command,
+            self.life,
+            self.latest,
+            steps,
+        );
+        queue(&mut self.timed, &mut self.blocked, command, keeper);
+        self.commands.push(command);
+        self.extent = extent.widened(&command);
+        self.greatest = Some(ticket);
+        self.unsent += 1;
+        Ok(())
+    }
+
+    fn enter_blank<L: Ledger>(
         &mut self,
         ticket: Ticket,
         kind: Kind,
@@ -342,45 +407,11 @@ impl Holds {
             → Recalls self.new (entered ++ new_command ticket kind span ∷ [])) }
         ensures err { OnErr result (self.new ≡ self.old) }
     {
-        let command = Command {
-            ticket,
-            kind,
-            span,
-            stage: Stage::Unsent,
-        };
-        make_room(
-            &mut self.commands,
-            &command,
-            &mut self.timed,
-            &mut self.ready,
-            &mut self.blocked,
-            self.unsent + 1,
-        )?;
         let mut steps = Steps::<L>::new(blank);
-        self.past_from = self
-            .commands
-            .forget(self.life, self.latest, self.past_from, &mut steps);
-        self.gone = 0;
-        let commands = self.commands.look_all(&mut steps);
-        let extent = self.extent.kept(commands);
-        let keeper = keeper_of(
-            commands,
-            self.commands.look_keys(&mut steps),
-            extent,
-            &command,
-            self.life,
-            self.latest,
-        );
-        queue(&mut self.timed, &mut self.blocked, command, keeper);
-        self.commands.push(command);
-        self.extent = extent.widened(&command);
-        self.greatest = Some(ticket);
-        self.unsent += 1;
-        Ok(())
+        self.enter_counted(ticket, kind, span, &mut steps)
     }
 
-    /// Enters a command. Its ticket is above all that were entered. The commands that are past are
-    /// dropped.
+    /// Enters a command, as `enter_counted` does.
     pub fn enter(&mut self, ticket: Ticket, kind: Kind, span: Span) -> Result<(), NoMemory>
         requires above { ForSome self.old.greatest (λ greatest. greatest < ticket.0) }
         requires room { unsent_count self.old.commands < 2 ^ 32 - 1 }
@@ -389,7 +420,7 @@ impl Holds {
             → Recalls self.new (entered ++ new_command ticket kind span ∷ [])) }
         ensures err { OnErr result (self.new ≡ self.old) }
     {
-        self.enter_counted::<Brand>(ticket, kind, span, Blank::new(1))
+        self.enter_blank::<Brand>(ticket, kind, span, Blank::new(1))
     }
 
     /// The command that may be sent next for the first time.

@@ -15,6 +15,7 @@ mod command;
 mod extent;
 mod held;
 mod holds;
+mod keeper;
 mod keys;
 mod law;
 mod queue;

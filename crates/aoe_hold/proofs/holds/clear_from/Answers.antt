@@ -8,7 +8,8 @@ pub earlier-preserved : goal.earlier-preserved
 earlier-preserved c = (
   omega (arith, c.earlier.invariant.0),
   lingers-more c.args.life.0 c.args.commands.now c.args.command.now c.earlier.left c.earlier.from c.lingers_until.result c.max-from.result none_command
-      (search rules) (omega (arith, c.earlier-test.true)) (omega (arith, c.earlier.invariant.0, c.requires.within)) c.earlier.invariant.1 c.lingers_until.ensures,
+      (search rules) (omega (arith, c.earlier-test.true)) (omega (arith, c.earlier.invariant.0, c.requires.within)) c.earlier.invariant.1
+      c.lingers_until.ensures,
 )
 
 pub returns : goal.returns

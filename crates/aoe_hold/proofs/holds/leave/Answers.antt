@@ -8,7 +8,8 @@ left : (g : Over) (c : Joined-else-may_stand g) → HaveLeft c.args.ticket.0 c.a
     c.args.timed.now.waiters c.else-may_stand.ready.waiters c.args.blocked.now.waiters
 left g c = elim c.else-may_stand.branch [
   | else-may_stand-via-then-may_stand+else-is_none w ↦
-      rw w.ready-is (leaves-first c.args.ticket.0 w.pop_ticket.result _ _ _ _ (search rules) w.pop_ticket.ensures.some (rw w.if-may_stand.true at c.requires.once))
+      rw w.ready-is (leaves-first c.args.ticket.0 w.pop_ticket.result _ _ _ _ (search rules) w.pop_ticket.ensures.some
+      (rw w.if-may_stand.true at c.requires.once))
   | else-may_stand-via-else-may_stand w ↦ rw w.ready-is (leaves-none c.args.ticket.0 _ _ _ (rw w.if-may_stand.false at c.requires.once))
 ]
 

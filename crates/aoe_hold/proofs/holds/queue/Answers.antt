@@ -9,5 +9,6 @@ returns-in-Blocker c = λ life latest commands by.
 pub returns-in-Clear : goal.returns-in-Clear
 returns-in-Clear c = λ life latest commands by.
     let clear = rw c.in-Clear.is at by in
-    queued-timed life latest commands (record { command = c.args.command; from = c.in-Clear.from }) c.args.timed.now c.insert-in-Clear.new.self c.args.blocked.now
+    queued-timed life latest commands (record { command = c.args.command; from = c.in-Clear.from }) c.args.timed.now c.insert-in-Clear.new.self
+    c.args.blocked.now
     c.insert-in-Clear.ensures.waiters c.insert-in-Clear.ensures.room clear.0 clear.1

@@ -16,7 +16,8 @@ held-preserved c =
           rw w.keys-is (
             λ d out has. key-stays _ _ w.of.result gone d (w.remove.ensures.updates.0 (key_of d)) w.of.ensures
                 (out c.held.command-index none_command c.held-test.true past) (c.held.invariant.0 d out has),
-            left-dropped c.args.commands.now c.held.command-index none_command c.held.invariant.1 _ w.of.result c.held-test.true w.of.ensures w.remove.ensures.updates.0,
+            left-dropped c.args.commands.now c.held.command-index none_command c.held.invariant.1 _ w.of.result c.held-test.true w.of.ensures
+                w.remove.ensures.updates.0,
           )
       | else-is_past w ↦
           let stays : is_past c.args.life.0 c.args.now.0 (get_or c.args.commands.now c.held.command-index none_command) ≡ false = search rules in

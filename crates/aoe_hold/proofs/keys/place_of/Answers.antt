@@ -19,7 +19,8 @@ returns-in_default c =
     let point = IsPartitionPoint-from_clause (λ (d : Command). nat_lt d.ticket.0 c.args.ticket.0) commands c.partition_point-at.result
     c.partition_point-at.ensures.partitioned (tickets-parted c.args.ticket.0 commands c.requires) (λ a r f h. search rules) in
     let other : nat_eq c.in-Some.command.now.ticket.0 c.args.ticket.0 ≡ false = search rules in
-    place-none c.args.ticket.0 c.partition_point-at.result commands point.0 none_command c.requires point.1 (λ within. rw (← c.in-Some.ensures.lookup.3.1 none_command) other)
+    place-none c.args.ticket.0 c.partition_point-at.result commands point.0 none_command c.requires point.1
+    (λ within. rw (← c.in-Some.ensures.lookup.3.1 none_command) other)
 
 pub returns-in_default-2 : goal.returns-in_default-2
 returns-in_default-2 c =

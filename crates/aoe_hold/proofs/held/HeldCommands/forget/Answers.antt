@@ -17,4 +17,5 @@ pub returns-clause-left : goal.returns-clause-left
 returns-clause-left g c = rw (← c.self.view_is, ← c.deref.ensures.value) c.drop_past.ensures.left
 
 pub returns-then-from-past_from-clause-left : goal.returns-then-from-past_from-clause-left
-returns-then-from-past_from-clause-left g c = left-same c.args.life.0 c.args.now.0 c.args.self.now.items c.args.self.now.keys (c.requires c.args.now.0 (search rules))
+returns-then-from-past_from-clause-left g c = left-same c.args.life.0 c.args.now.0 c.args.self.now.items c.args.self.now.keys
+    (c.requires c.args.now.0 (search rules))

@@ -1,4 +1,4 @@
 use Rattle.aoe_hold.proofs.holds.Holds.enter.Given as goal
 
-abbrev pub ghosts-enter_counted : goal.ghosts-enter_counted
-ghosts-enter_counted a = record { name = a.blank.name; parts = a.blank.parts }
+abbrev pub ghosts-enter_blank : goal.ghosts-enter_blank
+ghosts-enter_blank a = record { name = a.blank.name; parts = a.blank.parts }

@@ -2,11 +2,11 @@ use Rattle.std.proofs.Common.{◌≡◌, get_or, None, Some, arith, refl, sym, �
 use Rattle.std.specs.Prelude.{position}
 use Rattle.aoe_hold.specs.declared.command.Command.{Command}
 use Rattle.aoe_hold.specs.Commands.{stage_finished}
-use Rattle.aoe_hold.proofs.StageLemmas.{count-finished, new-ends, place-ticket, stage-missing, stage-set, stands-read}
+use Rattle.aoe_hold.proofs.StageLemmas.{count-finished, new-ends, place-ticket, place-within, stage-missing, stage-set, stands-read}
 use Rattle.aoe_hold.proofs.OutsideLemmas.{gone-stage}
 use Rattle.aoe_hold.proofs.ExtentLemmas.{covers-stage}
 use Rattle.aoe_hold.proofs.KeyLemmas.{keys-stage}
-use Rattle.aoe_hold.proofs.PastLemmas.{past-ended}
+use Rattle.aoe_hold.proofs.PastLemmas.{one-ended, past-ended}
 use Rattle.aoe_hold.proofs.OrderLemmas.{ascending-after_stage, up_to-after_stage}
 use Rattle.aoe_hold.proofs.TableLemmas.{finish-recalls, finish-value}
 use Rattle.aoe_hold.proofs.MoveLemmas.{none_command}
@@ -33,11 +33,15 @@ invariant_of-self g c =
         c.self.invariant.0.2 ∙ sym (rw (← set_is) at (count-finished at c.finished-ended.result is)),
       ),
       rw after both.0,
-      rw set_is (past-ended c.self.inside.life.0 c.self.inside.past_from c.past_from.result _ c.in-Some.at held _ c.min-self-inside.ensures c.past_from.ensures c.self.invariant.2),
+      rw set_is (past-ended c.self.inside.life.0 c.self.inside.past_from c.past_from.result _ c.in-Some.at held _ c.min-self-inside.ensures
+          c.past_from.ensures.before c.self.invariant.2),
       rw after both.1,
       rw c.look_all-commands-in-Some.ensures.value at c.count_gone-self-inside.ensures,
-      rw (after, c.set_stage.ensures.keys) (covers-stage c.self.inside.extent c.self.inside.commands.keys c.args.ticket.0 stage_finished held c.self.invariant.5),
+      rw (after, c.set_stage.ensures.keys) (covers-stage c.self.inside.extent c.self.inside.commands.keys c.args.ticket.0 stage_finished held
+          c.self.invariant.5),
       rw (after, c.set_stage.ensures.keys) (keys-stage c.args.ticket.0 stage_finished held c.self.invariant.6),
+      rw after (one-ended c.self.inside.life.0 c.self.inside.past_from c.past_from.result _ c.in-Some.at c.args.ticket.0 held _ c.min-self-inside.ensures
+          (place-within at) (sym set_is ∙ after) c.past_from.ensures.from c.self.invariant.7),
     )
 
 pub release-requires : goal.release-requires
@@ -115,4 +119,5 @@ count_gone-self-inside-requires g c =
     let set_is = c.set_stage.ensures.items none_command in
     let after = set_is ∙ stage-set at stage_finished c.finished-ended.result is in
     rw (c.look_all-commands-in-Some.ensures.value ∙ after)
-    (gone-stage c.self.inside.life.0 c.self.inside.latest.0 _ c.self.inside.gone c.args.ticket.0 stage_finished c.self.inside.commands.items (λ last. refl) (omega arith) c.self.invariant.4)
+    (gone-stage c.self.inside.life.0 c.self.inside.latest.0 _ c.self.inside.gone c.args.ticket.0 stage_finished c.self.inside.commands.items
+    (λ last. refl) (omega arith) c.self.invariant.4)

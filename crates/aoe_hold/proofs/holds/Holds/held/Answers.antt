@@ -6,4 +6,5 @@ pub returns-clause-value : goal.returns-clause-value
 returns-clause-value c = rw (← c.self.view_is) c.self.invariant.0.2
 
 pub returns-clause-entered : goal.returns-clause-entered
-returns-clause-entered c = λ entered recalls. c.self.invariant.0.2 ∙ count-same c.self.inside.life.0 c.self.inside.latest.0 c.self.inside.commands.items entered (recalls-view _ _ entered c.self.view_is recalls)
+returns-clause-entered c = λ entered recalls. c.self.invariant.0.2 ∙ count-same c.self.inside.life.0 c.self.inside.latest.0 c.self.inside.commands.items
+    entered (recalls-view _ _ entered c.self.view_is recalls)

@@ -24,6 +24,7 @@ invariant_of-self g c =
       gone-later c.self.inside.life.0 c.self.inside.latest.0 c.args.now.0 c.self.inside.gone c.self.inside.commands.items later c.self.invariant.4,
       c.self.invariant.5,
       c.self.invariant.6,
+      c.self.invariant.7,
     )
 
 -- the ready queue has the clear commands, and the first of them is told

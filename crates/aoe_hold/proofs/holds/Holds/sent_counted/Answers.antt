@@ -5,7 +5,7 @@ use Rattle.aoe_hold.specs.Commands.{is_unsent, stage_sent}
 use Rattle.aoe_hold.proofs.StageLemmas.{count-sent, stage-missing, stage-set, stands-read}
 use Rattle.aoe_hold.proofs.ExtentLemmas.{covers-stage}
 use Rattle.aoe_hold.proofs.KeyLemmas.{keys-stage}
-use Rattle.aoe_hold.proofs.PastLemmas.{past-sent}
+use Rattle.aoe_hold.proofs.PastLemmas.{one-sent, past-sent}
 use Rattle.aoe_hold.proofs.PlaceLemmas.{leaves-missing, leaves-once}
 use Rattle.aoe_hold.proofs.OrderLemmas.{ascending-after_stage, up_to-after_stage}
 use Rattle.aoe_hold.proofs.OutsideLemmas.{gone-later, gone-stage}
@@ -43,9 +43,11 @@ invariant_of-self g c =
       rw after (past-sent c.self.inside.life.0 c.self.inside.past_from ticket c.args.now held c.self.invariant.2),
       rw after (held-gone _ ticket c.args.now _ _ _ (omega arith) c.leave.ensures.timed c.leave.ensures.ready c.leave.ensures.blocked
           c.leave.ensures.blocked_room c.self.invariant.3),
-      rw after (gone-stage c.self.inside.life.0 c.self.inside.latest.0 c.args.now.0 c.self.inside.gone ticket sent held (λ last. refl) later c.self.invariant.4),
+      rw after (gone-stage c.self.inside.life.0 c.self.inside.latest.0 c.args.now.0 c.self.inside.gone ticket sent held
+          (λ last. refl) later c.self.invariant.4),
       rw (after, c.set_stage.ensures.keys) (covers-stage c.self.inside.extent c.self.inside.commands.keys ticket sent held c.self.invariant.5),
       rw (after, c.set_stage.ensures.keys) (keys-stage ticket sent held c.self.invariant.6),
+      rw after (one-sent c.self.inside.life.0 c.self.inside.past_from ticket c.args.now held c.self.invariant.7),
     )
 
 pub invariant_of-self-in_default : goal.invariant_of-self-in_default
@@ -61,7 +63,8 @@ invariant_of-self-in_default g c =
     let later = time-of c.self.view_is c.args.now.0 c.requires.time in
     let index =
     index-sent c.self.inside.unsent ticket c.args.now c.self.inside.timed c.self.inside.ready later (omega arith) stay.0 stay.1 refl refl c.self.invariant.1 in
-    let queues = held-gone c.self.inside.unsent ticket c.args.now c.self.inside.timed c.self.inside.ready c.self.inside.blocked (omega arith) stay.0 stay.1 stay.2 refl c.self.invariant.3 in (
+    let queues = held-gone c.self.inside.unsent ticket c.args.now c.self.inside.timed c.self.inside.ready c.self.inside.blocked
+    (omega arith) stay.0 stay.1 stay.2 refl c.self.invariant.3 in (
       c.self.invariant.0,
       rw same at index,
       c.self.invariant.2,
@@ -69,6 +72,7 @@ invariant_of-self-in_default g c =
       gone-later c.self.inside.life.0 c.self.inside.latest.0 c.args.now.0 c.self.inside.gone held later c.self.invariant.4,
       c.self.invariant.5,
       c.self.invariant.6,
+      c.self.invariant.7,
     )
 
 pub leave-requires : goal.leave-requires
@@ -79,7 +83,10 @@ leave-requires g c =
     let at = stands-read c.args.ticket.0 c.self.inside.commands.items c.in-Some.at none_command c.self.invariant.0.0 found in
     let read_first : c.is_unsent-first.result ≡ is_unsent (get_or c.look_all-commands.result.now c.in-Some.at none_command) = search rules in
     let first_is = rw seen at read_first in
-    record { once = leaves-once c.self.inside.timed.waiters c.self.inside.ready.waiters c.self.inside.blocked.waiters c.is_unsent-first.result at c.self.invariant.3.all first_is }
+    record {
+      once = leaves-once c.self.inside.timed.waiters c.self.inside.ready.waiters c.self.inside.blocked.waiters c.is_unsent-first.result at
+          c.self.invariant.3.all first_is;
+    }
 
 pub returns-in-Some-clause-value : goal.returns-in-Some-clause-value
 returns-in-Some-clause-value g c =

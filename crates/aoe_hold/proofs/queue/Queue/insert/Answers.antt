@@ -18,7 +18,8 @@ invariant_of-self c =
     let items =
     inserted-room c.insert.result _ _ c.insert.ensures.items c.insert.ensures.full (λ full. omega (arith, fewer, c.self.invariant.reserved, full)) in
     record {
-      order = rw items (ordered-insert time_of ticket_of c.args.waiter waiters place order (omega (arith, c.partition_point-place.ensures.bound)) point.0 point.1);
+      order = rw items (ordered-insert time_of ticket_of c.args.waiter waiters place order
+          (omega (arith, c.partition_point-place.ensures.bound)) point.0 point.1);
       reserved = omega (arith, c.self.invariant.reserved, c.insert.ensures.capacity);
     }
 
