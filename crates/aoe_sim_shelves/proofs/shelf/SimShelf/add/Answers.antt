@@ -4,7 +4,7 @@ use Rattle.aoe_sim_shelves.specs.Shelf.{SimShelf}
 use Rattle.aoe_sim_shelves.proofs.FrontLemmas.{length_last, more_minors, more_targets}
 use Rattle.aoe_sim_shelves.proofs.SeatLemmas.{new_serves, new_station, not_refused, seated_target, IsNew}
 use Rattle.aoe_sim_shelves.proofs.Words.{Shelf}
-use Rattle.aoe_sim_shelves.proofs.model.SimShelf.add.Goals as goal
+use Rattle.aoe_sim_shelves.proofs.shelf.SimShelf.add.Goals as goal
 
 pub seat-requires-clause-taken : goal.seat-requires-clause-taken
 seat-requires-clause-taken c = not_refused _ _ (rw (← c.self.view_is) at c.requires.room) (rw (← c.self.view_is) at c.requires.repeats)

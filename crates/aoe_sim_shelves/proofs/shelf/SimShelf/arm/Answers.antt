@@ -3,7 +3,7 @@ use Rattle.std.proofs.Common.{ap}
 use Rattle.aoe_history.specs.Run.{Recorded}
 use Rattle.aoe_sim_shelves.proofs.ArmLemmas.{armed-same, arming-kept, arming-serves, IsArming}
 use Rattle.aoe_sim_shelves.proofs.ShelfLemmas.{stations-kept}
-use Rattle.aoe_sim_shelves.proofs.model.SimShelf.arm.Goals as goal
+use Rattle.aoe_sim_shelves.proofs.shelf.SimShelf.arm.Goals as goal
 
 pub invariant_of-self : goal.invariant_of-self
 invariant_of-self c =

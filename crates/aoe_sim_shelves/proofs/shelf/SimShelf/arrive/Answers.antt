@@ -5,7 +5,7 @@ use Rattle.aoe_disk.specs.declared.loss.Loss.{Loss}
 use Rattle.aoe_sim_shelves.specs.Arrival.{IsCut}
 use Rattle.aoe_sim_shelves.specs.Shelf.{SimShelf}
 use Rattle.aoe_sim_shelves.proofs.ArrivalLemmas.{crashed-each, crashed-some, passes-all, passes-full, passes-on, passes-some}
-use Rattle.aoe_sim_shelves.proofs.model.SimShelf.arrive.Goals as goal
+use Rattle.aoe_sim_shelves.proofs.shelf.SimShelf.arrive.Goals as goal
 
 on-err : {T E : Type 0} (r : Result T E) (P : Type 0) → P → OnErr r P
 on-err r P p = grind arith

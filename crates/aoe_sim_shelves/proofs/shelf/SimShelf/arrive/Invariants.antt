@@ -3,7 +3,7 @@ use Rattle.aoe_history.specs.Setup.{Setup, SlotSetup}
 use Rattle.aoe_sim_shelves.specs.Arrival.{IsReached}
 use Rattle.aoe_sim_shelves.proofs.ArrivalLemmas.{Passes}
 use Rattle.aoe_sim_shelves.proofs.Words.{stations}
-use Rattle.aoe_sim_shelves.proofs.model.SimShelf.arrive.Given as goal
+use Rattle.aoe_sim_shelves.proofs.shelf.SimShelf.arrive.Given as goal
 
 abbrev pub invariant-slots : goal.invariant-slots
 invariant-slots l = record {

@@ -5,7 +5,7 @@ use Rattle.aoe_history.specs.Run.{Recorded}
 use Rattle.aoe_sim_shelves.specs.Shelf.{SimShelf}
 use Rattle.aoe_sim_shelves.proofs.ArrivalLemmas.{turn-comes, turn-full, IsTurn}
 use Rattle.aoe_sim_shelves.proofs.ShelfLemmas.{both-changes, shelf-kept, receives-same, stations-kept}
-use Rattle.aoe_sim_shelves.proofs.model.SimShelf.arrive_at.Goals as goal
+use Rattle.aoe_sim_shelves.proofs.shelf.SimShelf.arrive_at.Goals as goal
 
 pub invariant_of-self : goal.invariant_of-self
 invariant_of-self c =

@@ -4,7 +4,7 @@ use Rattle.aoe_history.specs.Run.{Recorded}
 use Rattle.aoe_sim_shelves.specs.Shelf.{SimShelf}
 use Rattle.aoe_sim_shelves.proofs.FrontLemmas.{restart_targets, same_stations}
 use Rattle.aoe_sim_shelves.proofs.HistoryLemmas.{all_noted, some_noted}
-use Rattle.aoe_sim_shelves.proofs.model.SimShelf.crash.Goals as goal
+use Rattle.aoe_sim_shelves.proofs.shelf.SimShelf.crash.Goals as goal
 use Rattle.aoe_history.proofs.LogicLemmas.{on-err, on-ok}
 
 pub invariant_of-self : goal.invariant_of-self
