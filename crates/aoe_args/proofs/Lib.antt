@@ -1,4 +1,5 @@
 mod AppLemmas
+mod FindLemmas
 mod LinkLemmas
 mod ListedLemmas
 mod ParsedLemmas
@@ -7,5 +8,6 @@ mod PlainAnswer
 mod PlainLemmas
 mod PortLemmas
 mod RangeLemmas
+mod RightLemmas
 mod SlipLemmas
 mod SwitchLemmas

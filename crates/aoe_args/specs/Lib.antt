@@ -1,4 +1,5 @@
 pub mod Apps
+pub mod Places
 pub mod Slips
 pub mod Switching
 pub mod Tools

@@ -1,10 +1,12 @@
 //! What is wrong with words that are no command.
-ghost use Rattle.std.specs.Prelude.{◌≡◌, ◌<◌, ◌≤◌, ◌↔◌, false, is_some, length, map, string_bytes, true, IfErr, IfNone, IfOk, IfSome, IsSome, None, Some};
+ghost use Rattle.std.specs.Prelude.{◌≡◌, ◌<◌, ◌≤◌, ◌+◌, ◌&&◌, ◌↔◌, false, find, is_some, length, map, option_map, string_bytes, take, true, IfErr, IfNone, IfOk, IfSome, IsSome, IsSomeAnd, None, Some};
 ghost use Rattle.std.specs.List.{list_all, list_any};
 ghost use Rattle.std.specs.Str.{bytes_eq};
-ghost use Rattle.aoe_args.specs.Slips.{IsMisfit, IsSlip, IsWrongOfAll, is_action, is_command_name, value_in, word_at};
+ghost use Rattle.aoe_args.specs.Apps.{argument as told, form as told_form};
+ghost use Rattle.aoe_args.specs.Places.{argument_at, argument_behind, awaits, form_named, is_flag, is_option, option_named, plain_before, takes_several, word_at};
+ghost use Rattle.aoe_args.specs.Slips.{AreRight, IsFit, IsMisfit, IsRight, IsSlip, IsWrongOfAll, actions_of, is_action, is_command_name, is_given, number_wanted, value_in, wanted};
 ghost use Rattle.aoe_args.specs.Values.{number_within};
-ghost use Rattle.aoe_args.specs.Words.{command, is_value, is_word};
+ghost use Rattle.aoe_args.specs.Words.{attached, command, is_value, is_word};
 
 use crate::app::{Argument, FORMS, Form, Place};
 use crate::bounds::{
@@ -15,7 +17,7 @@ use crate::lists::read_dir;
 use crate::ports::{read_port, read_ports};
 use crate::read_words;
 use crate::switch::read_kind;
-use crate::word::{attached, is_value, is_word};
+use crate::word::{attached, is_value, is_word, option_name};
 use aoe_base::{LAST_MAJOR, LAST_MINOR, NoMemory, read_device, read_mac, read_number};
 use std::alloc::Global;
 use thiserror::Error;
@@ -127,7 +129,10 @@ fn of_all(wrong: Wrong) -> Slip
 }
 
 /// What is wrong with an argument of this name that is no such number.
-fn no_number(command: &str, name: &str) -> Option<Wrong> {
+#[tactic(auto, unfolding(crate::specs::Slips::number_wanted))]
+fn no_number(command: &str, name: &str) -> Option<Wrong>
+    ensures { result ≡ number_wanted command.now name.now }
+{
     let (least, most) = match name {
         "shelf" => (0, LAST_MAJOR),
         "slot" => (0, LAST_MINOR),
@@ -150,7 +155,9 @@ fn no_number(command: &str, name: &str) -> Option<Wrong> {
 }
 
 /// The actions of a command.
-fn actions_of(command: &str) -> Actions {
+fn actions_of(command: &str) -> Actions
+    ensures { result ≡ actions_of command.now }
+{
     match command {
         "cfg" => Actions::Config,
         "mask" => Actions::Mask,
@@ -189,7 +196,10 @@ fn is_action(actions: Actions, text: &[u8]) -> bool
 }
 
 /// What is wrong with an argument of this name that isn't what it has to be; `None` where it may be any word.
-fn unfit(command: &str, name: &str) -> Option<Wrong> {
+#[tactic(auto, unfolding(crate::specs::Slips::wanted))]
+fn unfit(command: &str, name: &str) -> Option<Wrong>
+    ensures { result ≡ wanted command.now name.now }
+{
     match name {
         "port" => Some(Wrong::Port),
         "ports" if command == "switch" => Some(Wrong::SwitchPort),
@@ -213,9 +223,10 @@ fn is_number(text: &[u8], least: u64, most: u64) -> bool
 }
 
 /// Whether a text is what this says it isn't. What isn't said of a text alone is never so.
-#[tactic(auto, using(crate::proofs::SlipLemmas::is_none, crate::proofs::SlipLemmas::none_of))]
+#[tactic(auto, using(crate::proofs::SlipLemmas::is_none, crate::proofs::SlipLemmas::none_of, crate::proofs::SlipLemmas::is_there, crate::proofs::SlipLemmas::there_of))]
 fn fits(wrong: Wrong, text: &[u8]) -> bool
-    ensures { result ≡ false → IsMisfit wrong text.now }
+    ensures misfit { result ≡ false → IsMisfit wrong text.now }
+    ensures fit { result ≡ true → IsMisfit wrong text.now → ⊥ }
 {
     match wrong {
         Wrong::Number { least, most } => is_number(text, least, most),
@@ -232,37 +243,63 @@ fn fits(wrong: Wrong, text: &[u8]) -> bool
 
 /// What is wrong with the text of an argument of this name.
 fn misfit(command: &str, name: &str, text: &[u8]) -> Option<Wrong>
-    ensures { IfSome result (λ wrong. IsMisfit wrong text.now) }
+    ensures misfit { IfSome result (λ wrong. IsMisfit wrong text.now) }
+    ensures fit { IfNone result (IsFit command.now name.now text.now) }
 {
     let wrong = unfit(command, name)?;
     if fits(wrong, text) { None } else { Some(wrong) }
 }
 
-/// The name of an option.
-fn option_name(word: &str) -> &str {
-    let text = word.strip_prefix("--").unwrap_or("");
-    match text.split_once('=') {
-        Some((name, _)) => name,
-        None => text,
-    }
+/// Whether an argument is given as an option.
+fn is_option(place: Place) -> bool
+    ensures { result ≡ is_option place }
+{
+    matches!(place, Place::Optional | Place::Flag)
+}
+
+/// Whether an argument is an option without a value.
+fn is_flag(place: Place) -> bool
+    ensures { result ≡ is_flag place }
+{
+    matches!(place, Place::Flag)
+}
+
+/// Whether any number of words go to an argument.
+fn takes_several(place: Place) -> bool
+    ensures { result ≡ takes_several place }
+{
+    matches!(place, Place::Several | Place::AllowedSeveral)
+}
+
+/// Whether an argument is the option of this name.
+fn is_named(argument: Argument, name: &[u8]) -> bool
+    ensures { result ≡ (bytes_eq (told argument.entry).0 name.now && is_option (told argument.entry).1) }
+{
+    argument.0.as_bytes() == name && is_option(argument.1)
 }
 
 /// The option of this name, where the form has one.
-fn option_in(form: Form, name: &str) -> Option<Argument> {
+fn option_in(form: Form, name: &[u8]) -> Option<Argument>
+    ensures { option_map told result ≡ option_named (told_form form.entry).1 name.now }
+{
     'arguments: for argument in form.1 {
-        if argument.0 == name {
-            return match argument.1 {
-                Place::Optional | Place::Flag => Some(*argument),
-                _ => None,
-            };
+        if is_named(*argument, name) {
+            return Some(*argument);
         }
     }
     None
 }
 
 /// Whether one of these words is an option of this name.
-fn is_given(words: &[String], name: &str) -> bool {
-    words.iter().any(|word| word.as_str().starts_with("--") && option_name(word.as_str()) == name)
+fn is_given(words: &[String], name: &str) -> bool
+    ensures { result ≡ is_given name.now (map string_bytes words.now) }
+{
+    'words: for place in 0..words.len() {
+        if option_name(word_at(words, place)) == name.as_bytes() {
+            return true;
+        }
+    }
+    false
 }
 
 /// The bytes of the word at this place.
@@ -278,100 +315,157 @@ fn word_at(words: &[String], place: usize) -> &[u8]
 fn text_slip(command: &str, name: &str, words: &[String], place: usize, text: &[u8]) -> Option<Slip>
     requires place { (1 ≤ place) × (place < length words.now) }
     requires text { text.now ≡ value_in (word_at place (map string_bytes words.now)) }
-    ensures { IfSome result (IsSlip (map string_bytes words.now)) }
+    ensures slip { IfSome result (IsSlip (map string_bytes words.now)) }
+    ensures none { IfNone result (IsFit command.now name.now text.now) }
 {
     let wrong = misfit(command, name, text)?;
     Some(at(place, wrong))
 }
 
-/// What is wrong with the value of the option at this place, which is of this name.
-fn value_slip(command: &str, name: &str, words: &[String], place: usize) -> Option<Slip>
+/// What is wrong with an option without a value, the one at this place.
+fn flag_slip(words: &[String], place: usize) -> Option<Slip>
     requires place { (1 ≤ place) × (place < length words.now) }
-    requires option { is_value (word_at place (map string_bytes words.now)) ≡ false }
-    ensures { IfSome result (IsSlip (map string_bytes words.now)) }
+    ensures slip { IfSome result (IsSlip (map string_bytes words.now)) }
+    ensures none { IfNone result (attached (word_at place (map string_bytes words.now)) ≡ None) }
 {
-    if let Some(value) = attached(word_at(words, place)) {
-        return text_slip(command, name, words, place, value);
-    }
-    if place + 1 < words.len() && is_value(word_at(words, place + 1)) {
-        return text_slip(command, name, words, place + 1, word_at(words, place + 1));
-    }
-    Some(at(place, Wrong::NoValue))
+    attached(word_at(words, place))?;
+    Some(at(place, Wrong::Flag))
 }
 
-/// What is wrong with the option at this place, or whether the next word is its value.
-fn option_slip(form: Form, words: &[String], place: usize) -> Result<bool, Slip>
+/// What is wrong with the value of the option at this place, which is of this name, as far as it
+/// stands in this word; or whether the next word is its value.
+fn value_slip(command: &str, name: &str, words: &[String], place: usize) -> Result<bool, Slip>
     requires place { (1 ≤ place) × (place < length words.now) }
     requires option { is_value (word_at place (map string_bytes words.now)) ≡ false }
-    ensures { IfErr result (IsSlip (map string_bytes words.now)) }
+    ensures slip { IfErr result (IsSlip (map string_bytes words.now)) }
+    ensures attached { IfOk result (λ next. next ≡ false → IsSomeAnd
+        (attached (word_at place (map string_bytes words.now))) (IsFit command.now name.now)) }
+    ensures next { IfOk result (λ next. next ≡ true →
+        (attached (word_at place (map string_bytes words.now)) ≡ None)
+        × (place + 1 < length words.now)
+        × (is_value (word_at (place + 1) (map string_bytes words.now)) ≡ true)) }
 {
-    let Some((name, kind)) = option_in(form, option_name(words[place].as_str())) else {
+    if let Some(value) = attached(word_at(words, place)) {
+        return match text_slip(command, name, words, place, value) {
+            Some(slip) => Err(slip),
+            None => Ok(false),
+        };
+    }
+    if place + 1 < words.len() && is_value(word_at(words, place + 1)) {
+        return Ok(true);
+    }
+    Err(at(place, Wrong::NoValue))
+}
+
+/// What is wrong with the option at this place, or its name where the next word is its value.
+#[tactic(auto, unfolding(crate::specs::Places::awaits))]
+fn option_slip(form: Form, words: &[String], place: usize) -> Result<Option<&'static str>, Slip>
+    requires place { (1 ≤ place) × (place < length words.now) }
+    requires option { is_value (word_at place (map string_bytes words.now)) ≡ false }
+    ensures slip { IfErr result (IsSlip (map string_bytes words.now)) }
+    ensures next { IfOk result (λ next. option_map (λ name. name.now) next
+        ≡ awaits (told_form form.entry) (map string_bytes words.now) (place + 1)) }
+    ensures right { IfOk result (λ next. IsRight (told_form form.entry) (map string_bytes words.now) place) }
+{
+    let Some((name, kind)) = option_in(form, option_name(word_at(words, place))) else {
         return Err(at(place, Wrong::Option));
     };
     if is_given(&words[..place], name) {
         return Err(at(place, Wrong::Twice));
     }
-    let has_value = attached(word_at(words, place)).is_some();
-    if matches!(kind, Place::Flag) {
-        return if has_value {
-            Err(at(place, Wrong::Flag))
-        } else {
-            Ok(false)
+    if is_flag(kind) {
+        return match flag_slip(words, place) {
+            Some(slip) => Err(slip),
+            None => Ok(None),
         };
     }
-    match value_slip(form.0, name, words, place) {
-        Some(slip) => Err(slip),
-        None => Ok(!has_value),
+    if value_slip(form.0, name, words, place)? {
+        Ok(Some(name))
+    } else {
+        Ok(None)
     }
 }
 
-/// The argument of a form that a word goes to which stands behind so many others that are no options.
-fn argument(form: Form, before: usize) -> Option<Argument> {
+/// The name of the argument of a form that a word goes to which stands behind so many others that
+/// are no options.
+fn argument(form: Form, before: usize) -> Option<&'static str>
+    ensures { option_map (λ name. name.now) result ≡ argument_behind (told_form form.entry).1 before }
+{
     let mut left = before;
     'arguments: for argument in form.1 {
-        match argument.1 {
-            Place::Optional | Place::Flag => {}
-            Place::Several | Place::AllowedSeveral => return Some(*argument),
-            Place::Needed | Place::Allowed => {
-                if left == 0 {
-                    return Some(*argument);
-                }
-                left -= 1;
-            }
+        if is_option(argument.1) {
+            continue;
         }
+        if takes_several(argument.1) || left == 0 {
+            return Some(argument.0);
+        }
+        left -= 1;
     }
     None
 }
 
-/// What is wrong with the word at this place, which is no option, behind so many others.
-fn word_slip(form: Form, words: &[String], place: usize, before: usize) -> Option<Slip>
+/// What is wrong with the word at this place, which is no option and goes to the argument of this
+/// name, if to any.
+fn word_slip(form: Form, words: &[String], place: usize, name: Option<&str>) -> Option<Slip>
     requires place { (1 ≤ place) × (place < length words.now) }
     requires word { is_value (word_at place (map string_bytes words.now)) ≡ true }
-    ensures { IfSome result (IsSlip (map string_bytes words.now)) }
+    requires name { option_map (λ name. name.now) name
+        ≡ argument_at (told_form form) (map string_bytes words.now) place }
+    ensures slip { IfSome result (IsSlip (map string_bytes words.now)) }
+    ensures none { IfNone result (IsRight (told_form form.entry) (map string_bytes words.now) place) }
 {
-    match argument(form, before) {
-        Some((name, _)) => text_slip(form.0, name, words, place, word_at(words, place)),
+    match name {
+        Some(name) => text_slip(form.0, name, words, place, word_at(words, place)),
         None => Some(at(place, Wrong::Further)),
+    }
+}
+
+/// How many words stand before the next place that are neither options nor values of them, and the
+/// option that the next word is the value of; or what is wrong with the word at this place.
+fn step(
+    form: Form,
+    words: &[String],
+    place: usize,
+    before: usize,
+    awaited: Option<&'static str>,
+) -> Result<(usize, Option<&'static str>), Slip>
+    requires place { (1 ≤ place) × (place < length words.now) }
+    requires few { before ≤ place }
+    requires before { before ≡ plain_before (told_form form) (map string_bytes words.now) place }
+    requires awaited { option_map (λ name. name.now) awaited
+        ≡ awaits (told_form form) (map string_bytes words.now) place }
+    ensures slip { IfErr result (IsSlip (map string_bytes words.now)) }
+    ensures few { IfOk result (λ r. r.0 ≤ place + 1) }
+    ensures before { IfOk result (λ r. r.0
+        ≡ plain_before (told_form form.entry) (map string_bytes words.now) (place + 1)) }
+    ensures awaited { IfOk result (λ r. option_map (λ name. name.now) r.1
+        ≡ awaits (told_form form.entry) (map string_bytes words.now) (place + 1)) }
+    ensures right { IfOk result (λ r. IsRight (told_form form.entry) (map string_bytes words.now) place) }
+{
+    if !is_value(word_at(words, place)) {
+        return Ok((before, option_slip(form, words, place)?));
+    }
+    if let Some(name) = awaited {
+        return match word_slip(form, words, place, Some(name)) {
+            Some(slip) => Err(slip),
+            None => Ok((before, None)),
+        };
+    }
+    match word_slip(form, words, place, argument(form, before)) {
+        Some(slip) => Err(slip),
+        None => Ok((before + 1, None)),
     }
 }
 
 /// How many words behind the command are no options nor values of them, or the first of them that is wrong.
 fn walk(form: Form, words: &[String]) -> Result<usize, Slip>
-    ensures { IfErr result (IsSlip (map string_bytes words.now)) }
+    ensures slip { IfErr result (IsSlip (map string_bytes words.now)) }
+    ensures right { IfOk result (λ before. AreRight (told_form form.entry) (map string_bytes words.now)) }
 {
     let mut before = 0;
-    let mut awaits_value = false;
+    let mut awaited = None;
     'words: for place in 1..words.len() {
-        if awaits_value {
-            awaits_value = false;
-        } else if is_value(word_at(words, place)) {
-            if let Some(slip) = word_slip(form, words, place, before) {
-                return Err(slip);
-            }
-            before += 1;
-        } else {
-            awaits_value = option_slip(form, words, place)?;
-        }
+        (before, awaited) = step(form, words, place, before, awaited)?;
     }
     Ok(before)
 }
@@ -396,7 +490,7 @@ fn title(name: &'static str) -> &'static str {
 
 /// Which end of its link a form lacks.
 fn lacking_end(form: Form, words: &[String]) -> Option<&'static str> {
-    if option_in(form, "local").is_some() && !is_given(words, "tap") {
+    if option_in(form, b"local").is_some() && !is_given(words, "tap") {
         if !is_given(words, "local") {
             return Some("--local");
         }
@@ -404,7 +498,7 @@ fn lacking_end(form: Form, words: &[String]) -> Option<&'static str> {
             return Some("--peers");
         }
     }
-    if option_in(form, "one").is_some() && !is_given(words, "one-tap") {
+    if option_in(form, b"one").is_some() && !is_given(words, "one-tap") {
         if !is_given(words, "one") {
             return Some("--one");
         }
@@ -419,6 +513,8 @@ fn lacking_end(form: Form, words: &[String]) -> Option<&'static str> {
 fn lack(form: Form, words: &[String], before: usize) -> Wrong
     requires words { list_all is_word (map string_bytes words.now) ≡ true }
     requires name { is_command_name (word_at 0 (map string_bytes words.now)) ≡ true }
+    requires form { form_named (word_at 0 (map string_bytes words.now)) ≡ Some (told_form form) }
+    requires right { AreRight (told_form form) (map string_bytes words.now) }
     ensures { IsWrongOfAll (map string_bytes words.now) result }
 {
     let needed = form
@@ -427,7 +523,7 @@ fn lack(form: Form, words: &[String], before: usize) -> Wrong
         .filter(|(_, place)| matches!(place, Place::Needed | Place::Several))
         .count();
     if before < needed
-        && let Some((name, _)) = argument(form, before)
+        && let Some(name) = argument(form, before)
     {
         return Wrong::Missing(title(name));
     }
@@ -439,7 +535,9 @@ fn lack(form: Form, words: &[String], before: usize) -> Wrong
 
 /// The form of this name among these.
 fn form_in(forms: &[Form], name: &str) -> Option<Form>
-    ensures { is_some result ≡ list_any (λ form. bytes_eq name.now form.0.now) forms.now }
+    ensures there { is_some result ≡ list_any (λ form. bytes_eq name.now form.0.now) forms.now }
+    ensures form { option_map told_form result
+        ≡ find (λ form. bytes_eq name.now form.0) (map told_form forms.now) }
 {
     'forms: for form in forms {
         if name == form.0 {
@@ -450,8 +548,10 @@ fn form_in(forms: &[Form], name: &str) -> Option<Form>
 }
 
 /// The form of the command of this name.
+#[tactic(auto, unfolding(crate::specs::Places::forms))]
 fn form_of(name: &str) -> Option<Form>
-    ensures { is_some result ≡ is_command_name name.now }
+    ensures there { is_some result ≡ is_command_name name.now }
+    ensures form { option_map told_form result ≡ form_named name.now }
 {
     form_in(&FORMS, name)
 }

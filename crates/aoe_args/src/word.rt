@@ -1,6 +1,7 @@
 //! What a word of a command line can be, whatever its command.
 ghost use Rattle.std.specs.Prelude.{◌≡◌, ◌==◌, option_and_then, option_map, position};
 ghost use Rattle.clap.specs.Lexer.{strip_byte};
+ghost use Rattle.aoe_args.specs.Places.{option_name};
 ghost use Rattle.aoe_args.specs.Words.{attached, is_value, is_word};
 
 /// The greatest length of a word, in bytes.
@@ -38,6 +39,20 @@ pub(crate) fn attached(word: &[u8]) -> Option<&[u8]>
     let text = option_text(word)?;
     let equals = place_of(b'=', text)?;
     Some(&text[equals + 1..])
+}
+
+/// The name of an option: what stands between its two hyphens and the first `=`. It is empty where
+/// the word is none.
+pub(crate) fn option_name(word: &[u8]) -> &[u8]
+    ensures { result.now ≡ option_name word.now }
+{
+    let Some(text) = option_text(word) else {
+        return &[];
+    };
+    match place_of(b'=', text) {
+        Some(equals) => &text[..equals],
+        None => text,
+    }
 }
 
 /// Whether a word can stand on a command line: it has 1 to 4096 bytes, is neither one hyphen nor
