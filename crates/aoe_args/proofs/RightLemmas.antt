@@ -1,5 +1,5 @@
 -- What the walk over the words of a command shows of each word.
-use Rattle.std.proofs.Common.{◌≡◌, ◌∙◌, ◌<◌, ◌≤◌, ◌+◌, ◌==◌, ◌||◌, ◌&&◌, ℕ, Bool, true, false, not, List, length, take, Option, Some, None, nat_lt, refl, sym, ap, subst, arith, add-one}
+use Rattle.std.proofs.Common.{◌≡◌, ◌∙◌, ◌<◌, ◌≤◌, ◌+◌, ◌==◌, ℕ, Bool, true, false, List, length, take, Option, Some, None, nat_lt, refl, sym, ap, subst, arith, add-one}
 use Rattle.std.specs.Prelude.{is_some, if◌then◌else◌, option_map, IfNone, IfSome, IsSomeAnd}
 use Rattle.std.specs.Option.{option_or}
 use Rattle.std.proofs.lemmas.Bool.Decides.{nat_tests}
@@ -7,7 +7,6 @@ use Rattle.clap.specs.Words.{Text}
 use Rattle.aoe_args.specs.Words.{attached, is_value}
 use Rattle.aoe_args.specs.Places.{Argument, Form, argument_at, argument_behind, awaits, is_flag, option_at, option_name, option_named, plain_before, taking, word_at}
 use Rattle.aoe_args.specs.Slips.{IsFit, IsRight, is_given, text_in}
-use Rattle.aoe_args.specs.declared.app.Place.{Place}
 
 if_is : {T : Type 0} (P : T → Type 0) (o : Option T) (a : T) → o ≡ Some a → P a → IfSome o P
 if_is {T} P o a e h = subst (λ (x : Option T). IfSome x P) (sym e) h
