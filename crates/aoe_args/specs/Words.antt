@@ -15,7 +15,7 @@ use Rattle.aoe_base.specs.Decimal.{number_of}
 use Rattle.aoe_base.specs.declared.address.Mac.{Mac}
 use Rattle.aoe_base.specs.declared.address.TargetId.{TargetId}
 use Rattle.aoe_base.specs.Addresses.{all_unique, is_individual}
-use Rattle.aoe_base.specs.Sizes.{most_copied}
+use Rattle.aoe_base.specs.Sizes.{most_cached, most_copied, most_simulated}
 use Rattle.aoe_args.specs.Apps.{aoe_app}
 use Rattle.aoe_args.specs.Values.{default_port, given, given_or, is_set, link, number_within, port_of, ports_of, two_ends}
 use Rattle.aoe_args.specs.Switching.{CanSwitch, kinds_of}
@@ -79,7 +79,7 @@ mtu_of = given_or (codes "mtu") (number_within 1500 9000) 1500
 
 -- how many sectors a slot buffers
 abbrev pub cache_of : List Row → Option ℕ
-cache_of = given_or (codes "cache") (number_within 0 65536) 0
+cache_of = given_or (codes "cache") (number_within 0 most_cached) 0
 
 -- each write is to be synced before it is answered
 abbrev pub is_durable : List Row → Bool
@@ -157,7 +157,7 @@ live_of rows =
     option_and_then (λ ends. option_and_then (λ sectors. option_and_then (λ count. option_map (λ turns.
     record { sectors = sectors; count = count; turns = turns })
     (given_or (codes "turns") (number_within 1 1000000) 5000 rows)) (given (codes "count") (number_within 1 10000) rows))
-    (given (codes "sectors") (number_within 1 65536) rows)) (two_ends rows)
+    (given (codes "sectors") (number_within 1 most_simulated) rows)) (two_ends rows)
 
 -- switch PORT PORT ..
 unfoldable pub switch_of : List Row → Option Switches
@@ -327,7 +327,7 @@ pub record CanAnswer (answer : Answers) : Type 0 where
   pub slot : answer.id.minor ≤ 254
   pub port : is_individual answer.port ≡ true
   pub mtu : (1500 ≤ answer.mtu) × (answer.mtu ≤ 9000)
-  pub cache : answer.cache ≤ 65536
+  pub cache : answer.cache ≤ most_cached
 
 -- what `serve` asks for is possible
 pub record CanServe (serve : Serves) : Type 0 where
@@ -335,7 +335,7 @@ pub record CanServe (serve : Serves) : Type 0 where
   pub slots : (1 ≤ serve.slots) × (serve.slots ≤ 16)
   pub ports : ArePorts serve.ports.items
   pub mtu : (1500 ≤ serve.mtu) × (serve.mtu ≤ 9000)
-  pub cache : serve.cache ≤ 65536
+  pub cache : serve.cache ≤ most_cached
   pub frames : IfSome serve.frames (λ frames. 1 ≤ frames)
   pub idle : IfSome serve.idle (λ turns. (1 ≤ turns) × (turns ≤ 1000000))
 
@@ -361,7 +361,7 @@ pub record CanSoak (soak : Soaks) : Type 0 where
 
 -- what `live` asks for is possible
 pub record CanLive (live : Lives) : Type 0 where
-  pub sectors : (1 ≤ live.sectors) × (live.sectors ≤ 65536)
+  pub sectors : (1 ≤ live.sectors) × (live.sectors ≤ most_simulated)
   pub count : (1 ≤ live.count) × (live.count ≤ 10000)
   pub turns : (1 ≤ live.turns) × (live.turns ≤ 1000000)
 

@@ -1,5 +1,6 @@
 pub mod AddressLemmas
 mod DeviceLemmas
+pub mod CommonLemmas
 mod Digits
 pub mod CountLemmas
 pub mod EachLemmas

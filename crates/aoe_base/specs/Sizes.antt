@@ -16,3 +16,15 @@ most_room = 131072
 -- the most sectors of a short copy, which memory holds whole: 16 MiB, a limit of this program
 abbrev pub most_copied : ℕ
 most_copied = 32768
+
+-- the most sectors that a cache holds, 32 MiB, a limit of this program
+abbrev pub most_cached : ℕ
+most_cached = 65536
+
+-- the most sectors of a disk that memory stands for in a simulation, 32 MiB, a limit of this program
+abbrev pub most_simulated : ℕ
+most_simulated = 65536
+
+-- the bytes in which a cache writes down and a mirror compares: 64 sectors, whatever memory a target has
+abbrev pub scratch_bytes : ℕ
+scratch_bytes = 32768

@@ -2,6 +2,7 @@
 use Rattle.std.specs.Prelude.{◌≡◌, ◌≤◌, ◌<◌, ◌+◌, ◌⊎◌, ◌/◌, ℕ, nat_eq, min, false, None, List, [], length, drop, Result, is_err, option_map}
 use Rattle.std.specs.List.{All}
 use Rattle.indexmap.specs.IndexSet.{IsUnique, spare}
+use Rattle.aoe_base.specs.Sizes.{scratch_bytes}
 use Rattle.aoe_disk.specs.State.{Contents, Schedule, DiskState, IsDisk}
 use Rattle.aoe_disk.specs.Calls.{Reads, WritesTo, SyncsTo}
 use Rattle.aoe_disk.specs.Arming.{ArmsTo}
@@ -119,7 +120,7 @@ pub record IsWriteBehind {D : Type 0} (state : D → DiskState) (b : WriteBehind
   pub disk : IsDisk (state b.disk)
   pub buffer : IsBuffer (state b.disk).sectors b.buffer
   pub places : length b.buffer.places.items ≡ min b.room (state b.disk).sectors
-  pub scratch : length b.scratch.items ≡ 32768
+  pub scratch : length b.scratch.items ≡ scratch_bytes
 
 abbrev pub cache_of : {D : Type 0} → WriteBehind D → Cache D
 cache_of b = record { disk = b.disk; held = held_of b.buffer; room = b.room }

@@ -1,5 +1,6 @@
 //! Either of the two stores.
 ghost use Rattle.std.specs.Prelude.{ℕ, ◌≡◌, ◌≤◌, IfErr, IfOk, IfSome};
+ghost use Rattle.aoe_base.specs.Sizes.{most_cached};
 ghost use Rattle.aoe_cache.specs.Any.{any_disk, over};
 
 use crate::Cached;
@@ -19,7 +20,7 @@ impl<D: Disk> AnyStore<D> {
     /// The disk as a store, which holds back up to `room` sectors where there is a number. All its
     /// memory is taken here; where there is none the disk is given back.
     pub fn over(alloc: Global, disk: D, room: Option<u32>) -> Result<AnyStore<D>, (NoMemory, D)>
-        requires { IfSome room (λ (n : ℕ). (1 ≤ n) × (n ≤ 65536)) }
+        requires { IfSome room (λ (n : ℕ). (1 ≤ n) × (n ≤ most_cached)) }
         ensures store { IfOk result (λ store. store ≡ over room disk) }
         ensures refused { IfErr result (λ e. e.1 ≡ disk) }
     {

@@ -1,5 +1,6 @@
 //! A store that writes to its disk later.
 ghost use Rattle.std.specs.Prelude.{◌≡◌, ◌≤◌, [], true, length, IfOk, IfErr, IfSome};
+ghost use Rattle.aoe_base.specs.Sizes.{most_cached};
 ghost use Rattle.aoe_disk.specs.Loss.{IsLeft};
 ghost use Rattle.aoe_disk.specs.Memory.{contents_of, fresh};
 ghost use Rattle.aoe_disk.specs.State.{BothTell, CanLeave};
@@ -34,7 +35,7 @@ impl<D: Disk> Cached<D> {
     /// `room` sectors or for all of the disk, whichever are fewer.
     pub fn mount(alloc: Global, disk: D, room: u32) -> Result<Cached<D>, (NoMemory, D)>
         requires some { 1 ≤ room }
-        requires most { room ≤ 65536 }
+        requires most { room ≤ most_cached }
         ensures store { IfOk result (λ store. store
             ≡ record { disk = disk; held = []; room = room }) }
         ensures free { IfOk result (λ store. IfSome (D.state disk).contents (λ c.

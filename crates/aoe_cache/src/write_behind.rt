@@ -1,5 +1,6 @@
 //! Sectors that are written behind: they stand in a buffer, and go down to the disk later.
 ghost use Rattle.std.specs.Prelude.{◌≡◌, ◌≤◌, ◌<◌, ◌⊎◌, ◌/◌, [], length, take, drop, nat_lt, is_err, IfOk, IfErr};
+ghost use Rattle.aoe_base.specs.Sizes.{scratch_bytes};
 ghost use Rattle.aoe_disk.specs.State.{IsDisk};
 ghost use Rattle.aoe_disk.specs.Calls.{IsRange, Reads, WritesTo};
 ghost use Rattle.aoe_cache.specs.Held.{held_of, placed, with_written};
@@ -24,7 +25,7 @@ fn write_run<D: Disk>(
 ) -> Result<(), Failed>
     requires buffer { IsInOrder (D.state disk.old).sectors from buffer.now }
     requires joined { IsJoined count (drop from (placed buffer.now)) }
-    requires scratch { length scratch.old ≡ 32768 }
+    requires scratch { length scratch.old ≡ scratch_bytes }
     requires disk { IsDisk (D.state disk.old) }
     ensures { WritesTo (first_of (drop from (placed buffer.now)))
         (bytes_of (take count (drop from (placed buffer.now)))) result (D.state disk.old) (D.state disk.new) }
@@ -42,7 +43,7 @@ fn write_run<D: Disk>(
 // to the first places, and it says how many they are.
 fn write_runs<D: Disk>(disk: &mut D, buffer: &mut Buffer, scratch: &mut [u8]) -> usize
     requires buffer { IsInOrder (D.state disk.old).sectors 0 buffer.old }
-    requires scratch { length scratch.old ≡ 32768 }
+    requires scratch { length scratch.old ≡ scratch_bytes }
     requires disk { IsDisk (D.state disk.old) }
     ensures disk { IsDisk (D.state disk.new) }
     ensures sectors { (D.state disk.new).sectors ≡ (D.state disk.old).sectors }
@@ -69,7 +70,7 @@ fn write_runs<D: Disk>(disk: &mut D, buffer: &mut Buffer, scratch: &mut [u8]) ->
 // Writes the buffer down. What was written leaves it, and what couldn't be stays.
 fn write_down<D: Disk>(disk: &mut D, buffer: &mut Buffer, scratch: &mut [u8]) -> Result<(), Failed>
     requires buffer { IsBuffer (D.state disk.old).sectors buffer.old }
-    requires scratch { length scratch.old ≡ 32768 }
+    requires scratch { length scratch.old ≡ scratch_bytes }
     requires disk { IsDisk (D.state disk.old) }
     ensures disk { IsDisk (D.state disk.new) }
     ensures sectors { (D.state disk.new).sectors ≡ (D.state disk.old).sectors }

@@ -1,5 +1,6 @@
 -- A recorder, and what its steps do.
 use Rattle.std.specs.Prelude.{ℕ, All, Bool, true, false, ◌≡◌, ◌<◌, ◌≤◌, ◌⊎◌, nat_lt, List, [], length, None}
+use Rattle.aoe_base.specs.Sizes.{most_simulated}
 use Rattle.aoe_history.specs.declared.entry.Entry.{Entry}
 use Rattle.aoe_script.specs.declared.event.Event.{Event}
 use Rattle.aoe_script.specs.Lines.{ScriptLines}
@@ -25,7 +26,7 @@ IsShort e = length (line_text (event_words e)) ≤ 256
 -- a world that goes on, by the lines of the script so far
 pub record Follows (sectors : ℕ) (script : ScriptLines) (world : Stepped) : Type 0 where
   pub some : 1 ≤ sectors
-  pub most : sectors ≤ 65536
+  pub most : sectors ≤ most_simulated
   pub setups : script.setups ≡ stations sectors
   pub lines : world.lines ≡ stations sectors
   pub going : world.refused ≡ None

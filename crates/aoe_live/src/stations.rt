@@ -1,5 +1,6 @@
 //! The stations: one shelf with one slot, and one host that is attached to it.
 ghost use Rattle.std.specs.Prelude.{◌≡◌, ◌≤◌, [], ◌∷◌, IfOk};
+ghost use Rattle.aoe_base.specs.Sizes.{most_simulated};
 ghost use Rattle.aoe_script.specs.Print.{script_text};
 ghost use Rattle.aoe_live.specs.Stations.{stations};
 
@@ -37,7 +38,7 @@ fn setup_text(alloc: Global, sectors: u64) -> Result<Vec<u8>, NoMemory>
 /// A script of the stations, without an event.
 pub(crate) fn stations(alloc: Global, sectors: u64) -> Result<Script, NoMemory>
     requires some { 1 ≤ sectors }
-    requires most { sectors ≤ 65536 }
+    requires most { sectors ≤ most_simulated }
     ensures { IfOk result (λ script. script ≡ record { setups = stations sectors; events = [] }) }
 {
     printed_script_reads_back();

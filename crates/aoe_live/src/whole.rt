@@ -1,6 +1,7 @@
 //! A whole run.
 ghost use Rattle.std.specs.Prelude.{◌≡◌, ◌≢◌, ◌≤◌, ◌+◌, [], Err, IfErr, IfOk, List, None, Ok};
 ghost use Rattle.aoe_base.specs.Faults.{Rose};
+ghost use Rattle.aoe_base.specs.Sizes.{most_simulated};
 ghost use Rattle.aoe_script.specs.declared.event.Event.{Event};
 ghost use Rattle.aoe_script.specs.Lines.{refusal, script_of};
 ghost use Rattle.aoe_script.specs.Print.{script_text};
@@ -27,7 +28,7 @@ fn recorder(
     stations_of: &Script,
 ) -> Result<Recorder<'_>, NoMemory>
     requires some { 1 ≤ sectors }
-    requires most { sectors ≤ 65536 }
+    requires most { sectors ≤ most_simulated }
     requires stations { stations_of.now ≡ record { setups = stations sectors; events = [] } }
     ensures fresh { IfOk result (λ r. IsFresh r) }
     ensures of { IfOk result (λ r. (r.sectors ≡ sectors) × (r.commands ≡ commands)) }
@@ -56,7 +57,7 @@ pub fn live<L: Link, C: Clock>(
     clock: &mut C,
 ) -> Result<Blob, LiveRefusal>
     requires some { 1 ≤ sectors }
-    requires most { sectors ≤ 65536 }
+    requires most { sectors ≤ most_simulated }
     ensures script { IfOk result (λ text. (events : List Event) × (text ≡ script_text (record { setups = stations sectors; events = events }))
         × (script_of text ≡ record { setups = stations sectors; events = events })
         × (refusal text ≡ None)

@@ -1,5 +1,6 @@
 -- A mirror as its users see it, and what mounting one finds.
 use Rattle.std.specs.Prelude.{◌≡◌, ◌≤◌, ◌<◌, ◌==◌, ℕ, false, true, Option, IfSome, List, length, replicate, if◌then◌else◌}
+use Rattle.aoe_base.specs.Sizes.{scratch_bytes}
 use Rattle.aoe_disk.specs.State.{DiskState, BothTell}
 use Rattle.aoe_disk.specs.Calls.{IsRun}
 use Rattle.aoe_disk.specs.Sectors.{Calms}
@@ -54,4 +55,4 @@ Refuses NoMemory one two mark mark' = (two.sectors ≡ one.sectors) × (0 < mark
 -- what the fields of a mirror keep
 pub record IsMounted {D : Type 0} (state : D → DiskState) (s : Sides D) (room : List ℕ) : Type 0 where
   pub mirror : IsMirror (pair_of state s)
-  pub scratch : length room ≡ 32768
+  pub scratch : length room ≡ scratch_bytes

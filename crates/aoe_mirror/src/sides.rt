@@ -1,5 +1,6 @@
 //! Two disks that hold the sectors of one slot: one leads, and the other follows.
 ghost use Rattle.std.specs.Prelude.{◌≡◌, ◌≤◌, ◌<◌, ◌+◌, ◌-◌, ◌/◌, ◌⊎◌, ℕ, length, is_err, IfErr, IfSome, OnOk, Some, false, replicate, true};
+ghost use Rattle.aoe_base.specs.Sizes.{scratch_bytes};
 ghost use Rattle.aoe_disk.specs.State.{IsDisk};
 ghost use Rattle.aoe_disk.specs.Calls.{IsRange, IsRun};
 ghost use Rattle.aoe_mirror.specs.Sides.{IsMark, IsMirror, Names, pair_of};
@@ -326,7 +327,7 @@ impl<D: Disk> Sides<D> {
     /// Copies the first run of stale sectors to the follower. The side that failed is told.
     pub(crate) fn resync(&mut self, scratch: &mut [u8]) -> Result<(), u8>
         requires mirror { IsMirror (pair_of D.state self.old) }
-        requires scratch { length scratch.old ≡ 32768 }
+        requires scratch { length scratch.old ≡ scratch_bytes }
         ensures copies { Copies (is_err result)
             (pair_of D.state self.old) (pair_of D.state self.new) }
         ensures blames { IfErr result

@@ -6,7 +6,7 @@ use Rattle.arrayvec.specs.ArrayVec.{ArrayVec}
 use Rattle.aoe_base.specs.declared.address.Mac.{Mac}
 use Rattle.aoe_base.specs.declared.address.TargetId.{TargetId}
 use Rattle.aoe_base.specs.Addresses.{all_unique, holds, is_individual, source_of}
-use Rattle.aoe_base.specs.Sizes.{longest_frame, longest_lifetime}
+use Rattle.aoe_base.specs.Sizes.{longest_frame, longest_lifetime, most_cached, most_simulated}
 use Rattle.aoe_lists.specs.Settings.{max_directives}
 use Rattle.aoe_script.specs.declared.event.Event.{Event}
 use Rattle.aoe_script.specs.declared.event.Event.TheVariants.{Read, Write, Flush, Identify, Config, Masks, Reserve, Tick, Deliver, Pass, Skip, Again, Inject, Fail, Stop, Crash}
@@ -35,7 +35,7 @@ is_limit (Some room) None = false
 -- how many sectors the cache of a slot holds at most, where it has one
 abbrev pub is_cache : Option ℕ → Bool
 is_cache None = true
-is_cache (Some room) = is_within 1 65536 room
+is_cache (Some room) = is_within 1 most_cached room
 
 -- how long responses can be handed over, where a line says it apart
 abbrev pub is_lifetime : Option ℕ → Bool
@@ -50,7 +50,7 @@ is_device dev = nat_le dev.major 65534 && nat_le dev.minor 254
 abbrev pub is_setup : Setup → Bool
 is_setup (Life requests responses) = nat_le requests longest_lifetime && is_lifetime responses
 is_setup (Shelf name major ports mtu) = is_name name && nat_le major 65534 && are_ports ports && is_within 1500 9000 mtu
-is_setup (Slot shelf minor sectors room) = is_name shelf && nat_le minor 254 && is_within 1 65536 sectors && is_cache room
+is_setup (Slot shelf minor sectors room) = is_name shelf && nat_le minor 254 && is_within 1 most_simulated sectors && is_cache room
 is_setup (Host name ports room dead) = is_name name && are_ports ports && is_limit room dead
 is_setup (Attach host shelf minor) = is_name host && is_name shelf && nat_le minor 254
 is_setup (Readonly shelf minor) = is_name shelf && nat_le minor 254

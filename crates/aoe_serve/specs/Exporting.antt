@@ -1,6 +1,7 @@
 -- What a run over the slots of a shelf takes, gives and leaves.
 use Rattle.std.specs.Prelude.{ℕ, ◌+◌, ◌/◌, ◌%◌, ◌<◌, ◌≤◌, ◌≡◌, Bool, true, false, List, [], ◌∷◌, length, get_or, slice_get, Option, Some, None, Result, Ok, Err}
 use Rattle.std.specs.Option.{option_map}
+use Rattle.aoe_base.specs.Sizes.{most_cached}
 use Rattle.aoe_base.specs.declared.failure.Failed.{Failed}
 use Rattle.aoe_disk.specs.Calls.{SyncsTo}
 use Rattle.aoe_disk.specs.State.{DiskState}
@@ -47,7 +48,7 @@ pub record CanExport (options : ExportOptions) (p : Plan) (files links : ℕ) : 
   pub major : options.first.major < 65535
   pub ports : 1 ≤ length options.ports.items
   pub mtu : (1500 ≤ options.mtu) × (options.mtu ≤ 9000)
-  pub cache : options.cache ≤ 65536
+  pub cache : options.cache ≤ most_cached
   pub pairs : files % 2 ≡ 0
   pub room : files ≤ 32
   pub minors : options.first.minor + files / 2 ≤ 255

@@ -1,5 +1,6 @@
 //! The store of a slot, over its file.
 ghost use Rattle.std.specs.Prelude.{◌≡◌, ◌≤◌, ℕ, IfErr, IfOk, IfSome, None, Option};
+ghost use Rattle.aoe_base.specs.Sizes.{most_cached};
 ghost use Rattle.aoe_cache.specs.Any.{any_disk, any_state};
 ghost use Rattle.aoe_serve.specs.Backing.{IsBacking, held_back, lasts_of, over_file, seen_as};
 ghost use Rattle.aoe_serve.specs.Files.{IsUnder};
@@ -24,7 +25,7 @@ impl Most for Brand {
 /// How many sectors a store holds back at most.
 pub(crate) fn held_back(durable: bool, cache: u32) -> Option<u32>
     ensures most { result ≡ held_back durable cache }
-    ensures limit { cache ≤ 65536 → IfSome result (λ n. n ≤ 65536) }
+    ensures limit { cache ≤ most_cached → IfSome result (λ n. n ≤ most_cached) }
 {
     if durable {
         return Some(0);
@@ -45,7 +46,7 @@ enum FileStore<D: Disk> {
 /// A store over the file that holds back up to so many sectors. Where there is no memory the file is
 /// given back.
 fn store_over<D: Disk>(alloc: Global, file: D, most: Option<u32>) -> Result<FileStore<D>, D>
-    requires { IfSome most (λ n. n ≤ 65536) }
+    requires { IfSome most (λ n. n ≤ most_cached) }
     ensures kind { IfOk result (λ store. IsBacking most store) }
     ensures store { IfOk result (λ store. seen_as store ≡ over_file most file) }
     ensures refused { IfErr result (λ d. d ≡ file) }
@@ -82,7 +83,7 @@ impl<D: Disk, M: Most> Backing<D, M> {
     /// back.
     pub(crate) fn new(alloc: Global, file: D, most: Option<u32>) -> Result<Backing<D, M>, D>
         requires most { most ≡ M.most }
-        requires limit { IfSome most (λ n. n ≤ 65536) }
+        requires limit { IfSome most (λ n. n ≤ most_cached) }
         ensures store { IfOk result (λ store. store ≡ over_file M.most file) }
         ensures refused { IfErr result (λ d. d ≡ file) }
     {

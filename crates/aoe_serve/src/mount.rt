@@ -1,5 +1,6 @@
 //! Files and their keeps become the slots of a shelf, and leave it again.
 ghost use Rattle.std.specs.Prelude.{◌≡◌, ◌<◌, ◌≤◌, ◌+◌, ◌*◌, ◌/◌, ◌%◌, ◌++◌, [], ◌∷◌, ℕ, List, All, IsSome, None, Some, length, IfErr, IfSome, OnErr, OnOk};
+ghost use Rattle.aoe_base.specs.Sizes.{most_cached};
 ghost use Rattle.aoe_keep.specs.Keep.{IsRefused};
 ghost use Rattle.aoe_serve.specs.Files.{AreBack, AreGivenBack, AreSeated, IsSeated, Leaves, named};
 ghost use Rattle.aoe_shelf.specs.Shelf.{refusal_of};
@@ -81,7 +82,7 @@ pub(crate) fn mount<D: Disk + Drop, M: Most>(
     disks: &mut [Option<D>],
 ) -> Result<(), ExportRefusal>
     requires most { most ≡ M.most }
-    requires limit { IfSome most (λ n. n ≤ 65536) }
+    requires limit { IfSome most (λ n. n ≤ most_cached) }
     requires pairs { length disks.old % 2 ≡ 0 }
     requires there { All IsSome disks.old }
     requires empty { shelf.old.targets ≡ [] }

@@ -4,7 +4,7 @@ use Rattle.arrayvec.specs.ArrayVec.{ArrayVec}
 use Rattle.aoe_base.specs.declared.address.Mac.{Mac}
 use Rattle.aoe_base.specs.declared.address.TargetId.{TargetId}
 use Rattle.aoe_base.specs.Addresses.{holds, IsDistinct}
-use Rattle.aoe_base.specs.Sizes.{longest_frame, longest_lifetime}
+use Rattle.aoe_base.specs.Sizes.{longest_frame, longest_lifetime, most_cached, most_simulated}
 use Rattle.aoe_frame.specs.Header.{fields}
 use Rattle.aoe_initiator.specs.declared.device.Attached.{Attached}
 use Rattle.aoe_initiator.specs.HostLaw.{same_id}
@@ -54,7 +54,7 @@ pub record IsDevice (d : Attached) : Type 0 where
   pub major : d.id.major < 65535
   pub minor : d.id.minor < 255
   pub sectors : 0 < d.total
-  pub size : d.total ≤ 65536
+  pub size : d.total ≤ most_simulated
   pub some : 0 < d.max
   pub max : d.max ≤ 17
 
@@ -69,12 +69,12 @@ pub record IsHost (host : HostSetup) : Type 0 where
 
 -- a cache has room for a sector at least
 abbrev pub IsCache : Option ℕ → Type 0
-IsCache cache = IfSome cache (λ room. (1 ≤ room) × (room ≤ 65536))
+IsCache cache = IfSome cache (λ room. (1 ≤ room) × (room ≤ most_cached))
 
 pub record IsSlot (slot : SlotSetup) : Type 0 where
   pub ports : ArePorts slot.station.ports.items
   pub sectors : 0 < slot.station.sectors
-  pub size : slot.station.sectors ≤ 65536
+  pub size : slot.station.sectors ≤ most_simulated
   pub some : 0 < slot.station.max
   pub max : slot.station.max ≤ 17
   pub cache : IsCache slot.cache

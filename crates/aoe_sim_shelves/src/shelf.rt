@@ -1,5 +1,6 @@
 //! A shelf over disks in memory.
 ghost use Rattle.std.specs.Prelude.{List, ℕ, ◌≡◌, ◌<◌, ◌≤◌, ◌+◌, ◌^◌, ◌==◌, ◌||◌, ◌++◌, ◌∷◌, [], IfOk, IfSome, IsSomeAnd, None, OnErr, OnOk, false, length, map, slice_get};
+ghost use Rattle.aoe_base.specs.Sizes.{most_cached};
 ghost use Rattle.aoe_disk.specs.Arming.{number_of};
 ghost use Rattle.aoe_history.specs.declared.entry.Entry.TheVariants.{Armed};
 ghost use Rattle.aoe_history.specs.Setup.{AreApart, slot_over, SlotSetup};
@@ -130,7 +131,7 @@ impl SimShelf {
         requires minor { minor < 255 }
         requires sectors { sectors ≤ 2 ^ 40 }
         requires room { length self.old.shelf.targets < 16 }
-        requires cache { IfSome room (λ (n : ℕ). (1 ≤ n) × (n ≤ 65536)) }
+        requires cache { IfSome room (λ (n : ℕ). (1 ≤ n) × (n ≤ most_cached)) }
         requires repeats { has_minor self.old.shelf.targets minor ≡ false }
         ensures serves { OnOk result ((slots : List SlotSetup) → Serves slots [] self.old → Serves (slots ++ slot_over
             (station_of record { major = self.old.shelf.major; minor = minor } self.old.shelf.ports self.old.shelf.mtu sectors)
