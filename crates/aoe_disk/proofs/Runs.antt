@@ -1,11 +1,12 @@
 -- Runs of device calls, one after another.
-use Rattle.std.proofs.Common.{◌≡◌, ◌≤◌, ◌<◌, ◌+◌, ◌-◌, ◌^◌, ℕ, Bool, true, false, Option, Some, None, IfSome, IsSome, is_some, is_none, List, [], ◌∷◌, ◌++◌, length, take, refl, sym, arith, ◌∙◌, ap, subst, length-append}
+use Rattle.std.proofs.Common.{◌≡◌, ◌≤◌, ◌<◌, ◌+◌, ◌-◌, ℕ, Bool, true, false, Option, Some, None, IfSome, IsSome, is_some, is_none, List, [], ◌∷◌, ◌++◌, length, take, refl, sym, arith, ◌∙◌, ap, subst, length-append}
 use Rattle.std.specs.Bool.{OnTrue}
 use Rattle.std.specs.Option.{option_map}
 use Rattle.std.proofs.lemmas.Bool.{cases_lt, cases_Bool}
 use Rattle.std.proofs.lemmas.List.{append_assoc, append-nil, take-append-le}
 use Rattle.std.proofs.Math.Seq.{take-length, take-append-add}
 use Rattle.aoe_base.specs.Faults.{Rose}
+use Rattle.aoe_base.proofs.CommonLemmas.{none-from, rose-before, rose-later, some-from}
 use Rattle.aoe_disk.specs.State.{Schedule, DiskState, DeviceCall, IsDisk, IsSchedule, BothTell}
 use Rattle.aoe_disk.specs.Calls.{MovesDueCall, MovesDue, MovesOn, IsRun, Logs, Makes}
 use Rattle.std.proofs.Common.{inl, inr}
@@ -96,29 +97,10 @@ due_then m n f i j (Some x) None c e t u = absurd t
 due_then m n f i j (Some x) (Some y) None e t u = u
 due_then m n f i j (Some x) (Some y) (Some z) e t u = due_more m n f i x y z t (subst (λ w. MovesDue n f w y z) e u)
 
-rose_later : (a b c : ℕ) → a ≤ b → b ≤ c → Rose b c → Rose a c
-rose_later a b c l m rose = λ low. elim (cases_lt b (2 ^ 64 - 1)) [
-  | inl below ↦ let more : b < c = rose below in omega arith
-  | inr full ↦ omega arith
-]
-
-rose_before : (a b c : ℕ) → b ≤ c → Rose a b → Rose a c
-rose_before a b c m rose = λ low. let more : a < b = rose low in omega arith
-
 also_told : {A B : Type 0} (R : A → B → Type 0) (x : Option A) (y : Option B) → BothTell R x y → IsSome x → IsSome y
 also_told R None y t h = cc
 also_told R (Some a) None t h = absurd t
 also_told R (Some a) (Some b) t h = refl
-
-none_from : {A : Type 0} (x y : Option A) → is_some y ≡ is_some x → x ≡ None → y ≡ None
-none_from x None k e = refl
-none_from None (Some y) k e = cc
-none_from (Some x) (Some y) k e = cc
-
-some_from : {A : Type 0} (x y : Option A) → is_some y ≡ is_some x → IsSome x → IsSome y
-some_from None y k h = cc
-some_from (Some x) None k h = cc
-some_from (Some x) (Some y) k h = refl
 
 pub is_none_same : {A : Type 0} (x y : Option A) → is_some y ≡ is_some x → is_none y ≡ is_none x
 is_none_same None None k = refl
@@ -130,14 +112,14 @@ move_then : (m n : ℕ) (failed : Bool) (p q r : ℕ) (a b c : Schedule) → p �
     → MovesOn (m + n) failed p r a c
 move_then m n f p q r a b c l h t u = record {
   kind = u.kind ∙ t.kind;
-  fewer = λ e. omega (arith, t.fewer e, u.fewer (some_from a.armed b.armed t.kind e));
+  fewer = λ e. omega (arith, t.fewer e, u.fewer (some-from a.armed b.armed t.kind e));
   stop = λ e more. elim (cases_lt q r) [
-    | inl later ↦ u.stop (none_from a.armed b.armed t.kind e) later
+    | inl later ↦ u.stop (none-from a.armed b.armed t.kind e) later
     | inr same ↦ u.stays_out (t.stop e (omega arith))
   ];
   out_by_fault = λ was is. elim (cases_Bool b.out) [
-    | inl yet ↦ rose_before p q r h (t.out_by_fault was yet)
-    | inr not ↦ rose_later p q r l h (u.out_by_fault not is)
+    | inl yet ↦ rose-before p q r h (t.out_by_fault was yet)
+    | inr not ↦ rose-later p q r l h (u.out_by_fault not is)
   ];
   out_by_failure = λ told was is. elim (cases_Bool b.out) [
     | inl yet ↦ let e : false ≡ true = t.out_by_failure told was yet in cc
@@ -158,7 +140,7 @@ moves_then m n f p q r (Some x) (Some y) (Some z) l h t u = move_then m n f p q 
 
 cause_later : (failed : Bool) (a b c : ℕ) → a ≤ b → b ≤ c → OnTrue failed (Rose b c) → OnTrue failed (Rose a c)
 cause_later false a b c l m h = h
-cause_later true a b c l m h = rose_later a b c l m h
+cause_later true a b c l m h = rose-later a b c l m h
 
 pub run_then : (m n : ℕ) (failed : Bool) (a b c : DiskState) → IsRun m false a b → IsRun n failed b c → IsRun (m + n) failed a c
 run_then m n f a b c t u = record {

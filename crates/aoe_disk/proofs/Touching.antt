@@ -119,6 +119,9 @@ spoils_touch at n old new sectors shape range spoils =
       kept = λ s out e. ap (λ (l : List Bool). is_loose l s) spoils.loose ∙ is_loose-with_marks_outside old.loose at (n / 512) marks s out ∙ e;
     }
 
+pub calm_refl : (a : Contents) → Calms a a
+calm_refl a = record { bytes = refl; marks = refl; kept = λ s e. e }
+
 pub settles_calm : (old new : Contents) → Settles old new → Calms old new
 settles_calm old new e = record {
   bytes = e.bytes;

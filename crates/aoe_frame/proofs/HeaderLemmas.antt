@@ -1,8 +1,9 @@
 -- What is written as a header is read as it, and what is read as a header was written so.
-use Rattle.std.proofs.Common.{◌≡◌, ℕ, suc, ◌+◌, ◌*◌, ◌/◌, ◌%◌, ◌^◌, ◌<◌, ◌≤◌, inl, inr, List, [], ◌∷◌, ◌++◌, append-nil, length, get_or, drop, take, Some, None, true, false, Bool, refl, sym, ap, subst, ◌∙◌, arith, bit_and}
+use Rattle.std.proofs.Common.{◌≡◌, ℕ, suc, ◌+◌, ◌*◌, ◌/◌, ◌%◌, ◌^◌, ◌<◌, ◌≤◌, inl, inr, List, [], ◌∷◌, ◌++◌, append-nil, length, get_or, drop, take, Some, None, is_some, true, false, Bool, refl, sym, ap, subst, ◌∙◌, arith, bit_and}
 use Rattle.std.specs.Prelude.{nat_le, not, All, if◌then◌else◌, ◌&&◌, ◌==◌}
 use Rattle.std.specs.Int.Bits.{and_zero_r}
 use Rattle.std.proofs.lemmas.Bool.{le-leb, cases_lt}
+use Rattle.std.proofs.lemmas.Bool.Decides.{nat_tests}
 use Rattle.std.specs.Int.{w16, w32, to_be_bytes, from_be_bytes}
 use Rattle.std.proofs.Math.Seq.{drop-cons, take-add}
 use Rattle.std.proofs.lemmas.Nat.{and_assoc, and_block, div-mul-add, from_be_bytes-to_be_bytes_2, from_be_bytes-to_be_bytes_4, be_bytes_2, be_bytes_4}
@@ -20,45 +21,33 @@ flags-back v f h =
     let back : bit_and f 12 ≡ f = elim h [ inl e ↦ rw e refl | inr (inl e) ↦ rw e refl | inr (inr (inl e)) ↦ rw e refl | inr (inr (inr e)) ↦ rw e refl ] in
     split ∙ rw (front, back) (omega arith)
 
--- a header of which each byte of an address is named
-header_of : (a0 a1 a2 a3 a4 a5 b0 b1 b2 b3 b4 b5 v f e major minor command tag : ℕ) → Header
-header_of a0 a1 a2 a3 a4 a5 b0 b1 b2 b3 b4 b5 v f e major minor command tag = record {
-  dst = record { 0 = a0 ∷ a1 ∷ a2 ∷ a3 ∷ a4 ∷ a5 ∷ [] };
-  src = record { 0 = b0 ∷ b1 ∷ b2 ∷ b3 ∷ b4 ∷ b5 ∷ [] };
-  version = v;
-  flags = f;
-  error = e;
-  id = record { major = major; minor = minor };
-  command = command;
-  tag = tag;
-}
+-- six bytes, each by itself
+abbrev six : List ℕ → List ℕ
+six l = get_or l 0 0 ∷ get_or l 1 0 ∷ get_or l 2 0 ∷ get_or l 3 0 ∷ get_or l 4 0 ∷ get_or l 5 0 ∷ []
 
-spelled : (a0 a1 a2 a3 a4 a5 b0 b1 b2 b3 b4 b5 v f e major minor command tag : ℕ) (rest : List ℕ)
-    → v < 16 → IsFlags f → major < 65536 → tag < 4294967296
-    → head (header_bytes (header_of a0 a1 a2 a3 a4 a5 b0 b1 b2 b3 b4 b5 v f e major minor command tag) ++ rest)
-    ≡ Some (header_of a0 a1 a2 a3 a4 a5 b0 b1 b2 b3 b4 b5 v f e major minor command tag)
-unfolding header_of
-spelled a0 a1 a2 a3 a4 a5 b0 b1 b2 b3 b4 b5 v f e major minor command tag rest sv sf sm st =
-    let h : Header = header_of a0 a1 a2 a3 a4 a5 b0 b1 b2 b3 b4 b5 v f e major minor command tag in
-    let below : f < 16 = elim sf [ inl e ↦ omega arith | inr (inl e) ↦ omega arith | inr (inr (inl e)) ↦ omega arith | inr (inr (inr e)) ↦ omega arith ] in
-    let long : nat_le 24 (length (header_bytes h ++ rest)) ≡ true = le-leb 24 (length (header_bytes h ++ rest)) (omega arith) in
-    let version-back : (v * 16 + f) / 16 ≡ v = div-mul-add v 16 f below in
-    let flags-same = flags-back v f sf in
-    let major-back = from_be_bytes-to_be_bytes_2 major sm in
-    let tag-back = from_be_bytes-to_be_bytes_4 tag st in
+-- a header with each byte of an address by itself
+byte_by_byte : Header → Header
+byte_by_byte h = record h { dst = record { 0 = six h.dst.0 }; src = record { 0 = six h.src.0 } }
+
+spelled : (h : Header) (rest : List ℕ) → Fits h → head (header_bytes (byte_by_byte h) ++ rest) ≡ Some (byte_by_byte h)
+unfolding byte_by_byte
+spelled h rest fits =
+    let below : h.flags < 16 =
+    elim fits.flags [ inl e ↦ omega arith | inr (inl e) ↦ omega arith | inr (inr (inl e)) ↦ omega arith | inr (inr (inr e)) ↦ omega arith ] in
+    let bytes : List ℕ = header_bytes (byte_by_byte h) ++ rest in
+    let long : nat_le 24 (length bytes) ≡ true = le-leb 24 (length bytes) (omega arith) in
+    let version-back : (h.version * 16 + h.flags) / 16 ≡ h.version = div-mul-add h.version 16 h.flags below in
+    let flags-same = flags-back h.version h.flags fits.flags in
+    let major-back = from_be_bytes-to_be_bytes_2 h.id.major fits.major in
+    let tag-back = from_be_bytes-to_be_bytes_4 h.tag fits.tag in
     rw (long, version-back, flags-same, major-back, tag-back) refl
 
 pub head-header_bytes : (h : Header) (rest : List ℕ) → Fits h → head (header_bytes h ++ rest) ≡ Some h
-unfolding header_of
+unfolding byte_by_byte
 head-header_bytes h rest fits =
-    let same = spelled (get_or h.dst.0 0 0) (get_or h.dst.0 1 0) (get_or h.dst.0 2 0) (get_or h.dst.0 3 0) (get_or h.dst.0 4 0) (get_or h.dst.0 5 0)
-    (get_or h.src.0 0 0) (get_or h.src.0 1 0) (get_or h.src.0 2 0) (get_or h.src.0 3 0) (get_or h.src.0 4 0) (get_or h.src.0 5 0)
-    h.version h.flags h.error h.id.major h.id.minor h.command h.tag rest fits.version fits.flags fits.major fits.tag in
-    let P : List ℕ → List ℕ → Type 0 = λ d s. head (header_bytes (record h { dst = record { 0 = d }; src = record { 0 = s } }) ++ rest) ≡ Some
-    (record h { dst = record { 0 = d }; src = record { 0 = s } }) in
-    subst (λ (d : List ℕ). P d h.src.0) (sym (six-is h.dst.0 fits.dst))
-    (subst (λ (s : List ℕ). P (get_or h.dst.0 0 0 ∷ get_or h.dst.0 1 0 ∷ get_or h.dst.0 2 0 ∷ get_or h.dst.0 3 0 ∷ get_or h.dst.0 4 0 ∷ get_or h.dst.0 5 0 ∷
-    []) s) (sym (six-is h.src.0 fits.src)) same)
+    let same : byte_by_byte h ≡ h =
+    λ i. record h { dst = record { 0 = sym (six-is h.dst.0 fits.dst) i }; src = record { 0 = sym (six-is h.src.0 fits.src) i } } in
+    subst (λ (g : Header). head (header_bytes g ++ rest) ≡ Some g) same (spelled h rest fits)
 
 pub head-spelled : (h : Header) (f : List ℕ) → f ≡ header_bytes h → Fits h → head f ≡ Some h
 head-spelled h f e fits = let P : List ℕ → Type 0 = λ g. head g ≡ Some h in subst P (append-nil (header_bytes h) ∙ sym e) (head-header_bytes h [] fits)
@@ -95,6 +84,12 @@ read h f is =
     let some : Some (fields f) ≡ Some h = subst Q tests is in
     let the_fields : fields f ≡ h = cc in
     record { long = grind arith; first = grind arith; second = grind arith; same = the_fields }
+
+pub head-fields : (f : List ℕ) (h : Header) → head f ≡ Some h → fields f ≡ h
+head-fields f h is = (read h f is).same
+
+pub head-long : (f : List ℕ) → is_some (head f) ≡ true → 24 ≤ length f
+head-long f some = grind (arith, nat_tests)
 
 -- the flag that tells the kind of a frame is one of those that are read
 flag-read : (b : ℕ) → bit_and (bit_and b 12) 8 ≡ bit_and b 8

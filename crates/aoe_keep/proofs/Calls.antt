@@ -16,10 +16,6 @@ pub syncs_calm : {T E : Type 0} (result : Result T E) (c d : Contents) → Syncs
 syncs_calm (Ok r) c d s = settles_calm c d s
 syncs_calm (Err r) c d s = may_settle_calm c d s
 
-pub err_now : {T E P : Type 0} (r : Result T E) → P → OnErr r P
-err_now (Ok x) p = tt
-err_now (Err e) p = p
-
 module _ (place : Option Place) (lists next : Settings) where
   -- call 1
 

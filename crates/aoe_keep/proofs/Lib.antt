@@ -1,3 +1,4 @@
+pub mod MountLemmas
 pub mod Offers
 mod Told
 mod Runs

@@ -1,5 +1,6 @@
 -- The calls of a keep, one after another.
 use Rattle.std.proofs.Common.{◌≡◌, ◌≤◌, ◌<◌, ◌+◌, ◌*◌, ◌==◌, ◌||◌, cond, ℕ, Bool, true, false, Option, Some, None, IfSome, Result, Err, is_ok, List, [], ◌∷◌, ◌++◌, take, drop, get_or, refl, sym, arith, ◌∙◌, ap}
+use Rattle.std.proofs.Math.Bool.{or-false}
 use Rattle.std.proofs.lemmas.Bool.Decides.{nat_tests}
 use Rattle.aoe_lists.specs.Settings.{Settings}
 use Rattle.aoe_disk.specs.State.{Contents, DiskState, DeviceCall, BothTell, Read, Sync}
@@ -22,9 +23,6 @@ makes_two x y failed a b c one two = makes_then (x ∷ []) (y ∷ []) failed a b
 pub makes_first : (x y : DeviceCall) (failed : Bool) (a b : DiskState) → failed ≡ true → Logs (x ∷ []) a b → Makes (x ∷ y ∷ []) failed a b
 makes_first x y failed a b e log = rw e (makes_stop (x ∷ []) (y ∷ []) a b (makes_one x true a b log))
 
-or_none : (t : Bool) → (t || false) ≡ t
-or_none t = grind arith
-
 module _ {D : Type 0} (state : D → DiskState) where
   pub clears_failed : {T E : Type 0} (r : Result T E) (e : E) (failed : Bool) (old new : Mounted D) → r ≡ Err e → failed ≡ true
       → new.is_closed ≡ (old.is_closed || is_ok r)
@@ -33,7 +31,7 @@ module _ {D : Type 0} (state : D → DiskState) where
   clears_failed r e failed old new is f known log = rw f (record {
     calls = makes_stop (calls.close_gate old.place old.is_closed ∷ []) (Sync ∷ []) (state old.disk) (state new.disk)
         (makes_one _ true (state old.disk) (state new.disk) log);
-    closed = (rw is at known) ∙ or_none old.is_closed;
+    closed = (rw is at known) ∙ or-false old.is_closed;
   })
 
   pub clears_done : (failed : Bool) (old new : Mounted D) (b : DiskState) → new.is_closed ≡ true

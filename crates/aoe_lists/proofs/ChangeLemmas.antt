@@ -1,6 +1,6 @@
 -- A change is one to other settings.
 use Rattle.std.proofs.Common.{◌≡◌, ◌≢◌, ◌&&◌, cond, ℕ, Bool, true, false, List, refl, sym, ap, subst, ◌∙◌}
-use Rattle.std.proofs.Math.Bool.{beq}
+use Rattle.std.proofs.Math.Bool.{and-true, beq}
 use Rattle.std.specs.Cmp.{booleans_Decides}
 use Rattle.std.specs.Str.{bytes_eq}
 use Rattle.std.specs.Cmp.Lexicographic.{pointwise}
@@ -26,10 +26,6 @@ same_mark-refl false = refl
 same_settings-refl : (s : Settings) → same_settings s s ≡ true
 same_settings-refl s = rw (same_bytes-refl s.config, same_addresses-refl s.masks, same_addresses-refl s.reserves, same_mark-refl s.read_only) refl
 
-and_true : (t : Bool) → (t && true) ≡ t
-and_true true = refl
-and_true false = refl
-
 true_or_false : true ≡ false → ⊥
 true_or_false e = (cc)
 
@@ -37,17 +33,17 @@ true_or_false e = (cc)
 pub same_settings-config : (s : Settings) (config : List ℕ) → same_settings (record s { config = config }) s ≡ bytes_eq config s.config
 same_settings-config s config =
     rw (same_addresses-refl s.masks, same_addresses-refl s.reserves, same_mark-refl s.read_only)
-    (and_true (bytes_eq config s.config && true && true) ∙ and_true (bytes_eq config s.config && true) ∙ and_true (bytes_eq config s.config))
+    (and-true (bytes_eq config s.config && true && true) ∙ and-true (bytes_eq config s.config && true) ∙ and-true (bytes_eq config s.config))
 
 pub same_settings-masks : (s : Settings) (masks : List Mac) → same_settings (record s { masks = masks }) s ≡ pointwise same_address masks s.masks
 same_settings-masks s masks =
     rw (same_bytes-refl s.config, same_addresses-refl s.reserves, same_mark-refl s.read_only)
-    (and_true (pointwise same_address masks s.masks && true) ∙ and_true (pointwise same_address masks s.masks))
+    (and-true (pointwise same_address masks s.masks && true) ∙ and-true (pointwise same_address masks s.masks))
 
 pub same_settings-reserves : (s : Settings) (reserves : List Mac) → same_settings (record s { reserves = reserves }) s
     ≡ pointwise same_address reserves s.reserves
 same_settings-reserves s reserves =
-    rw (same_bytes-refl s.config, same_addresses-refl s.masks, same_mark-refl s.read_only) (and_true (pointwise same_address reserves s.reserves))
+    rw (same_bytes-refl s.config, same_addresses-refl s.masks, same_mark-refl s.read_only) (and-true (pointwise same_address reserves s.reserves))
 
 pub IfChange-success_of : (old next : Settings) (args : List ℕ) → IfChange (success_of old next args) (λ n. n ≢ old)
 IfChange-success_of old next args =

@@ -6,7 +6,7 @@ use Rattle.aoe_disk.specs.State.{Contents, Schedule, DiskState, IsDisk, IsSchedu
 use Rattle.aoe_disk.specs.Calls.{IsRange, IsRun, MovesOn, Puts, Syncs, SyncsTo}
 use Rattle.aoe_disk.specs.Sectors.{Calms, Touches}
 use Rattle.aoe_disk.proofs.Runs.{run_then}
-use Rattle.aoe_disk.proofs.Touching.{may_settle_calm, puts_touch, settles_calm, settles_kept}
+use Rattle.aoe_disk.proofs.Touching.{calm_refl, may_settle_calm, puts_touch, settles_calm, settles_kept}
 use Rattle.aoe_store.specs.Store.{MaySpoil}
 use Rattle.aoe_store.specs.Lasting.{Lasts, LastsTo, MayLose, PutsToLast, StoresAs, outline, outline_contents, outline_schedule}
 use Rattle.aoe_store.proofs.Spoiling.{may_spoil_touch}
@@ -111,9 +111,6 @@ told_touches T E false at piece failed old new range stores = told old.contents 
     told (Some x) None t = absurd t
     told (Some x) (Some y) t = may_spoil_touch at (length piece) x y old.sectors range t
 
-calm : (c : Contents) → Calms c c
-calm c = record { bytes = refl; marks = refl; kept = λ s e. e }
-
 touches_then : (at n : ℕ) (a b c : Contents) → Touches at n a b → Calms b c → Touches at n (outline_contents a) (outline_contents c)
 touches_then at n a b c t k = record {
   size = ap length k.bytes ∙ t.size;
@@ -151,7 +148,7 @@ module _ (at : ℕ) (piece : List ℕ) where
   told_lost None (Some y) touches = absurd touches
   told_lost (Some x) None touches = absurd touches
   told_lost (Some x) (Some y) touches = record {
-    touches = touches_then at (length piece / 512) x y y touches (calm y);
+    touches = touches_then at (length piece / 512) x y y touches (calm_refl y);
     untold = record { before = refl; after = refl };
   }
 

@@ -1,5 +1,5 @@
 use Rattle.std.proofs.Common.{◌∙◌, true, false, arith}
-use Rattle.aoe_keep.proofs.Calls.{err_now}
+use Rattle.aoe_base.proofs.CommonLemmas.{on-err}
 use Rattle.aoe_keep.proofs.Making.{sync_failed, first_failed, slots_read}
 use Rattle.aoe_keep.proofs.Mounting.{slots_told, calm_told}
 use Rattle.aoe_keep.proofs.Runs.{runs_within, runs_then, one_run}
@@ -9,14 +9,14 @@ pub returns-in_err-first-clause-err : goal.returns-in_err-first-clause-err
 returns-in_err-first-clause-err g c =
     let sync = one_run (rw c.in_ok-sync.was at c.sync.ensures.call) in
     let first = rw c.in_err-first.was at c.read_slot.ensures.run in
-    err_now c.from_residual-in_err-first.result (runs_within (omega arith) (omega arith) (runs_then sync first))
+    on-err c.from_residual-in_err-first.result (runs_within (omega arith) (omega arith) (runs_then sync first))
 
 pub returns-in_err-second-clause-err : goal.returns-in_err-second-clause-err
 returns-in_err-second-clause-err g c =
     let sync = one_run (rw c.in_ok-sync.was at c.sync.ensures.call) in
     let first = rw c.in_ok-first.was at c.read_slot.ensures.run in
     let second = rw c.in_err-second.was at c.read_slot-2.ensures.run in
-    err_now c.from_residual-in_err-second.result (runs_within (omega arith) (omega arith) (runs_then (runs_then sync first) second))
+    on-err c.from_residual-in_err-second.result (runs_within (omega arith) (omega arith) (runs_then (runs_then sync first) second))
 
 pub returns-in_err-second-clause-calm : goal.returns-in_err-second-clause-calm
 returns-in_err-second-clause-calm g c = calm_told _ _ _ c.in_ok-sync.ensures.contents (c.read_slot-2.ensures.same ∙ c.read_slot.ensures.same)

@@ -1,15 +1,16 @@
 use Rattle.std.proofs.Common.{arith, true, is_err}
+use Rattle.aoe_base.proofs.CommonLemmas.{on-err}
 use Rattle.aoe_disk.specs.State.{Sync}
 use Rattle.aoe_keep.specs.Calls.{write_gate}
 use Rattle.aoe_keep.proofs.Making.{makes_first, makes_two}
 use Rattle.std.proofs.lemmas.Result.{on_ok_weaker}
-use Rattle.aoe_keep.proofs.Calls.{open_err, opened_err, opened_ok, err_now}
+use Rattle.aoe_keep.proofs.Calls.{open_err, opened_err, opened_ok}
 use Rattle.aoe_keep.proofs.Runs.{run_ends}
 use Rattle.aoe_keep.proofs.Others.{sync_others, others_then}
 use Rattle.aoe_keep.proofs.mounted.Mounted.open.Goals as goal
 
 pub returns-in_err-write_gate-clause-err : goal.returns-in_err-write_gate-clause-err
-returns-in_err-write_gate-clause-err g c = err_now c.from_residual.result (record {
+returns-in_err-write_gate-clause-err g c = on-err c.from_residual.result (record {
   room = omega (arith, c.requires.room, c.write_gate.ensures.call.sectors);
   disk = rw c.in_err-write_gate.was at
       (open_err c.args.self.now.place c.args.self.now.lists c.args.next.now _ c.spare_slot.result c.write_gate.result _ _ c.spare_slot.ensures.slot
@@ -17,7 +18,7 @@ returns-in_err-write_gate-clause-err g c = err_now c.from_residual.result (recor
 })
 
 pub returns-clause-err : goal.returns-clause-err
-returns-clause-err g c = err_now c.sync.result (record {
+returns-clause-err g c = on-err c.sync.result (record {
   room = omega (arith, c.requires.room, c.write_gate.ensures.call.sectors, c.sync.ensures.call.sectors);
   disk = opened_err c.args.self.now.place c.args.self.now.lists c.args.next.now _ c.spare_slot.result c.write_gate.result _ c.sync.result _ _ _
       c.in_ok-write_gate.was c.spare_slot.ensures.slot c.requires.disk c.write_gate.ensures.gate c.sync.ensures.contents;

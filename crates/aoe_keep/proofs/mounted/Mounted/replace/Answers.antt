@@ -1,14 +1,15 @@
 use Rattle.std.proofs.Common.{◌∙◌, ap, refl}
+use Rattle.aoe_base.proofs.CommonLemmas.{on-err}
 use Rattle.aoe_keep.specs.Stages.{spare, turn_after, is_unplaced}
 use Rattle.aoe_keep.proofs.Making.{fails_to_clear, fails_to_stage, fails_to_open, replaces}
 use Rattle.aoe_keep.proofs.Told.{told_link}
 use Rattle.aoe_keep.proofs.Keeping.{kept_replaced, finds_replaced, formats_replaced, unplaced}
-use Rattle.aoe_keep.proofs.Calls.{stage_interrupted, err_now}
+use Rattle.aoe_keep.proofs.Calls.{stage_interrupted}
 use Rattle.aoe_keep.proofs.Others.{others_then}
 use Rattle.aoe_keep.proofs.mounted.Mounted.replace.Goals as goal
 
 pub returns-in_err-stage-clause-err : goal.returns-in_err-stage-clause-err
-returns-in_err-stage-clause-err g c = err_now c.from_residual-in_err-stage.result (record {
+returns-in_err-stage-clause-err g c = on-err c.from_residual-in_err-stage.result (record {
   lists = c.stage.ensures.lists ∙ c.clear.ensures.lists;
   room = c.in_err-stage.ensures.err.room;
   disk = stage_interrupted c.stage.new.self.place c.stage.new.self.lists c.args.next.now c.stage.new.self.is_closed _ _
@@ -16,7 +17,7 @@ returns-in_err-stage-clause-err g c = err_now c.from_residual-in_err-stage.resul
 })
 
 pub returns-in_err-open-clause-err : goal.returns-in_err-open-clause-err
-returns-in_err-open-clause-err g c = err_now c.from_residual-in_err-open.result (record {
+returns-in_err-open-clause-err g c = on-err c.from_residual-in_err-open.result (record {
   lists = c.open.ensures.lists ∙ c.stage.ensures.lists ∙ c.clear.ensures.lists;
   room = c.in_err-open.ensures.err.room;
   disk = told_link _ _ _ _ (c.open.ensures.run.tells ∙ c.stage.ensures.run.tells ∙ c.clear.ensures.run.tells) (λ x y h. h x) c.in_err-open.ensures.err.disk;

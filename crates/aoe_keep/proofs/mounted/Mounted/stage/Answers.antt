@@ -1,17 +1,18 @@
 use Rattle.std.proofs.Common.{◌∙◌, ℕ, Some, is_err, arith, ap}
+use Rattle.aoe_base.proofs.CommonLemmas.{on-err}
 use Rattle.aoe_disk.specs.State.{Sync}
 use Rattle.aoe_keep.specs.declared.body.Written.{Written}
 use Rattle.aoe_keep.specs.Calls.{write_body}
 use Rattle.aoe_keep.proofs.Making.{makes_first, makes_two}
 use Rattle.std.proofs.lemmas.Result.{on_ok_weaker}
 use Rattle.aoe_keep.specs.Body.{decode, format_2, spelling}
-use Rattle.aoe_keep.proofs.Calls.{body_step, sync_step, staged_ok, err_now}
+use Rattle.aoe_keep.proofs.Calls.{body_step, sync_step, staged_ok}
 use Rattle.aoe_keep.proofs.Runs.{run_ends}
 use Rattle.aoe_keep.proofs.Others.{sync_others, others_then}
 use Rattle.aoe_keep.proofs.mounted.Mounted.stage.Goals as goal
 
 pub returns-in_err-write_body-clause-err : goal.returns-in_err-write_body-clause-err
-returns-in_err-write_body-clause-err g c = err_now c.from_residual.result (record {
+returns-in_err-write_body-clause-err g c = on-err c.from_residual.result (record {
   room = omega (arith, c.requires.room, c.write_body.ensures.call.sectors);
   closed = c.requires.closed;
   disk = body_step c.args.self.now.place c.args.self.now.lists c.args.next.now c.spare_slot.result c.as_slice.result.now c.write_body.result _ _
@@ -19,7 +20,7 @@ returns-in_err-write_body-clause-err g c = err_now c.from_residual.result (recor
 })
 
 pub returns-clause-err : goal.returns-clause-err
-returns-clause-err g c = err_now c.sync.result (record {
+returns-clause-err g c = on-err c.sync.result (record {
   room = omega (arith, c.requires.room, c.write_body.ensures.call.sectors, c.sync.ensures.call.sectors);
   closed = c.requires.closed;
   disk = sync_step c.args.self.now.place c.args.self.now.lists c.args.next.now c.sync.result _ _
