@@ -1,6 +1,7 @@
 //! A reader as a source, and a writer as a sink. They tell nothing of what they give and take.
 ghost use Rattle.std.specs.Prelude.{◌≡◌, ◌≢◌, ◌<◌, ◌≤◌, ◌+◌, ◌^◌, IfErr, IfOk, None, OnErr, OnOk, length};
 ghost use Rattle.std.specs.Io.{ReadsAtMost, WritesAtMost};
+ghost use Rattle.std.specs.Io.Buffered.{reader_buffer};
 ghost use Rattle.std.specs.Io.KnownBytes.{WriteAppends};
 ghost use Rattle.std.specs.IoError.{error_kind};
 ghost use Rattle.aoe_base.specs.Faults.{Rose};
@@ -82,6 +83,18 @@ impl<R: Read> Source for Input<R> {
     ghost left = { λ _. None };
 
     ghost faults = { λ s. s.faults };
+
+    ghost buffered = { λ s. reader_buffer s.reader };
+
+    #[inline(always)]
+    fn buffer(&self) -> &[u8] {
+        self.reader.buffer()
+    }
+
+    #[inline(always)]
+    fn consume(&mut self, count: usize) {
+        self.reader.consume(count);
+    }
 
     #[inline(always)]
     fn read(&mut self, buf: &mut [u8]) -> Result<usize, Failed> {

@@ -30,6 +30,6 @@ pub use mem_link::MemLink;
 pub use memory::{MemSink, MemSource};
 pub use outside::{Sink, Source};
 pub use stream::{
-    Next, StreamRefusal, fill_frame, fill_from, frame_begins_no_broken_stream, give_all,
-    give_frame, next_frame, stream_begins_with_one_frame,
+    Next, StreamRefusal, fill_frame, fill_from, frame_begins_no_broken_stream, front_frame,
+    give_all, give_frame, next_frame, stream_begins_with_one_frame,
 };

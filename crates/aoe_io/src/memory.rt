@@ -56,6 +56,14 @@ impl Source for MemSource {
 
     ghost faults = { λ s. s.faults };
 
+    ghost buffered = { λ _. [] };
+
+    fn buffer(&self) -> &[u8] {
+        &[]
+    }
+
+    fn consume(&mut self, count: usize) {}
+
     fn read(&mut self, buf: &mut [u8]) -> Result<usize, Failed>
         requires { 0 < length buf.old }
         ensures within { IfOk result (λ n. n ≤ length buf.old) }

@@ -13,6 +13,9 @@ pub trait Source {
     // How many calls of the source have failed.
     ghost faults: { Self → ℕ };
 
+    // The bytes that it has read ahead: the next ones of what is left.
+    ghost buffered: { Self → List ℕ };
+
     /// Fills the front of `buf`, and says how many bytes of it: none only at the end of the input.
     /// A call that fails takes nothing from what is left, and may leave any bytes in `buf`.
     fn read(&mut self, buf: &mut [u8]) -> Result<usize, Failed>
@@ -25,6 +28,17 @@ pub trait Source {
         ensures cause { OnErr result (Rose (faults self.old) (faults self.new)) }
         ensures no_fault { OnOk result (faults self.new ≡ faults self.old) }
         ensures one_fault { faults self.new ≤ faults self.old + 1 };
+
+    /// The bytes that it has read ahead, where they can be looked at: none of a source that reads none
+    /// ahead.
+    fn buffer(&self) -> &[u8]
+        ensures { result.now ≡ buffered self.now };
+
+    /// Takes so many of the bytes that it has read ahead.
+    fn consume(&mut self, count: usize)
+        requires { count ≤ length (buffered self.old) }
+        ensures gave { Gave (left self.old) (left self.new) (take count (buffered self.old)) }
+        ensures no_fault { faults self.new ≡ faults self.old };
 }
 
 /// Bytes that go out.

@@ -1,5 +1,5 @@
 //! The stream of frames: each a length of two bytes, big-endian, and so many bytes.
-ghost use Rattle.std.specs.Prelude.{ℕ, List, [], ◌≢◌, ◌≡◌, ◌+◌, ◌<◌, ◌≤◌, ◌++◌, length, take, drop, IfOk, OnOk, OnErr, IfSome, Ok, None, true, false};
+ghost use Rattle.std.specs.Prelude.{ℕ, List, [], ◌≢◌, ◌≡◌, ◌+◌, ◌<◌, ◌≤◌, ◌++◌, length, take, drop, IfNone, IfOk, OnOk, OnErr, IfSome, Ok, None, true, false};
 ghost use Rattle.aoe_base.specs.Faults.{Rose};
 ghost use Rattle.aoe_base.specs.Sizes.{longest_frame};
 ghost use Rattle.aoe_io.specs.Bytes.{Gave, GaveSome, Took, TookSome, IsEnded};
@@ -175,6 +175,25 @@ pub fn next_frame<S: Source>(
         Ok(false) => Err(StreamRefusal::Stream { offset }),
         Err(Failed) => Err(StreamRefusal::SourceFault),
     }
+}
+
+/// The frame at the front of a stream, where all of its bytes are among these.
+#[inline(always)]
+pub fn front_frame(bytes: &[u8]) -> Option<&[u8]>
+    ensures frame { IfSome result (λ frame. IsFrame frame.now) }
+    ensures front { IfSome result (λ frame. framed frame.now
+        ≡ take (2 + length frame.now) bytes.now) }
+    ensures within { IfSome result (λ frame. 2 + length frame.now ≤ length bytes.now) }
+    ensures none { IfNone result (bytes.now ≢ [] → IsBroken bytes.now) }
+{
+    let [high, low, rest @ ..] = bytes else {
+        return None;
+    };
+    let length = usize::from(*high) * 256 + usize::from(*low);
+    if length < SHORTEST || length > MAX_FRAME {
+        return None;
+    }
+    rest.get(..length)
 }
 
 /// Writes all of the bytes piece by piece, where the sink didn't take them at once.

@@ -24,7 +24,7 @@ use Rattle.aoe_serve.specs.Arrivals.{Arrived, AreServed, MeetAll, at_slot, fate_
 use Rattle.aoe_serve.specs.Always.{AlwaysLasts}
 use Rattle.aoe_serve.specs.Lasting.{firm_after, firm_by, lasting_by, with_firm}
 use Rattle.aoe_serve.specs.Rounds.{Outcome, Round, SinkTook, TakesOn}
-use Rattle.aoe_serve.specs.Answering.{Answered, Ends}
+use Rattle.aoe_serve.specs.Answering.{Answered, Ends, Turned}
 use Rattle.aoe_serve.specs.Slots.{IsServed, Meets, Slot}
 use Rattle.aoe_serve.specs.declared.over_stream.AnswerEnd.{AnswerEnd}
 use Rattle.aoe_serve.specs.Written.{exchanges, noted, pieces, written, written_of}
@@ -207,24 +207,25 @@ unbegun format left held0 held old some = record {
   took = some;
 }
 
-pub goes_on : (format : Format) (left0 left left' held0 held held' : Option (List ℕ)) (old now new : List Slot) (offset count n l m : ℕ) (f : List ℕ)
-    → SoFar format left0 left held0 held old now offset count → n ≡ length f → IsFrame f → Gave left left' (framed f)
-    → Round (λ given. SinkTook format (Ok tt) held held' l m (noted format f ++ given)) f now new
-    → SoFar format left0 left' held0 held' old new (offset + (2 + n)) (count + 1)
-goes_on format left0 left left' held0 held held' old now new offset count n l m f s n_is is gave r =
+-- a turn more
+pub goes_on : (format : Format) (left0 left left' held0 held held' : Option (List ℕ)) (old now new : List Slot) (offset count taken : ℕ)
+    → SoFar format left0 left held0 held old now offset count → Turned format taken left left' held held' now new
+    → SoFar format left0 left' held0 held' old new (offset + taken) (count + 1)
+goes_on format left0 left left' held0 held held' old now new offset count taken s t =
     let h = s.arrivals in
-    let a : Arrived = record { frame = f; fates = r.fates } in
+    let f = t.frame in
+    let a : Arrived = record { frame = f; fates = t.fates } in
     let P : List ℕ → Type 0 = λ xs. Gave left0 left' xs in
     let Q : List ℕ → Type 0 = λ xs. Took held0 held' xs in
     record {
       arrivals = a ∷ h;
-      whole = all_frames (frames h) f s.whole is;
-      served = served_then old now new f r.fates h s.served r.meets;
+      whole = all_frames (frames h) f s.whole t.whole;
+      served = served_then old now new f t.fates h s.served t.meets;
       count_is = omega (arith, s.count_is);
-      offset_is = omega (arith, s.offset_is, ap length (stream-frame (frames h) f), length-append (stream (frames h)) (framed f), n_is);
-      gave = subst P (sym (stream-frame (frames h) f)) (Gave-then left0 left left' (stream (frames h)) (framed f) s.gave gave);
+      offset_is = omega (arith, s.offset_is, ap length (stream-frame (frames h) f), length-append (stream (frames h)) (framed f), t.long);
+      gave = subst P (sym (stream-frame (frames h) f)) (Gave-then left0 left left' (stream (frames h)) (framed f) s.gave t.gave);
       took = subst Q (sym (written-more format a h))
-          (Took-then held0 held held' (written format h) (written_of format f (replies_of r.fates)) s.took r.took.writes);
+          (Took-then held0 held held' (written format h) (written_of format f (replies_of t.fates)) s.took t.writes);
     }
 
 length-stream : (fs : List (List ℕ)) → All IsFrame fs → length (stream fs) ≤ 9020 * length fs

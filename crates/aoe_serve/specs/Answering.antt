@@ -46,6 +46,16 @@ pub record Answered (format : Format) (end : AnswerEnd) (left left' held held' :
   pub stops : Stops end (length arrivals) (length (stream (frames arrivals))) behind left'
   pub took : TookWritten format end held held' arrivals
 
+-- the round of a frame that came, which has so many bytes with its length: the sink took what is written of it
+pub record Turned (format : Format) (taken : ℕ) (left left' held held' : Option (List ℕ)) (old new : List Slot) : Type 0 where
+  pub frame : List ℕ
+  pub fates : List Fate
+  pub whole : IsFrame frame
+  pub long : taken ≡ length (framed frame)
+  pub gave : Gave left left' (framed frame)
+  pub meets : MeetAll old new frame fates
+  pub writes : Took held held' (written_of format frame (replies_of fates))
+
 -- the sink failed in the round of a frame
 pub record Breaks (format : Format) (left left' held held' : Option (List ℕ)) (old new : List Slot) : Type 0 where
   pub frame : List ℕ

@@ -1,5 +1,6 @@
 //! What takes the replies of a shelf.
-ghost use Rattle.std.specs.Prelude.{◌≡◌, ◌∷◌, ◌++◌, ℕ, List, [], Ok, Err};
+ghost use Rattle.std.specs.Prelude.{◌≡◌, ◌≤◌, ◌∷◌, ◌++◌, ℕ, List, [], length, Ok, Err};
+ghost use Rattle.aoe_base.specs.Sizes.{longest_frame};
 ghost use Rattle.aoe_base.specs.declared.failure.Failed.{Failed};
 ghost use Rattle.aoe_serve.specs.Rounds.{LinkTook, Outcome, SinkTook};
 ghost use Rattle.aoe_serve.specs.declared.over_stream.Format.TheVariants.{Capture, Replies};
@@ -48,6 +49,17 @@ impl<K: Sink> Outlet<AsStream> for K {
     ghost over = { λ failed a b xs ys one. sink_over Replies failed _ _ _ _ xs ys one };
 }
 
+/// Writes the record of a frame in a capture file.
+pub(crate) fn give_record<K: Sink>(sink: &mut K, frame: &[u8]) -> Result<(), Failed>
+    requires { length frame.now ≤ longest_frame }
+    ensures { SinkTook Capture result (K.held sink.old) (K.held sink.new) (K.faults sink.old) (K.faults sink.new)
+        (frame.now ∷ []) }
+{
+    let mut record = RecordBytes::new();
+    write_record(frame, &mut record);
+    give_all(sink, record.as_slice())
+}
+
 /// The replies go out as the records of a capture file.
 pub(crate) struct AsRecords;
 
@@ -55,9 +67,7 @@ impl<K: Sink> Outlet<AsRecords> for K {
     ghost took = { λ result a b replies. SinkTook Capture result (K.held a) (K.held b) (K.faults a) (K.faults b) replies };
 
     fn give(&mut self, reply: &Frame) -> Result<(), Failed> {
-        let mut record = RecordBytes::new();
-        write_record(reply.as_slice(), &mut record);
-        give_all(self, record.as_slice())
+        give_record(self, reply.as_slice())
     }
 
     ghost none = { λ a. sink_none Capture (K.held a) (K.faults a) };

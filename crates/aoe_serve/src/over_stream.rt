@@ -1,20 +1,20 @@
 //! The loop of `answer` and `capture`: a frame from the source, its replies to the sink.
-ghost use Rattle.std.specs.Prelude.{◌≡◌, ◌≤◌, ◌++◌, [], Err, IfErr, Ok, OnErr, OnOk, is_err, true};
+ghost use Rattle.std.specs.Prelude.{◌≡◌, ◌≤◌, ◌++◌, [], length, Err, IfErr, IfOk, OnErr, OnOk, is_err, true};
 ghost use Rattle.aoe_base.specs.Faults.{Blamed};
-ghost use Rattle.aoe_io.specs.Bytes.{Gave, Took, TookSome};
-ghost use Rattle.aoe_io.specs.Stream.{framed, IsFrame};
+ghost use Rattle.aoe_base.specs.Sizes.{longest_frame};
+ghost use Rattle.aoe_io.specs.Bytes.{Took, TookSome};
 ghost use Rattle.aoe_pcap.specs.Capture.{head_bytes, written_head};
 ghost use Rattle.aoe_serve.specs.Rounds.{Round, SinkTook};
-ghost use Rattle.aoe_serve.specs.Answering.{Answered, Ends};
+ghost use Rattle.aoe_serve.specs.Answering.{Answered, Ends, Turned};
 ghost use Rattle.aoe_serve.specs.Slots.{slots_of};
 ghost use Rattle.aoe_serve.specs.Written.{noted, written};
 
-use crate::outlet::{AsRecords, AsStream, Outlet};
+use crate::outlet::{AsRecords, AsStream, give_record};
 use crate::rounds::round;
 use aoe_base::Failed;
 use aoe_disk::Disk;
 use aoe_frame::Frame;
-use aoe_io::{Next, Sink, Source, StreamRefusal, give_all, next_frame};
+use aoe_io::{Next, Sink, Source, StreamRefusal, front_frame, give_all, next_frame};
 use aoe_pcap::write_head;
 use aoe_shelf::Shelf;
 use aoe_store::Store;
@@ -75,40 +75,45 @@ fn begin<K: Sink>(format: Format, sink: &mut K) -> Result<(), Failed>
 }
 
 /// Writes what stands for a frame in front of the replies to it.
-fn note<K: Sink>(format: Format, frame: &Frame, sink: &mut K) -> Result<(), Failed>
+fn note<K: Sink>(format: Format, frame: &[u8], sink: &mut K) -> Result<(), Failed>
+    requires { length frame.now ≤ longest_frame }
     ensures { SinkTook format result (K.held sink.old) (K.held sink.new) (K.faults sink.old) (K.faults sink.new)
-        (noted format frame.now.items) }
+        (noted format frame.now) }
 {
     match format {
         Format::Replies => Ok(()),
-        Format::Capture => <K as Outlet<AsRecords>>::give(sink, frame),
+        Format::Capture => give_record(sink, frame),
     }
 }
 
 /// Hands a frame to every slot in turn, and writes what stands for it and the replies. Where the sink
 /// fails it is given no more, and the slots that are left get the frame all the same.
+#[inline(always)]
 fn hand<S: Store, D: Disk, K: Sink>(
     format: Format,
     shelf: &mut Shelf<S, D>,
-    frame: &Frame,
+    frame: &[u8],
     reply: &mut Frame,
     sink: &mut K,
 ) -> Result<(), Failed>
+    requires { length frame.now ≤ longest_frame }
     ensures round { Round (λ given. SinkTook format result (K.held sink.old) (K.held sink.new) (K.faults sink.old) (K.faults sink.new)
-        (noted format frame.now.items ++ given)) frame.now.items
+        (noted format frame.now ++ given)) frame.now
         (slots_of S.lasts S.state D.state shelf.old.targets) (slots_of S.lasts S.state D.state shelf.new.targets) }
     ensures rest { shelf.new ≡ record shelf.old { targets = shelf.new.targets } }
 {
     let noted = note(format, frame, sink);
     match format {
-        Format::Replies => round::<S, D, AsStream, K>(shelf, frame.as_slice(), reply, sink, noted),
-        Format::Capture => round::<S, D, AsRecords, K>(shelf, frame.as_slice(), reply, sink, noted),
+        Format::Replies => round::<S, D, AsStream, K>(shelf, frame, reply, sink, noted),
+        Format::Capture => round::<S, D, AsRecords, K>(shelf, frame, reply, sink, noted),
     }
 }
 
-/// Takes one frame of the source, in front of which `offset` bytes stood, and writes it and the replies
-/// to it. An error is the end of the run.
-fn turn<S: Store, D: Disk, R: Source, K: Sink>(
+/// The turn of a frame that the source has not read ahead as a whole: its parts come together in
+/// `request` first.
+#[cold]
+#[inline(never)]
+fn gathered_turn<S: Store, D: Disk, R: Source, K: Sink>(
     format: Format,
     shelf: &mut Shelf<S, D>,
     source: &mut R,
@@ -116,12 +121,8 @@ fn turn<S: Store, D: Disk, R: Source, K: Sink>(
     offset: u64,
     request: &mut Frame,
     reply: &mut Frame,
-) -> Result<(), AnswerEnd>
-    ensures frame { OnOk result (IsFrame request.new.items) }
-    ensures gave { OnOk result (Gave (R.left source.old) (R.left source.new)
-        (framed request.new.items)) }
-    ensures round { OnOk result (Round (λ given. SinkTook format (Ok tt) (K.held sink.old) (K.held sink.new) (K.faults sink.old) (K.faults sink.new)
-        (noted format request.new.items ++ given)) request.new.items
+) -> Result<usize, AnswerEnd>
+    ensures turned { IfOk result (λ taken. Turned format taken (R.left source.old) (R.left source.new) (K.held sink.old) (K.held sink.new)
         (slots_of S.lasts S.state D.state shelf.old.targets) (slots_of S.lasts S.state D.state shelf.new.targets)) }
     ensures ends { IfErr result (λ end. Ends format end offset (R.left source.old) (R.left source.new) (K.held sink.old) (K.held sink.new)
         (slots_of S.lasts S.state D.state shelf.old.targets) (slots_of S.lasts S.state D.state shelf.new.targets)) }
@@ -139,8 +140,46 @@ fn turn<S: Store, D: Disk, R: Source, K: Sink>(
         Err(StreamRefusal::SourceFault) => return Err(AnswerEnd::SourceFault),
         Err(StreamRefusal::Stream { offset }) => return Err(AnswerEnd::Stream { offset }),
     }
-    match hand(format, shelf, request, reply, sink) {
-        Ok(()) => Ok(()),
+    match hand(format, shelf, request.as_slice(), reply, sink) {
+        Ok(()) => Ok(2 + request.len()),
+        Err(Failed) => Err(AnswerEnd::SinkFault),
+    }
+}
+
+/// Takes one frame of the source, in front of which `offset` bytes stood, and writes it and the replies
+/// to it. Says how many bytes it and its length have. An error is the end of the run.
+///
+/// A frame that the source has read ahead is answered where it lies, and not copied.
+#[inline(always)]
+fn turn<S: Store, D: Disk, R: Source, K: Sink>(
+    format: Format,
+    shelf: &mut Shelf<S, D>,
+    source: &mut R,
+    sink: &mut K,
+    offset: u64,
+    request: &mut Frame,
+    reply: &mut Frame,
+) -> Result<usize, AnswerEnd>
+    ensures turned { IfOk result (λ taken. Turned format taken (R.left source.old) (R.left source.new) (K.held sink.old) (K.held sink.new)
+        (slots_of S.lasts S.state D.state shelf.old.targets) (slots_of S.lasts S.state D.state shelf.new.targets)) }
+    ensures ends { IfErr result (λ end. Ends format end offset (R.left source.old) (R.left source.new) (K.held sink.old) (K.held sink.new)
+        (slots_of S.lasts S.state D.state shelf.old.targets) (slots_of S.lasts S.state D.state shelf.new.targets)) }
+    ensures rest { shelf.new ≡ record shelf.old { targets = shelf.new.targets } }
+    ensures source_count { R.faults source.old ≤ R.faults source.new }
+    ensures sink_count { K.faults sink.old ≤ K.faults sink.new }
+    ensures source_blame { Blamed (result ≡ Err AnswerEnd.SourceFault) (R.faults source.old)
+        (R.faults source.new) }
+    ensures sink_blame { Blamed (result ≡ Err AnswerEnd.SinkFault) (K.faults sink.old)
+        (K.faults sink.new) }
+{
+    let Some(frame) = front_frame(source.buffer()) else {
+        return gathered_turn(format, shelf, source, sink, offset, request, reply);
+    };
+    let taken = 2 + frame.len();
+    let given = hand(format, shelf, frame, reply, sink);
+    source.consume(taken);
+    match given {
+        Ok(()) => Ok(taken),
         Err(Failed) => Err(AnswerEnd::SinkFault),
     }
 }
@@ -179,10 +218,9 @@ pub(crate) fn answer_as<S: Store, D: Disk, R: Source, K: Sink>(
             &mut request,
             &mut reply,
         ) {
-            Ok(()) => {}
+            Ok(taken) => offset += taken as u64,
             Err(end) => return end,
         }
-        offset += 2 + request.len() as u64;
     }
     AnswerEnd::Limit
 }

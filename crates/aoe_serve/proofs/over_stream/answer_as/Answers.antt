@@ -18,8 +18,7 @@ overflow_add-offset-in-frames g c = omega (arith, offset-fits _ _ _ _ _ _ _ c.fr
 
 pub frames-preserved : goal.frames-preserved
 frames-preserved g c = (
-  goes_on _ _ _ _ _ _ _ _ _ _ c.frames.offset c.frames.count c.len.result _ _ c.turn.new.request.items
-      c.frames.invariant.0 c.len.ensures.value c.in-Ok-turn.ensures.frame c.in-Ok-turn.ensures.gave c.in-Ok-turn.ensures.round,
+  goes_on _ _ _ _ _ _ _ _ _ _ c.frames.offset c.frames.count _ c.frames.invariant.0 c.in-Ok-turn.ensures.turned,
   rest_then c.args.shelf.now c.frames.shelf c.turn.new.shelf c.frames.invariant.1 c.turn.ensures.rest,
   c.in-Ok-turn.ensures.source_blame.no_fault (λ e. cc) ∙ c.frames.invariant.2,
   c.in-Ok-turn.ensures.sink_blame.no_fault (λ e. cc) ∙ c.frames.invariant.3,
