@@ -27,7 +27,7 @@ use Rattle.aoe_target.specs.declared.station.Station.{Station}
 use Rattle.aoe_target.specs.declared.verdict.Verdict.{Verdict}
 use Rattle.aoe_target.proofs.OneReply.{data-apart, gives-is}
 use Rattle.aoe_audit.specs.Judged.{answers_by, reply_in}
-use Rattle.aoe_audit.specs.Known.{AreAsKnown, AreKnown, AreKnownOf, IsKnown, IsTold, IsToldAta, IsToldBy, Knowing, SaysOne, Table, value_of, value_put, value_read}
+use Rattle.aoe_audit.specs.Known.{AreAsKnown, AreKnown, AreKnownOf, IsKnown, IsTold, IsToldAta, IsToldBy, Knowing, SaysOne, KnownTable, value_of, value_put, value_read}
 use Rattle.aoe_audit.specs.declared.judge.Told.{Told}
 use Rattle.aoe_audit.specs.declared.judge.Told.TheVariants.{By, Wrong}
 
@@ -54,19 +54,19 @@ by-one told reply bytes k old known (inr says) =
 
 -- what is known of sectors
 
-known-of : (g : Sectors → Sectors) (old new : Table) → ((x : Sectors) → AreKnown old x → AreKnown new (g x)) → (o : Option Sectors) → AreKnownOf old o
+known-of : (g : Sectors → Sectors) (old new : KnownTable) → ((x : Sectors) → AreKnown old x → AreKnown new (g x)) → (o : Option Sectors) → AreKnownOf old o
     → AreKnownOf new (option_map g o)
 known-of g old new more None known = absurd known
 known-of g old new more (Some x) known = more x known
 
-put-known : (span : Span) (bytes : List ℕ) (old new : Table) → ((q : ℕ) → value_of new q ≡ value_put span bytes old q) → (x : Sectors) → AreKnown old x
+put-known : (span : Span) (bytes : List ℕ) (old new : KnownTable) → ((q : ℕ) → value_of new q ≡ value_put span bytes old q) → (x : Sectors) → AreKnown old x
     → AreKnown new (puts span bytes x)
 put-known span bytes old new is x known = record {
   same = λ s. (λ i. cond (in_span span s) (Some (value_in span bytes s)) (known.same s i)) ∙ sym (is s);
   inexact = known.inexact;
 }
 
-read-known : (span : Span) (bytes : List ℕ) (old new : Table) → ((q : ℕ) → value_of new q ≡ value_read span bytes old q) → (x : Sectors) → AreKnown old x
+read-known : (span : Span) (bytes : List ℕ) (old new : KnownTable) → ((q : ℕ) → value_of new q ≡ value_read span bytes old q) → (x : Sectors) → AreKnown old x
     → AreKnown new (learns span bytes x)
 read-known span bytes old new is x known = record {
   same = λ s. (λ i. option_or (known.same s i) (cond (in_span span s) (Some (value_in span bytes s)) None)) ∙ sym (is s);
@@ -91,7 +91,7 @@ written-is f span =
     λ i. take (size i) (sym (drop-more 12 24 36 f refl) i)
 
 -- a write is done
-pub put-told : (station : Station) (f : List ℕ) (args : AtaArgs) (span : Span) (reply : List ℕ) (old new : Table) (k : State) (lists : Settings)
+pub put-told : (station : Station) (f : List ℕ) (args : AtaArgs) (span : Span) (reply : List ℕ) (old new : KnownTable) (k : State) (lists : Settings)
     → reply ≡ ata_reply station (fields f) args Done
     → ((q : ℕ) → value_of new q ≡ value_put span (slice_range f 36 (36 + 512 * span.count)) old q) → IsKnown (record { lists = lists; known = old }) k
     → IsToldAta station k f args (Put span) reply (record { lists = lists; known = old }) (record { lists = lists; known = new }) (By (effect.Wrote span))
@@ -144,18 +144,18 @@ module _ (station : Station) (h : Header) (args : AtaArgs) (span : Span) (reply 
       )
 
 -- what is known of the sectors that a read gives
-told-of : (span : Span) (bytes : List ℕ) (old : Table) (o : Option Sectors) → AreKnownOf old o → AreAsKnown span bytes old → IfSome o (Tells span bytes)
+told-of : (span : Span) (bytes : List ℕ) (old : KnownTable) (o : Option Sectors) → AreKnownOf old o → AreAsKnown span bytes old → IfSome o (Tells span bytes)
 told-of span bytes old None known as-known = absurd known
 told-of span bytes old (Some x) known as-known =
     λ i less. subst (λ v. IfSome v (λ b. sector bytes i ≡ b)) (sym (known.same (span.at + i))) (as-known i less)
 
-known-from : (span : Span) (bytes : List ℕ) (old : Table) (o : Option Sectors) → AreKnownOf old o → IfSome o (Tells span bytes) → AreAsKnown span bytes old
+known-from : (span : Span) (bytes : List ℕ) (old : KnownTable) (o : Option Sectors) → AreKnownOf old o → IfSome o (Tells span bytes) → AreAsKnown span bytes old
 known-from span bytes old None known tells = absurd known
 known-from span bytes old (Some x) known tells = λ i less. subst (λ v. IfSome v (λ b. sector bytes i ≡ b)) (known.same (span.at + i)) (tells i less)
 
-module _ (station : Station) (f : List ℕ) (args : AtaArgs) (span : Span) (reply : List ℕ) (old new : Table) (k : State) (lists : Settings)
+module _ (station : Station) (f : List ℕ) (args : AtaArgs) (span : Span) (reply : List ℕ) (old new : KnownTable) (k : State) (lists : Settings)
     (front : length (data_front station (fields f) args) ≡ 36) (some : 1 ≤ span.count) (known : IsKnown (record { lists = lists; known = old }) k) where
-  abbrev ToldRead : Table → Told → Type 0
+  abbrev ToldRead : KnownTable → Told → Type 0
   ToldRead later told = IsToldAta station k f args (Give span) reply (record { lists = lists; known = old }) (record { lists = lists; known = later }) told
 
   module _ (len : length reply ≡ 36 + 512 * span.count) (begins : take 36 reply ≡ data_front station (fields f) args) where
@@ -175,7 +175,7 @@ module _ (station : Station) (f : List ℕ) (args : AtaArgs) (span : Span) (repl
           },
         )
 
-    pub read-wrong : (later : Table) → (AreAsKnown span (drop 36 reply) old → ⊥) → ToldRead later Wrong
+    pub read-wrong : (later : KnownTable) → (AreAsKnown span (drop 36 reply) old → ⊥) → ToldRead later Wrong
     read-wrong later other = (
       refl,
       λ e gives. elim (gives-is e station k.sectors (fields f) args span reply gives) [
@@ -186,7 +186,7 @@ module _ (station : Station) (f : List ℕ) (args : AtaArgs) (span : Span) (repl
       ],
     )
 
-  pub read-other : (later : Table) → (length reply ≡ 36 + 512 * span.count → take 36 reply ≢ data_front station (fields f) args)
+  pub read-other : (later : KnownTable) → (length reply ≡ 36 + 512 * span.count → take 36 reply ≢ data_front station (fields f) args)
       → reply ≢ ata_reply station (fields f) args Uncorrectable → ToldRead later Wrong
   read-other later apart other = (
     refl,

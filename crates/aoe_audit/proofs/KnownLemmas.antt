@@ -7,7 +7,7 @@ use Rattle.std.proofs.lemmas.Bool.Decides.{nat_tests}
 use Rattle.aoe_base.specs.declared.sectors.Span.{Span}
 use Rattle.aoe_disk.specs.State.{sector}
 use Rattle.aoe_target.specs.Sectors.{in_span, value_in}
-use Rattle.aoe_audit.specs.Known.{AreAsKnown, Table, value_of, value_read}
+use Rattle.aoe_audit.specs.Known.{AreAsKnown, KnownTable, value_of, value_read}
 
 -- the first so many sectors of a span
 abbrev pub first : ℕ → ℕ → Span
@@ -71,7 +71,7 @@ lost-more at n q old = elim (cases_eq (at + n) q) [
 ]
 
 -- what is known of the next sector is what was known of it before
-pub next-known : (at n : ℕ) (bytes : List ℕ) (old now : Table) → ((q : ℕ) → value_of now q ≡ value_read (first at n) bytes old q)
+pub next-known : (at n : ℕ) (bytes : List ℕ) (old now : KnownTable) → ((q : ℕ) → value_of now q ≡ value_read (first at n) bytes old q)
     → value_of now (at + n) ≡ value_of old (at + n)
 next-known at n bytes old now is = is (at + n) ∙ rw (in-next at n) (none-after (value_of old (at + n)))
   where
@@ -79,7 +79,7 @@ next-known at n bytes old now is = is (at + n) ∙ rw (in-next at n) (none-after
     none-after None = refl
     none-after (Some v) = refl
 
-pub as-known-more : (at n : ℕ) (bytes : List ℕ) (old : Table) → AreAsKnown (first at n) bytes old → IfSome (value_of old (at + n)) (λ v. sector bytes n ≡ v)
+pub as-known-more : (at n : ℕ) (bytes : List ℕ) (old : KnownTable) → AreAsKnown (first at n) bytes old → IfSome (value_of old (at + n)) (λ v. sector bytes n ≡ v)
     → AreAsKnown (first at (n + 1)) bytes old
 as-known-more at n bytes old before here i less = elim (cases_lt i n) [
   | inl lower ↦ before i lower

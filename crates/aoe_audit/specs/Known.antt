@@ -22,16 +22,16 @@ use Rattle.aoe_audit.specs.declared.judge.Told.{Told}
 use Rattle.aoe_audit.specs.declared.judge.Told.TheVariants.{Nothing, Wrong, By}
 
 -- sectors that are known, each with its value, and the value of one
-abbrev pub Table : Type 0
-Table = List (ℕ × List ℕ)
+abbrev pub KnownTable : Type 0
+KnownTable = List (ℕ × List ℕ)
 
-abbrev pub value_of : Table → ℕ → Option (List ℕ)
+abbrev pub value_of : KnownTable → ℕ → Option (List ℕ)
 value_of known s = lookup (nat_eq s) known
 
 -- the lists of a device, and its sectors that are known
 pub record Knowing : Type 0 where
   pub lists : Settings
-  pub known : Table
+  pub known : KnownTable
 
 -- what of a device never changes, and what is known of it
 pub record Judging : Type 0 where
@@ -39,11 +39,11 @@ pub record Judging : Type 0 where
   pub knowing : Knowing
 
 -- of sectors exactly these values are known, and not what a failed call leaves
-pub record AreKnown (known : Table) (k : Sectors) : Type 0 where
+pub record AreKnown (known : KnownTable) (k : Sectors) : Type 0 where
   pub same : (s : ℕ) → k.known s ≡ value_of known s
   pub inexact : k.exact ≡ false
 
-abbrev pub AreKnownOf : Table → Option Sectors → Type 0
+abbrev pub AreKnownOf : KnownTable → Option Sectors → Type 0
 AreKnownOf known None = ⊥
 AreKnownOf known (Some k) = AreKnown known k
 
@@ -76,17 +76,17 @@ IsToldAta station k f args answer reply old new told =
     (λ e. record k { sectors = option_map (after_ata f answer (replied e reply)) k.sectors }) old new told
 
 -- what is known of a sector after a write, after a failed one, and after a read, which makes known what wasn't
-abbrev pub value_put : Span → List ℕ → Table → ℕ → Option (List ℕ)
+abbrev pub value_put : Span → List ℕ → KnownTable → ℕ → Option (List ℕ)
 value_put span bytes known s = if in_span span s then Some (value_in span bytes s) else value_of known s
 
-abbrev pub value_lost : Span → Table → ℕ → Option (List ℕ)
+abbrev pub value_lost : Span → KnownTable → ℕ → Option (List ℕ)
 value_lost span known s = if in_span span s then None else value_of known s
 
-abbrev pub value_read : Span → List ℕ → Table → ℕ → Option (List ℕ)
+abbrev pub value_read : Span → List ℕ → KnownTable → ℕ → Option (List ℕ)
 value_read span bytes known s = option_or (value_of known s) (if in_span span s then Some (value_in span bytes s) else None)
 
 -- each sector of the data has the value that is known of it
-abbrev pub AreAsKnown : Span → List ℕ → Table → Type 0
+abbrev pub AreAsKnown : Span → List ℕ → KnownTable → Type 0
 AreAsKnown span bytes known = (i : ℕ) → i < span.count → IfSome (value_of known (span.at + i)) (λ v. sector bytes i ≡ v)
 
 -- a reply that may have these bytes alone has them, or is wrong; and one that may have the first by one effect, or the second by another

@@ -9,7 +9,7 @@ ghost use Rattle.aoe_target.specs.Front.{data_front};
 ghost use Rattle.aoe_target.specs.Law.{step_of};
 ghost use Rattle.aoe_target.specs.Reply.{ata_reply, repeated, spelled};
 ghost use Rattle.aoe_audit.specs.Judged.{answers};
-ghost use Rattle.aoe_audit.specs.Known.{IsKnown, IsTold, IsToldAta, IsToldStep, Knowing, SaysEither, SaysOne, Table, is_plain};
+ghost use Rattle.aoe_audit.specs.Known.{IsKnown, IsTold, IsToldAta, IsToldStep, Knowing, SaysEither, SaysOne, KnownTable, is_plain};
 
 use crate::known::Known;
 use aoe_ata::{AtaAnswer, AtaArgs, AtaDecision, AtaOutcome};
@@ -328,7 +328,7 @@ fn tell_list(
     out: &mut Frame,
 ) -> Told
     requires { is_some (head request.now) ≡ true }
-    ensures { (k : State) (known : Table)
+    ensures { (k : State) (known : KnownTable)
         → IsKnown (record { lists = lists.old; known = known }) k
         → IsToldStep station.now k request.now (step_of station.now lists.old request.now command) reply.now
         (record { lists = lists.old; known = known }) (record { lists = lists.new; known = known }) result }

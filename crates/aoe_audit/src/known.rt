@@ -16,9 +16,9 @@ pub(crate) struct Known {
 }
 
 impl Model for Known {
-    ghost use Rattle.aoe_audit.specs.Known.{Table};
+    ghost use Rattle.aoe_audit.specs.Known.{KnownTable};
 
-    ghost Value = { Table };
+    ghost Value = { KnownTable };
 
     ghost view = { λ k. k.sectors.entries };
 }

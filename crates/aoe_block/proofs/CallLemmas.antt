@@ -12,7 +12,7 @@ use Rattle.aoe_block.specs.declared.stage.Stage.TheVariants.{Pending, Ended, Fai
 use Rattle.aoe_block.specs.declared.took.Took.TheVariants.{More, Whole, Part as PartTook}
 use Rattle.aoe_block.specs.Calls.{are_ended, is_success, next_part, op_of, part_of, settle, took, took_as}
 use Rattle.aoe_block.specs.Fields.{laid, parts_of, AreParts}
-use Rattle.aoe_block.specs.Parts.{Part, Transfer}
+use Rattle.aoe_block.specs.Parts.{BlockState, Part}
 use Rattle.aoe_block.specs.Stages.{is_handed, stage_at}
 use Rattle.aoe_block.proofs.PartLemmas.{nth, nth_is}
 use Rattle.aoe_block.proofs.SoundLemmas.{ended_all, ended_parts, ended_sound, failed_parts, failed_sound, found, here_count, next_pending, place, some_left}
@@ -95,7 +95,7 @@ pub record TakesPart (total max at count : ℕ) (bytes : List ℕ) (stages : Lis
 
 module _ {total max at count : ℕ} {bytes : List ℕ} {stages : List Stage} {first next left : ℕ} {write : Bool} {done : Done} {k : ℕ} {answered : Bool}
     (t : TakesPart total max at count bytes stages first next left write done k answered) where
-  abbrev block : Transfer
+  abbrev block : BlockState
   block = record { write = write; total = total; max = max; parts = parts_of max at count stages bytes }
 
   took_found : took block done ≡ took_as write done (Some (nth max at count bytes k (stage_at stages k))) (are_ended (settle block done).parts)

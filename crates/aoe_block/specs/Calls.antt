@@ -10,7 +10,7 @@ use Rattle.aoe_initiator.specs.declared.outcome.Outcome.TheVariants.{Read, Writt
 use Rattle.aoe_block.specs.declared.stage.Stage.TheVariants.{Handed, Ended, Failed}
 use Rattle.aoe_block.specs.declared.took.Took.{Took}
 use Rattle.aoe_block.specs.declared.took.Took.TheVariants.{NotMine, More, Whole, Part as PartTook}
-use Rattle.aoe_block.specs.Parts.{Part, Transfer}
+use Rattle.aoe_block.specs.Parts.{BlockState, Part}
 use Rattle.aoe_block.specs.Stages.{is_ended, is_failed, is_handed, is_pending}
 
 -- the first part that wasn't handed
@@ -62,7 +62,7 @@ after_outcome write outcome p =
 abbrev pub after_done : Bool → Done → Part → Part
 after_done write done p = if is_handed done.ticket.0 p.stage then after_outcome write done.outcome p else p
 
-abbrev pub settle : Transfer → Done → Transfer
+abbrev pub settle : BlockState → Done → BlockState
 settle block done = record block { parts = map (after_done block.write done) block.parts }
 
 -- each part was read or written
@@ -70,11 +70,11 @@ abbrev pub are_ended : List Part → Bool
 are_ended parts = list_all (λ p. is_ended p.stage) parts
 
 -- a part had another outcome
-abbrev pub is_broken : Transfer → Bool
+abbrev pub is_broken : BlockState → Bool
 is_broken block = list_any (λ p. is_failed p.stage) block.parts
 
 -- the operations of all parts in order
-abbrev pub operations : Transfer → List Op
+abbrev pub operations : BlockState → List Op
 operations block = map (op_of block.write) block.parts
 
 -- an outcome that a command of a part can have: as many data as a read asked for, an acknowledgement of a write, or
@@ -108,5 +108,5 @@ took_as write done None ended = NotMine done
 took_as write done (Some p) ended =
     if is_success write p.count done.outcome then if ended then Whole else More else PartTook done.outcome
 
-abbrev pub took : Transfer → Done → Took
+abbrev pub took : BlockState → Done → Took
 took block done = took_as block.write done (part_of done.ticket.0 block.parts) (are_ended (settle block done).parts)

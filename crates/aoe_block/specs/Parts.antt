@@ -13,7 +13,7 @@ pub record Part : Type 0 where
   pub stage : Stage
 
 -- a block: whether it is written, how many sectors its device has and takes in one command, and its parts in order
-pub record Transfer : Type 0 where
+pub record BlockState : Type 0 where
   pub write : Bool
   pub total : ℕ
   pub max : ℕ

@@ -58,9 +58,9 @@ pub struct Block {
 
 impl Model for Block {
     ghost use Rattle.aoe_block.specs.Fields.{parts_of, AreParts};
-    ghost use Rattle.aoe_block.specs.Parts.{Transfer};
+    ghost use Rattle.aoe_block.specs.Parts.{BlockState};
 
-    ghost Value = { Transfer };
+    ghost Value = { BlockState };
 
     ghost view = { λ b. record { write = b.write; total = b.total; max = b.max; parts = parts_of b.max b.at b.count b.stages.items b.bytes } };
 

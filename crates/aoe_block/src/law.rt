@@ -4,26 +4,26 @@ ghost use Rattle.aoe_base.specs.declared.counted.Ticket.{Ticket};
 ghost use Rattle.aoe_initiator.specs.declared.outcome.Done.{Done};
 ghost use Rattle.aoe_initiator.specs.declared.outcome.Outcome.{Outcome};
 ghost use Rattle.aoe_block.specs.Calls.{hand, is_broken, is_read_or_written, is_success, operations, part_of, settle, took, AreUpTo, CanEnd};
-ghost use Rattle.aoe_block.specs.Parts.{IsCut, Part, Transfer};
+ghost use Rattle.aoe_block.specs.Parts.{BlockState, IsCut, Part};
 ghost use Rattle.aoe_block.specs.declared.took.Took.TheVariants.{Part as PartTook, Whole};
 
 /// A law: the operations of a block's parts stay what they were when it was made.
 pub fn operations_law()
-    ensures handed { (block : Transfer) (ticket : Ticket)
+    ensures handed { (block : BlockState) (ticket : Ticket)
         → operations (record block { parts = hand ticket block.parts }) ≡ operations block }
-    ensures taken { (block : Transfer) (done : Done)
+    ensures taken { (block : BlockState) (done : Done)
         → operations (settle block done) ≡ operations block }
 {}
 
 /// A law: a block of which a part failed never becomes whole.
 pub fn broken_law()
-    ensures part { (block : Transfer) (done : Done) (outcome : Outcome)
+    ensures part { (block : BlockState) (done : Done) (outcome : Outcome)
         → took block done ≡ PartTook outcome → is_broken (settle block done) ≡ true }
-    ensures handed { (block : Transfer) (ticket : Ticket) → is_broken block ≡ true
+    ensures handed { (block : BlockState) (ticket : Ticket) → is_broken block ≡ true
         → is_broken (record block { parts = hand ticket block.parts }) ≡ true }
-    ensures taken { (block : Transfer) (done : Done) → is_broken block ≡ true
+    ensures taken { (block : BlockState) (done : Done) → is_broken block ≡ true
         → is_broken (settle block done) ≡ true }
-    ensures never { (block : Transfer) (done : Done) → is_broken block ≡ true
+    ensures never { (block : BlockState) (done : Done) → is_broken block ≡ true
         → took block done ≡ Whole → ⊥ }
 {}
 
@@ -41,6 +41,6 @@ pub fn ticket_law()
         → last < ticket.0 → part_of ticket.0 parts ≡ None }
     ensures handed { (last : ℕ) (ticket : Ticket) (parts : List Part) → AreUpTo last parts
         → last < ticket.0 → AreUpTo ticket.0 (hand ticket parts) }
-    ensures taken { (last : ℕ) (block : Transfer) (done : Done) → AreUpTo last block.parts
+    ensures taken { (last : ℕ) (block : BlockState) (done : Done) → AreUpTo last block.parts
         → AreUpTo last (settle block done).parts }
 {}

@@ -8,7 +8,7 @@ use Rattle.std.proofs.lemmas.List.{append-nil, append_assoc, get_or-reverse, len
 use Rattle.std.proofs.lemmas.List.Elements.{All-head, All-nil, All-tail, Contains-append_left, Contains-append_right, Contains-append_cases}
 use Rattle.aoe_block.proofs.LawLemmas.{op-hand, op-settle}
 use Rattle.aoe_block.specs.Calls.{are_ended, is_success, next_part, op_of, part_of, settle, took, took_as as took_by}
-use Rattle.aoe_block.specs.Parts.{joined, AreAdjacent, AreFull, IsCut, Part, Transfer}
+use Rattle.aoe_block.specs.Parts.{joined, AreAdjacent, AreFull, BlockState, IsCut, Part}
 use Rattle.aoe_block.specs.Stages.{is_ended, is_pending}
 use Rattle.aoe_block.specs.declared.stage.Stage.{Stage}
 use Rattle.aoe_block.specs.declared.stage.Stage.TheVariants.{Pending, Ended}
@@ -132,7 +132,7 @@ whole-ended write d (Some p) false e = elim (cases_Bool (is_success write p.coun
 ]
 
 -- all parts have their outcomes
-took-whole : (block : Transfer) (d : Done) → took block d ≡ took_as.Whole → are_ended (settle block d).parts ≡ true
+took-whole : (block : BlockState) (d : Done) → took block d ≡ took_as.Whole → are_ended (settle block d).parts ≡ true
 took-whole block d = whole-ended block.write d (part_of d.ticket.0 block.parts) (are_ended (settle block d).parts)
 
 -- then none waits
@@ -443,7 +443,7 @@ all-wait (p ∷ parts) pending =
     rw here (ap (λ l. p ∷ l) (all-wait parts (All-tail (λ p. p.stage ≡ Pending) p parts pending)))
 
 -- a block that is read behind m commands, and of which nothing was asked
-fresh-reads : (m at max : ℕ) (zeros : List ℕ) (D : List Done) (reads : Transfer) (n : ℕ) (k : Check) → reads.write ≡ false → IsCut at max zeros reads.parts
+fresh-reads : (m at max : ℕ) (zeros : List ℕ) (D : List Done) (reads : BlockState) (n : ℕ) (k : Check) → reads.write ≡ false → IsCut at max zeros reads.parts
     → IsSo false at reads.parts m [] D (record { block = reads; flushes = false; phase = phase.Parts; under_way = n; check = k })
 fresh-reads m at max zeros D reads n k read cut =
     let none : m + 0 ≡ m = omega arith in
@@ -469,13 +469,13 @@ Asked rounds c = (flush : Ticket) → c.phase ≡ phase.Flushing flush → Follo
 
 -- A transfer of these parts, and of what is to be read behind them.
 module _ (w : Bool) (at max count : ℕ) (P : List Part) (k : Check)
-    (checks : (reads : Transfer) → k ≡ check.Ahead reads → IsCut at max (replicate (512 * count) 0) reads.parts × (reads.write ≡ false)) where
+    (checks : (reads : BlockState) → k ≡ check.Ahead reads → IsCut at max (replicate (512 * count) 0) reads.parts × (reads.write ≡ false)) where
   -- what was written is read again: the turns fall in two
   pub record Checking (rounds : List Round) (D : List Done) (c : Course) : Type 0 where
-    pub reads : Transfer
+    pub reads : BlockState
     pub was : k ≡ check.Ahead reads
     pub writes : w ≡ true
-    pub written : Transfer
+    pub written : BlockState
     pub behind : c.check ≡ check.Behind written
     pub later : List Round
     pub earlier : List Round
@@ -728,7 +728,7 @@ module _ (w : Bool) (at max count : ℕ) (P : List Part) (k : Check)
       rw is ((turn-stands rounds base.dead _ _ e.gave_up e.gives_up.in_turn turns last before).1 e.by)
 
 -- what is to be read again is a read of the same sectors
-fresh-check : (b : Bool) (at count : ℕ) (d : Device) (k : Check) → IsFreshCheck b at count d k → (reads : Transfer) → k ≡ check.Ahead reads
+fresh-check : (b : Bool) (at count : ℕ) (d : Device) (k : Check) → IsFreshCheck b at count d k → (reads : BlockState) → k ≡ check.Ahead reads
     → IsCut at d.max (replicate (512 * count) 0) reads.parts × (reads.write ≡ false)
 fresh-check false at count d k is reads e = absurd (let not_so : check.Unasked ≡ check.Ahead reads = sym is ∙ e in cc)
 fresh-check true at count d k is reads e = let f : IsFreshRead at count d reads = rw e at is in (f.cut, f.read)
@@ -741,7 +741,7 @@ unasked-check true at count d check.Unasked is e = absurd is
 unasked-check true at count d (check.Behind written) is e = absurd is
 
 -- it is only where that is asked for
-asked-check : (b : Bool) (at count : ℕ) (d : Device) (k : Check) (reads : Transfer) → IsFreshCheck b at count d k → k ≡ check.Ahead reads → b ≡ true
+asked-check : (b : Bool) (at count : ℕ) (d : Device) (k : Check) (reads : BlockState) → IsFreshCheck b at count d k → k ≡ check.Ahead reads → b ≡ true
 asked-check true at count d k reads is e = refl
 asked-check false at count d k reads is e = absurd (let not_so : check.Unasked ≡ check.Ahead reads = sym is ∙ e in cc)
 
@@ -835,13 +835,13 @@ with-front (check.Ahead reads) ops first f =
     )
 with-front _ ops first f = f
 
-again-front : (k : Check) (reads : Transfer) → k ≡ check.Ahead reads → (ops : List Op) (first : List Submission)
+again-front : (k : Check) (reads : BlockState) → k ≡ check.Ahead reads → (ops : List Op) (first : List Submission)
     → IsFront first (numbered 1 (ops ++ map (op_of false) reads.parts))
     → IsFront first (numbered 1 (with_check k ops))
 again-front k reads is ops first f = rw is f
 
 module _ {d : Device} {start : Course} {range : Range} (fresh : IsFresh range d start) where
-  checks : (reads : Transfer) → start.check ≡ check.Ahead reads → IsCut range.at d.max (replicate (512 * range.count) 0) reads.parts × (reads.write ≡ false)
+  checks : (reads : BlockState) → start.check ≡ check.Ahead reads → IsCut range.at d.max (replicate (512 * range.count) 0) reads.parts × (reads.write ≡ false)
   checks = fresh-check range.checks range.at range.count d start.check fresh.check_is
 
   abbrev StandsFresh : List Round → List Done → Course → Type 0
@@ -926,7 +926,7 @@ module _ {ask : Ask} {id : TargetId} {d : Device} {start c : Course} {before aft
   pub put-law : (verify : Bool) (at : ℕ) (bytes : List ℕ) → IsFresh (put_of verify at bytes) d start
       → RunsAll (Ok c) ask id d start before after answers answers'
       → ((c.check ≡ check.Unasked) × (joined c.block.parts ≡ bytes))
-      ⊎ ((written : Transfer) × (verify ≡ true) × (c.check ≡ check.Behind written) × (joined written.parts ≡ bytes)
+      ⊎ ((written : BlockState) × (verify ≡ true) × (c.check ≡ check.Behind written) × (joined written.parts ≡ bytes)
       × (length (joined c.block.parts) ≡ length bytes))
   put-law verify at bytes fresh x = elim (ended fresh x) [
     | inl e ↦

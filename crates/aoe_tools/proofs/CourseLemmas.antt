@@ -5,7 +5,7 @@ use Rattle.std.specs.Prelude.{option_map}
 use Rattle.std.specs.List.{count_by, filter}
 use Rattle.aoe_base.specs.declared.counted.Ticket.{Ticket}
 use Rattle.aoe_block.specs.Calls.{after_done as part_after, hand, is_success, next_part, op_of, settle, took, AreUpTo}
-use Rattle.aoe_block.specs.Parts.{Part, Transfer}
+use Rattle.aoe_block.specs.Parts.{BlockState, Part}
 use Rattle.aoe_block.specs.Stages.{is_handed, is_pending}
 use Rattle.aoe_block.specs.declared.stage.Stage.{Stage}
 use Rattle.aoe_block.specs.declared.stage.Stage.TheVariants.{Handed, Pending}
@@ -34,7 +34,7 @@ module _ (P : Course → Type 0) where
       (c.phase ≡ phase.Parts → P settled)
       → (c.phase ≡ phase.Parts → took c.block d ≡ took_as.Whole → c.flushes ≡ true → P (record settled { phase = phase.Flush }))
       → P less
-      → ((flush : Ticket) (reads : Transfer) → c.phase ≡ phase.Flushing flush → is_acknowledged flush d ≡ true → c.check ≡ check.Ahead reads
+      → ((flush : Ticket) (reads : BlockState) → c.phase ≡ phase.Flushing flush → is_acknowledged flush d ≡ true → c.check ≡ check.Ahead reads
       → P (begin_check (check.Ahead reads) less))
       → P (after_done d c)
   by-done d c same over other begin = by c.phase refl
@@ -167,7 +167,7 @@ pub left-dones : (turns : ℕ) (c : Course) (dones : List Done) → left (after_
 left-dones turns c dones = dones-keep (λ x. left x ≤ left c) (λ d x below. omega (arith, below, left-done d x)) turns c dones (omega arith)
 
 pub up-to-dones : (last turns : ℕ) (c : Course) (dones : List Done)
-    → ((last : ℕ) (block : Transfer) (done : Done) → AreUpTo last block.parts → AreUpTo last (settle block done).parts)
+    → ((last : ℕ) (block : BlockState) (done : Done) → AreUpTo last block.parts → AreUpTo last (settle block done).parts)
     → AreUpTo last c.block.parts → IsBehind last c.check
     → AreUpTo last (after_dones turns c dones).block.parts × IsBehind last (after_dones turns c dones).check
 up-to-dones last turns c dones law up behind =

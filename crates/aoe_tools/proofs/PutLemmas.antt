@@ -2,7 +2,7 @@
 use Rattle.std.proofs.Common.{ℕ, ◌≡◌, ◌+◌, ◌/◌, ◌%◌, ◌^◌, ◌<◌, Bool, true, false, List, length, Option, inl, inr}
 use Rattle.std.specs.Prelude.{◌⊎◌, Result, Ok, Err}
 use Rattle.aoe_base.specs.declared.address.TargetId.{TargetId}
-use Rattle.aoe_block.specs.Parts.{joined, Transfer}
+use Rattle.aoe_block.specs.Parts.{joined, BlockState}
 use Rattle.aoe_tools.proofs.CopiedLemmas.{put-law}
 use Rattle.aoe_tools.specs.declared.course.Check.TheVariants as check
 use Rattle.aoe_tools.specs.declared.course.Course.{Course}
@@ -28,7 +28,7 @@ module _ {ask : Ask} {id : TargetId} (verify : Bool) (at : ℕ)
     (bytes : List ℕ) {least : ℕ} {c : Course} {before after : LinkState} {answers answers' : Option (List ℕ)}
     (copies : Copies (Ok c) ask id (put_of verify at bytes) least before after answers answers') where
   how : ((c.check ≡ check.Unasked) × (joined c.block.parts ≡ bytes))
-      ⊎ ((written : Transfer) × (verify ≡ true) × (c.check ≡ check.Behind written) × (joined written.parts ≡ bytes)
+      ⊎ ((written : BlockState) × (verify ≡ true) × (c.check ≡ check.Behind written) × (joined written.parts ≡ bytes)
       × (length (joined c.block.parts) ≡ length bytes))
   how =
       let x = copied-run copies.found copies.copies in

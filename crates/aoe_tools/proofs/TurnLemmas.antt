@@ -4,7 +4,7 @@ use Rattle.std.proofs.lemmas.Option.{same_Some}
 use Rattle.aoe_initiator.proofs.MatchLemmas.{same-then}
 use Rattle.std.specs.Prelude.{Result, Ok, Err, All}
 use Rattle.aoe_block.specs.Calls.{settle, AreUpTo}
-use Rattle.aoe_block.specs.Parts.{Transfer}
+use Rattle.aoe_block.specs.Parts.{BlockState}
 use Rattle.aoe_flight.specs.Outstanding.{is_expired}
 use Rattle.aoe_initiator.specs.declared.outcome.Done.{Done}
 use Rattle.aoe_initiator.specs.Host.{Host, IsSame, Matches}
@@ -45,7 +45,7 @@ pub record Advanced (host advanced : Host) (now : ℕ) : Type 0 where
 module _ {host advanced h1 : Host} {now : ℕ} (a : Advanced host advanced now) (is : h1 ≡ record advanced { waiting = h1.waiting }) where
   -- the host and the course still fit
   pub fit-turn : (turns : ℕ) (c c1 : Course) (waiting : List Done) → IsFit host c → c1 ≡ after_dones turns c waiting
-      → ((last : ℕ) (block : Transfer) (done : Done) → AreUpTo last block.parts → AreUpTo last (settle block done).parts) → IsFit h1 c1
+      → ((last : ℕ) (block : BlockState) (done : Done) → AreUpTo last block.parts → AreUpTo last (settle block done).parts) → IsFit h1 c1
   fit-turn turns c c1 waiting fit after law =
       let last : h1.last_ticket ≡ host.last_ticket = rw is a.last in
       let both = up-to-dones host.last_ticket turns c waiting law fit.tickets fit.behind in

@@ -1,7 +1,7 @@
 -- The tools that copy sectors out of a device and into it.
 use Rattle.std.specs.Prelude.{ℕ, ◌≡◌, ◌≢◌, ◌+◌, ◌*◌, ◌/◌, ◌%◌, ◌^◌, ◌<◌, ◌≤◌, ◌⊎◌, Bool, true, false, ◌&&◌, nat_lt, List, [], ◌∷◌, length, replicate, take, Option, Result, Ok, Err, IfOk, slice_range}
 use Rattle.aoe_base.specs.declared.address.TargetId.{TargetId}
-use Rattle.aoe_block.specs.Parts.{joined, IsCut, Transfer}
+use Rattle.aoe_block.specs.Parts.{joined, BlockState, IsCut}
 use Rattle.aoe_io.specs.Bytes.{Took, TookSome}
 use Rattle.aoe_tools.specs.Asking.{Answers}
 use Rattle.aoe_tools.specs.declared.course.Check.{Check}
@@ -52,7 +52,7 @@ first_phase true [] = phase.Flush
 first_phase true (b ∷ bytes) = phase.Parts
 
 -- a read of so many sectors of which nothing was asked yet
-pub record IsFreshRead (at count : ℕ) (d : Device) (reads : Transfer) : Type 0 where
+pub record IsFreshRead (at count : ℕ) (d : Device) (reads : BlockState) : Type 0 where
   pub cut : IsCut at d.max (replicate (512 * count) 0) reads.parts
   pub read : reads.write ≡ false
 
