@@ -26,6 +26,9 @@ use Rattle.aoe_target.specs.Reply.{reply_head, reply_port, spelled, repeated, at
 use Rattle.aoe_target.specs.Sectors.{Sectors}
 use Rattle.aoe_target.specs.Law.{replied, Allows, AllowsAta, AllowsStep, AnswersSync, AnswersWrite, Edits, Gives, Verifies, step_of}
 
+pub same-reply : (e d : Effect) (a b : List ℕ) → replied e a ≡ replied d b → a ≡ b
+same-reply e d a b is = cc
+
 -- the effects that the law allows, each with its reply
 
 pub gives-is : (e : Effect) (station : Station) (k : Option Sectors) (h : Header) (args : AtaArgs) (span : Span) (reply : List ℕ)
