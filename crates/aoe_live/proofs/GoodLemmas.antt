@@ -7,15 +7,12 @@ use Rattle.std.specs.List.{flat_map}
 use Rattle.std.proofs.lemmas.Fmt.{length-decimal-le_succ}
 use Rattle.std.proofs.lemmas.Nat.{mod_below}
 use Rattle.std.proofs.lemmas.Bool.Decides.{nat_tests}
-use Rattle.std.proofs.lemmas.List.Elements.{All-from_recursion, All-nil}
-use Rattle.aoe_base.specs.declared.address.Mac.{Mac}
 use Rattle.aoe_script.specs.declared.event.Event.TheVariants.{Read, Write, Flush, Tick, Deliver}
 use Rattle.aoe_script.specs.Classes.{is_name}
-use Rattle.aoe_script.specs.Lines.{IsScript, ScriptLines}
+use Rattle.aoe_script.specs.Lines.{AreGood}
 use Rattle.aoe_script.specs.declared.setup.Setup.{Setup}
 use Rattle.aoe_script.specs.Print.{line_text, script_text, setup_words}
 use Rattle.aoe_script.specs.Rules.{are_ports, event_why, setup_why}
-use Rattle.aoe_script.specs.Types.{FitsEvent, FitsSetup, IsAddress, IsByte}
 use Rattle.aoe_live.specs.Stations.{command, device, host_a, shelf_s, stations}
 
 pub ticks-good : (sectors ms : ℕ) → 1 ≤ ms → ms ≤ 10000000 → event_why (stations sectors) (Tick ms) ≡ None
@@ -51,39 +48,17 @@ pub read-good : (sectors at : ℕ) → at < 281474976710656 → event_why (stati
 unfolding event_why is_name
 read-good sectors at small = let t : nat_lt at 281474976710656 ≡ true = lt-ltb at 281474976710656 small in rw t refl
 
-fits : (last : ℕ) → last < 256 → All IsAddress (record { 0 = 2 ∷ 0 ∷ 0 ∷ 0 ∷ 0 ∷ last ∷ [] } ∷ [])
-fits last small =
-    let mac : Mac = record { 0 = 2 ∷ 0 ∷ 0 ∷ 0 ∷ 0 ∷ last ∷ [] } in
-    let bytes : All IsByte (2 ∷ 0 ∷ 0 ∷ 0 ∷ 0 ∷ last ∷ []) =
-    All-from_recursion IsByte (2 ∷ 0 ∷ 0 ∷ 0 ∷ 0 ∷ last ∷ [])
-    (omega arith, (omega arith, (omega arith, (omega arith, (omega arith, (omega (arith, small), tt)))))) in
-    let address : IsAddress mac = record { six = refl; bytes = bytes } in
-    All-from_recursion IsAddress (mac ∷ []) (address, tt)
-
--- the setup lines are a script
+-- nothing is wrong with the setup lines
 module _ (sectors : ℕ) (some : 1 ≤ sectors) (most : sectors ≤ 65536) where
-  abbrev script : ScriptLines
-  script = record { setups = stations sectors; events = [] }
-
-  at-place : (k : ℕ) → IfSome (slice_get (stations sectors) k) (λ setup. setup_why (take k (stations sectors)) false setup ≡ None)
+  pub are-good : AreGood (stations sectors)
   unfolding setup_why are_ports is_name
-  at-place (suc (suc zero)) =
+  are-good (suc (suc zero)) =
       let least : nat_le 1 sectors ≡ true = grind (arith, nat_tests) in
       let greatest : nat_le sectors 65536 ≡ true = grind (arith, nat_tests) in
       let few : nat_lt 262144 (0 + sectors) ≡ false = grind (arith, nat_tests) in
       rw (least, greatest, few) refl
-  at-place (suc (suc (suc (suc (suc k))))) = tt
-  at-place _ = refl
-
-  pub is-script : IsScript script
-  is-script = record {
-    setups = at-place;
-    events = λ k. tt;
-    few_setups = omega arith;
-    few_events = omega arith;
-    setups_fit = All-from_recursion FitsSetup (stations sectors) (tt, (fits 1 (omega arith), (tt, (fits 10 (omega arith), (tt, tt)))));
-    events_fit = All-nil FitsEvent;
-  }
+  are-good (suc (suc (suc (suc (suc k))))) = tt
+  are-good _ = refl
 
 -- each command is good
 module _ (sectors count i : ℕ) (some : 1 ≤ sectors) (most : sectors ≤ 65536) where
@@ -122,11 +97,3 @@ stations-short sectors most =
     let all = ap length (text-is sectors) in
     let digits = length-decimal-le_succ sectors (omega (arith, most)) in
     omega (arith, all, digits, most, length-append (decimal sectors) (10 ∷ behind sectors), length-append (setups-text sectors) [])
-
-pub text-short : (sectors : ℕ) → sectors ≤ 65536 → length (script_text (record { setups = stations sectors; events = [] })) ≤ 16777216
-text-short sectors most = omega (arith, stations-short sectors most, length-append (setups-text sectors) [])
-
-pub text-said : (sectors : ℕ)
-    → ([] ++ (codes "life 2000\nshelf s 1 02:00:00:00:00:01 1500\nslot s 0" ++ 32 ∷ decimal sectors)) ++ codes "\nhost a 02:00:00:00:00:0a\nattach a s 0\n"
-    ≡ script_text (record { setups = stations sectors; events = [] })
-text-said sectors = sym (text-is sectors)

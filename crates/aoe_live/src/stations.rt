@@ -1,12 +1,10 @@
 //! The stations: one shelf with one slot, and one host that is attached to it.
 ghost use Rattle.std.specs.Prelude.{◌≡◌, ◌≤◌, [], ◌∷◌, IfOk};
 ghost use Rattle.aoe_base.specs.Sizes.{most_simulated};
-ghost use Rattle.aoe_script.specs.Print.{script_text};
 ghost use Rattle.aoe_live.specs.Stations.{stations};
 
-use aoe_base::{NoMemory, TargetId, put};
-use aoe_script::spelling::put_count;
-use aoe_script::{Name, Script, printed_script_reads_back, read_script};
+use aoe_base::{Mac, NoMemory, Ports, TargetId};
+use aoe_script::{Name, Script, Setup};
 use std::alloc::Global;
 
 pub(crate) const DEVICE: TargetId = TargetId { major: 1, minor: 0 };
@@ -20,19 +18,47 @@ pub(crate) fn named(letter: u8) -> Name
     name
 }
 
-/// The text of the setup lines, where the slot has so many sectors.
-fn setup_text(alloc: Global, sectors: u64) -> Result<Vec<u8>, NoMemory>
-    ensures { IfOk result (λ text. text.items ≡ script_text
-        (record { setups = stations sectors; events = [] })) }
+/// The address of a station, told from other stations by its last byte.
+fn port(last: u8) -> Ports
+    ensures { result ≡ record { items = (record { 0 = 2 ∷ 0 ∷ 0 ∷ 0 ∷ 0 ∷ last ∷ [] }) ∷ [] } }
 {
-    let mut text = Vec::new(alloc);
-    put_count(
-        &mut text,
-        b"life 2000\nshelf s 1 02:00:00:00:00:01 1500\nslot s 0",
+    let mut ports = Ports::new();
+    ports.push(Mac([2, 0, 0, 0, 0, last]));
+    ports
+}
+
+/// The setup lines, where the slot has so many sectors.
+fn setups(sectors: u64) -> [Setup; 5]
+    ensures { result ≡ stations sectors }
+{
+    let life = Setup::Life {
+        requests: 2000,
+        responses: None,
+    };
+    let shelf = Setup::Shelf {
+        name: named(b's'),
+        major: 1,
+        ports: port(1),
+        mtu: 1500,
+    };
+    let slot = Setup::Slot {
+        shelf: named(b's'),
+        minor: 0,
         sectors,
-    )?;
-    put(&mut text, b"\nhost a 02:00:00:00:00:0a\nattach a s 0\n")?;
-    Ok(text)
+        room: None,
+    };
+    let host = Setup::Host {
+        name: named(b'a'),
+        ports: port(10),
+        room: None,
+        dead: None,
+    };
+    let attach = Setup::Attach {
+        host: named(b'a'),
+        shelf: named(b's'),
+        minor: 0,
+    };
+    [life, shelf, slot, host, attach]
 }
 
 /// A script of the stations, without an event.
@@ -41,10 +67,5 @@ pub(crate) fn stations(alloc: Global, sectors: u64) -> Result<Script, NoMemory>
     requires most { sectors ≤ most_simulated }
     ensures { IfOk result (λ script. script ≡ record { setups = stations sectors; events = [] }) }
 {
-    printed_script_reads_back();
-    let text = setup_text(alloc, sectors)?;
-    match read_script(alloc, text.as_slice()) {
-        Ok(script) => Ok(script),
-        Err(refusal) => Err(refusal.memory_alone()),
-    }
+    Script::of_setups(alloc, setups(sectors))
 }

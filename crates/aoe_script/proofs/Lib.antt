@@ -14,6 +14,7 @@ mod SaidLemmas
 mod ScriptBack
 mod ScriptLemmas
 mod SetupBack
+mod SetupLemmas
 mod SpelledLemmas
 mod SplitLemmas
 mod WordLemmas

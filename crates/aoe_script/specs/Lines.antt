@@ -24,9 +24,13 @@ pub record ScriptLines : Type 0 where
   pub setups : List Setup
   pub events : List Event
 
+-- nothing is wrong with a setup line behind those in front of it
+abbrev pub AreGood : List Setup → Type 0
+AreGood setups = (k : ℕ) → IfSome (slice_get setups k) (λ setup. setup_why (take k setups) false setup ≡ None)
+
 -- a script is made of lines of which none has anything wrong behind those before it; their fields fit their types
 pub record IsScript (lines : ScriptLines) : Type 0 where
-  pub setups : (k : ℕ) → IfSome (slice_get lines.setups k) (λ setup. setup_why (take k lines.setups) false setup ≡ None)
+  pub setups : AreGood lines.setups
   pub events : (k : ℕ) → IfSome (slice_get lines.events k) (λ event. event_why lines.setups event ≡ None)
   pub few_setups : length lines.setups ≤ most_script_bytes
   pub few_events : length lines.events ≤ 50000

@@ -1,7 +1,7 @@
 //! Scripts, and the text that spells one.
 ghost use Rattle.std.specs.Prelude.{◌≡◌, ◌+◌, ◌<◌, ◌≤◌, [], ◌∷◌, ◌++◌, length, nat_le, slice_get, Err, IfOk, OnErr, OnOk, Some, None};
 ghost use Rattle.std.specs.List.{list_any};
-ghost use Rattle.aoe_script.specs.Lines.{line_refusal, lines_of, most_script_bytes, refusal, refused_for, said_by, script_of, with_line, FailsFor, IsScript, IsWanting, ScriptLines};
+ghost use Rattle.aoe_script.specs.Lines.{line_refusal, lines_of, most_script_bytes, refusal, refused_for, said_by, script_of, with_line, AreGood, FailsFor, IsScript, IsWanting, ScriptLines};
 ghost use Rattle.aoe_script.specs.Rules.{event_why, marks, setup_why};
 
 use crate::event::Event;
@@ -11,6 +11,7 @@ use crate::refusal::ScriptRefusal;
 use crate::setup::{Name, Setup};
 use crate::standing::{Kind, any};
 use crate::table::read_line;
+use aoe_base::NoMemory;
 use std::alloc::Global;
 use std::marker::Model;
 
@@ -37,7 +38,7 @@ impl Model for Script {
 
 impl Script {
     /// A script without a line.
-    fn empty(alloc: Global) -> Script
+    pub fn new(alloc: Global) -> Script
         ensures { result ≡ lines_of [] }
     {
         Script {
@@ -86,13 +87,30 @@ impl Script {
         any(self.setups.as_slice(), &Kind::Marked(shelf, minor))
     }
 
+    /// A script of setup lines with which nothing is wrong, and of no event.
+    pub fn of_setups<const N: usize>(alloc: Global, setups: [Setup; N]) -> Result<Script, NoMemory>
+        requires few { N ≤ most_script_bytes }
+        requires good { AreGood setups }
+        ensures { IfOk result (λ script. script ≡ record { setups = setups.entry; events = [] }) }
+    {
+        let mut script = Script::new(alloc);
+        'setups: for setup in setups {
+            match script.declare(setup) {
+                Ok(()) => {}
+                Err(refusal) => return Err(refusal.memory_alone()),
+            }
+        }
+        Ok(script)
+    }
+
     /// Takes a setup line in.
-    fn declare(&mut self, number: u32, setup: Setup) -> Result<(), ScriptRefusal>
+    fn place(&mut self, number: u32, setup: Setup) -> Result<(), ScriptRefusal>
         requires { length self.old.setups < most_script_bytes }
         ensures cause { FailsFor (line_refusal number self.old (Line.Declares setup)) result }
         ensures memory { result ≡ Err ScriptRefusal.NoMemory
             → line_refusal number self.old (Line.Declares setup) ≡ None }
         ensures ok { OnOk result (self.new ≡ with_line self.old (Line.Declares setup)) }
+        ensures err { OnErr result (self.new ≡ self.old) }
     {
         let behind = self.events.len() > 0;
         if let Some(why) = setup.why(self.setups.as_slice(), behind) {
@@ -136,10 +154,27 @@ impl Script {
     {
         match line {
             Line::Blank => Ok(()),
-            Line::Declares(setup) => self.declare(number, setup),
+            Line::Declares(setup) => self.place(number, setup),
             Line::Asks(event) => self.ask(number, event),
             Line::Bad(why) => Err(ScriptRefusal::BadLine { line: number, why }),
         }
+    }
+
+    /// Adds a setup line at the end, which is no place for one where there are events. The number of
+    /// a bad line is the one that it would have there.
+    pub fn declare(&mut self, setup: Setup) -> Result<(), ScriptRefusal>
+        requires { length self.old.setups < most_script_bytes }
+        ensures cause { FailsFor (line_refusal
+            (length self.old.setups + length self.old.events + 1) self.old
+            (Line.Declares setup)) result }
+        ensures memory { result ≡ Err ScriptRefusal.NoMemory → line_refusal
+            (length self.old.setups + length self.old.events + 1) self.old
+            (Line.Declares setup) ≡ None }
+        ensures ok { OnOk result (self.new ≡ with_line self.old (Line.Declares setup)) }
+        ensures err { OnErr result (self.new ≡ self.old) }
+    {
+        let number = self.setups() + self.count() + 1;
+        self.place(number as u32, setup)
     }
 
     /// Adds an event at the end. The number of a bad line is the one that it would have there.
@@ -165,7 +200,7 @@ fn read_lines(alloc: Global, text: &[u8]) -> Result<Script, ScriptRefusal>
     ensures memory { result ≡ Err ScriptRefusal.NoMemory → IsWanting text.now }
     ensures script { IfOk result (λ script. script ≡ script_of text.now) }
 {
-    let mut script = Script::empty(alloc);
+    let mut script = Script::new(alloc);
     let mut rest = text;
     let mut number = 0;
     'lines: while let Some((line, next)) = next_line(rest) {

@@ -5,29 +5,23 @@ use Rattle.std.proofs.lemmas.Bool.{lt-ltb}
 use Rattle.std.proofs.lemmas.List.Elements.{All-from_recursion}
 use Rattle.arrayvec.specs.ArrayVec.{ArrayVec}
 use Rattle.aoe_disk.specs.declared.loss.Loss.TheVariants.{Torn}
-use Rattle.aoe_base.specs.Names.{is_pair_at, pair_at, mac_of}
 use Rattle.aoe_script.specs.declared.event.Event.{Event}
 use Rattle.aoe_script.specs.declared.event.Event.TheVariants.{Read, Write, Flush, Tick, Pass, Skip, Again, Crash}
-use Rattle.aoe_script.specs.Classes.{is_name, macs_of}
-use Rattle.aoe_script.specs.Forms.{said}
-use Rattle.aoe_script.specs.Lines.{ScriptLines, said_by}
+use Rattle.aoe_script.specs.Classes.{is_name}
+use Rattle.aoe_script.specs.Lines.{ScriptLines}
 use Rattle.aoe_script.specs.Rules.{asked_why, event_why, is_asked, named_why}
-use Rattle.aoe_script.specs.Words.{words}
 use Rattle.aoe_soak.specs.Adds.{Takes}
-use Rattle.aoe_soak.specs.Soak.{crash, device, first_line, host, host_a, host_b, pair, sector, stations}
+use Rattle.aoe_soak.specs.Soak.{crash, device, first_line, host, host_a, host_b, pair, sector, shelf_s, stations}
 
 -- both hosts are attached to the device
 host_a_asks : asked_why stations host_a device ≡ None
-unfolding said_by said words is_pair_at pair_at mac_of macs_of
 host_a_asks = refl
 
 host_b_asks : asked_why stations host_b device ≡ None
-unfolding said_by said words is_pair_at pair_at mac_of macs_of
 host_b_asks = refl
 
 -- the shelf stands
-shelf_stands : named_why stations (Crash (record { items = 115 ∷ [] }) Torn) ≡ None
-unfolding said_by said words is_pair_at pair_at mac_of macs_of
+shelf_stands : named_why stations (Crash shelf_s Torn) ≡ None
 shelf_stands = refl
 
 host_asks : (i : ℕ) → asked_why stations (host i) device ≡ None
@@ -73,7 +67,7 @@ module _ (script : ScriptLines) (is : script.setups ≡ stations) where
   unfolding event_why is_name
   flush_b = rw (is) host_b_asks
 
-  loses_power : Takes script (Crash (record { items = 115 ∷ [] }) Torn)
+  loses_power : Takes script (Crash shelf_s Torn)
   unfolding event_why is_name
   loses_power = rw (is) shelf_stands
 

@@ -1,33 +1,48 @@
 -- A large run from a number: the script of a seed and a count of commands.
-use Rattle.std.specs.Prelude.{ℕ, ◌+◌, ◌/◌, ◌%◌, ◌==◌, ◌++◌, List, [], ◌∷◌, codes, if◌then◌else◌}
+use Rattle.std.specs.Prelude.{ℕ, ◌+◌, ◌/◌, ◌%◌, ◌==◌, ◌++◌, List, [], ◌∷◌, None, codes, if◌then◌else◌}
 use Rattle.std.specs.List.{flat_map, range_with_len}
 use Rattle.arrayvec.specs.ArrayVec.{ArrayVec}
+use Rattle.aoe_base.specs.declared.address.Mac.{Mac}
 use Rattle.aoe_base.specs.declared.address.TargetId.{TargetId}
 use Rattle.aoe_disk.specs.declared.loss.Loss.TheVariants.{Torn}
 use Rattle.aoe_script.specs.declared.event.Event.{Event}
 use Rattle.aoe_script.specs.declared.event.Event.TheVariants.{Read, Write, Flush, Tick, Pass, Skip, Again, Crash}
 use Rattle.aoe_script.specs.declared.setup.Setup.{Setup}
-use Rattle.aoe_script.specs.Lines.{ScriptLines, script_of}
-use Rattle.aoe_script.specs.Words.{Text}
+use Rattle.aoe_script.specs.declared.setup.Setup.TheVariants.{Life, Shelf, Slot, Host, Attach}
+use Rattle.aoe_script.specs.Lines.{ScriptLines}
 
 -- ---- the setup: a shelf of two ports, and two hosts of two ports at its one slot
 
-abbrev pub setup_text : Text
-setup_text = codes "life 2000\nshelf s 1 02:00:00:00:01:00,02:00:00:00:01:01 1500\nslot s 0 4096\nhost a 02:00:00:00:0a:00,02:00:00:00:0a:01\nhost b 02:00:00:00:0b:00,02:00:00:00:0b:01\nattach a s 0\nattach b s 0\n"
-
-abbrev pub stations : List Setup
-stations = (script_of setup_text).setups
-
--- ---- the lines of command i, from 0
-
-abbrev pub device : TargetId
-device = record { major = 1; minor = 0 }
+abbrev pub shelf_s : ArrayVec ℕ
+shelf_s = record { items = codes "s" }
 
 abbrev pub host_a : ArrayVec ℕ
 host_a = record { items = codes "a" }
 
 abbrev pub host_b : ArrayVec ℕ
 host_b = record { items = codes "b" }
+
+-- the two addresses of a station
+abbrev pub two_ports : ℕ → ArrayVec Mac
+two_ports station = record {
+  items = record { 0 = 2 ∷ 0 ∷ 0 ∷ 0 ∷ station ∷ 0 ∷ [] } ∷ record { 0 = 2 ∷ 0 ∷ 0 ∷ 0 ∷ station ∷ 1 ∷ [] } ∷ [];
+}
+
+abbrev pub stations : List Setup
+stations =
+    Life 2000 None
+    ∷ Shelf shelf_s 1 (two_ports 1) 1500
+    ∷ Slot shelf_s 0 4096 None
+    ∷ Host host_a (two_ports 10) None None
+    ∷ Host host_b (two_ports 11) None None
+    ∷ Attach host_a shelf_s 0
+    ∷ Attach host_b shelf_s 0
+    ∷ []
+
+-- ---- the lines of command i, from 0
+
+abbrev pub device : TargetId
+device = record { major = 1; minor = 0 }
 
 -- the hosts take turns
 abbrev pub host : ℕ → ArrayVec ℕ
@@ -60,7 +75,7 @@ following i =
 
 -- half way both hosts flush, and the shelf loses power
 abbrev pub crash : List Event
-crash = Tick 2001 ∷ Flush host_a device ∷ Pass 2 ∷ Flush host_b device ∷ Pass 2 ∷ Crash (record { items = codes "s" }) Torn ∷ []
+crash = Tick 2001 ∷ Flush host_a device ∷ Pass 2 ∷ Flush host_b device ∷ Pass 2 ∷ Crash shelf_s Torn ∷ []
 
 abbrev pub before : ℕ → ℕ → List Event
 before count i = if i == count / 2 then crash else []

@@ -5,20 +5,12 @@ ghost use Rattle.aoe_soak.specs.Adds.{with_events};
 ghost use Rattle.aoe_soak.specs.Soak.{before, command, crash, device, first_line, following, host, stations};
 
 use crate::add::{add, add_all};
+use crate::setup::named;
 use aoe_base::{NoMemory, TargetId};
 use aoe_disk::Loss;
 use aoe_script::{Event, Name, Script};
 
 const DEVICE: TargetId = TargetId { major: 1, minor: 0 };
-
-/// A name of one letter.
-fn named(letter: u8) -> Name
-    ensures { result ≡ record { items = letter ∷ [] } }
-{
-    let mut name = Name::new();
-    name.push(letter);
-    name
-}
 
 /// The host of command `i`.
 fn host(i: u32) -> Name

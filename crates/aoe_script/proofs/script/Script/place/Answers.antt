@@ -1,7 +1,7 @@
 use Rattle.std.proofs.Common.{rules}
 use Rattle.aoe_script.proofs.ScriptLemmas.{declared_more}
-use Rattle.aoe_script.proofs.script.Script.declare.Goals as goal
-use Rattle.aoe_script.proofs.script.Script.declare.Goals.{in-Ok, in-Err}
+use Rattle.aoe_script.proofs.script.Script.place.Goals as goal
+use Rattle.aoe_script.proofs.script.Script.place.Goals.{in-Ok, in-Err}
 
 pub invariant_of-self : goal.invariant_of-self
 invariant_of-self c =
