@@ -1,37 +1,20 @@
 -- What the orders of the commands say of them.
-use Rattle.std.proofs.Common.{ℕ, ◌≡◌, ◌≢◌, ◌<◌, ◌≤◌, not, Bool, true, false, List, [], ◌∷◌, Option, Some, None, inl, inr, refl, sym, ap, ◌∙◌, arith, nat_eq, if◌then◌else◌}
-use Rattle.std.specs.Prelude.{slice_get, slice_index_or, All, Contains, IfNone}
+use Rattle.std.proofs.Common.{ℕ, ◌≡◌, ◌≢◌, ◌<◌, ◌≤◌, not, Bool, true, false, List, Some, None, refl, sym, ap, ◌∙◌, arith, nat_eq, if◌then◌else◌}
+use Rattle.std.specs.Prelude.{slice_get, slice_index_or, All, Contains}
 use Rattle.std.specs.List.{find}
 use Rattle.std.proofs.lemmas.Bool.{eq-eqb, false_from_ne_true, ne_eqb, true≢false}
 use Rattle.std.proofs.lemmas.Bool.Decides.{nat_tests}
-use Rattle.slab.proofs.SlabLemmas.{Contains-cons_cases}
 use Rattle.slab.specs.Slab.{get, values, Slab}
 use Rattle.aoe_flight.specs.declared.order.Entry.{Entry}
 use Rattle.aoe_flight.specs.declared.outstanding.Outstanding.{Outstanding}
-use Rattle.aoe_flight.specs.Order.{before, entry_at, IsInOrder}
+use Rattle.aoe_sorted.specs.Order.{before, AreInOrder}
+use Rattle.aoe_sorted.proofs.RankLemmas.{head-least}
+use Rattle.aoe_flight.specs.Order.{entry_at, rank_of}
 use Rattle.aoe_flight.specs.Outstanding.{flies_as, flies_with, is_due, is_expired, is_older, is_over, is_taken, precedes, IsFirst}
 use Rattle.aoe_flight.specs.Table.{by_due, by_first, by_tag, by_ticket, each, flies, rests, IsFirstSlot, IsOrderOf}
-use Rattle.aoe_flight.proofs.IndexLemmas.{same-command}
-use Rattle.aoe_flight.proofs.EntryLemmas.{at-least, before-back, before-self}
+use Rattle.aoe_flight.proofs.EntryLemmas.{at-least, head-there, none-there}
+use Rattle.aoe_flight.proofs.IndexLemmas.{command-of, entry-of, same-command}
 use Rattle.aoe_flight.proofs.ValueLemmas.{all-held, any-held, find-at, find-none, held-at, none-held}
-
--- the first in a list in order
-pub head-least : (xs : List Entry) (e f : Entry) → IsInOrder xs → slice_get xs 0 ≡ Some e → Contains xs f → before f e ≡ false
-head-least [] e f order is there = absurd cc
-head-least (x ∷ xs) e f order is there =
-    let same : e ≡ x = cc in
-    rw same (elim (Contains-cons_cases x f xs there) [
-      | inl here ↦ rw (← here) (before-self x)
-      | inr behind ↦ before-back x f (rw behind.2 at (order.0 behind.0 f behind.1))
-    ])
-
-pub head-there : (xs : List Entry) (e : Entry) → slice_get xs 0 ≡ Some e → Contains xs e
-head-there [] e is = absurd cc
-head-there (x ∷ xs) e is = (0, omega arith, cc)
-
-pub none-there : (xs : List Entry) (f : Entry) → slice_get xs 0 ≡ None → ¬ (Contains xs f)
-none-there [] f is there = omega (arith, there.1)
-none-there (x ∷ xs) f is there = absurd cc
 
 by-number : (ticket k : ℕ) (d : Outstanding) → flies_as ticket d ≡ true → by_ticket k d ≡ entry_at ticket k
 by-number ticket k d passes = grind (arith, nat_tests)
@@ -42,13 +25,13 @@ flies-ticket ticket d passes = grind arith
 pub no-slot : (slab : Slab Outstanding) (entries : List Entry) (ticket k : ℕ) (d : Outstanding) → IsOrderOf slab flies by_ticket entries
     → ¬ (Contains entries (entry_at ticket k)) → get slab k ≡ Some d → flies_as ticket d ≡ false
 no-slot slab entries ticket k d o out at = false_from_ne_true _ (λ passes.
-    out (rw (← by-number ticket k d passes) (o.all k d at (flies-ticket ticket d passes))))
+    out (rw (← by-number ticket k d passes) (entry-of o k d at (flies-ticket ticket d passes))))
 
 pub first-slot : (slab : Slab Outstanding) (entries : List Entry) (ticket from slot : ℕ) (c : Outstanding) → IsOrderOf slab flies by_ticket entries
     → Contains entries (entry_at ticket slot) → from ≤ slot
     → ((k : ℕ) → from ≤ k → k < slot → ¬ (Contains entries (entry_at ticket k))) → get slab slot ≡ Some c → IsFirstSlot (flies_as ticket) slab from slot c
 first-slot slab entries ticket from slot c o there behind first at =
-    let held = o.only (entry_at ticket slot) there in
+    let held = command-of o (entry_at ticket slot) there in
     let one : held.command ≡ c = same-command slab slot held.command c held.there at in
     let flying : not c.finished ≡ true = ap flies (sym one) ∙ held.passes in
     let number : c.ticket.0 ≡ ticket = ap (λ (d : Outstanding). d.ticket.0) (sym one) ∙ sym (ap (λ (e : Entry). e.at) held.is) in
@@ -61,7 +44,7 @@ first-slot slab entries ticket from slot c o there behind first at =
 
 pub slot-held : {slab : Slab Outstanding} {test : Outstanding → Bool} {entry : ℕ → Outstanding → Entry} {entries : List Entry} (e : Entry)
     → IsOrderOf slab test entry entries → Contains entries e → get slab e.slot ≢ None
-slot-held e o there none = let held = o.only e there in let both : Some held.command ≡ None = sym held.there ∙ none in absurd cc
+slot-held e o there none = let held = command-of o e there in let both : Some held.command ≡ None = sym held.there ∙ none in absurd cc
 
 pub head-held : {slab : Slab Outstanding} {test : Outstanding → Bool} {entry : ℕ → Outstanding → Entry} {entries : List Entry} (e : Entry)
     → IsOrderOf slab test entry entries → slice_get entries 0 ≡ Some e → get slab e.slot ≢ None
@@ -82,7 +65,7 @@ by-tagged tag k d passes = grind (arith, nat_tests)
 
 no-tagged : (slab : Slab Outstanding) (entries : List Entry) (tag k : ℕ) (d : Outstanding) → IsOrderOf slab each by_tag entries
     → ¬ (Contains entries (entry_at tag k)) → get slab k ≡ Some d → flies_with tag d ≡ false
-no-tagged slab entries tag k d o out at = false_from_ne_true _ (λ passes. out (rw (← by-tagged tag k d passes) (o.all k d at refl)))
+no-tagged slab entries tag k d o out at = false_from_ne_true _ (λ passes. out (rw (← by-tagged tag k d passes) (entry-of o k d at refl)))
 
 no-tie : (b : Bool) → ◌≡◌ {A = ℕ} 0 (if b then 1 else 0) → not b ≡ true
 no-tie b is = grind arith
@@ -91,7 +74,7 @@ pub tag-found : (slab : Slab Outstanding) (entries : List Entry) (tag slot : ℕ
     → Contains entries (entry_at tag slot)
     → ((k : ℕ) → 0 ≤ k → k < slot → ¬ (Contains entries (entry_at tag k))) → get slab slot ≡ Some c → Some c ≡ find (flies_with tag) (values slab)
 tag-found slab entries tag slot c o there first at =
-    let held = o.only (entry_at tag slot) there in
+    let held = command-of o (entry_at tag slot) there in
     let one : held.command ≡ c = same-command slab slot held.command c held.there at in
     let is : entry_at tag slot ≡ by_tag slot c = held.is ∙ ap (by_tag slot) one in
     let flying : not c.finished ≡ true = no-tie c.finished (ap (λ (e : Entry). e.tie) is) in
@@ -106,14 +89,14 @@ tag-none slab entries tag o none = sym (find-none (flies_with tag) slab.slots (�
 taken-found : (slab : Slab Outstanding) (entries : List Entry) (tag : ℕ) (e : Entry) → IsOrderOf slab each by_tag entries
     → Contains entries e → e.at ≡ tag → true ≡ is_taken (values slab) tag
 taken-found slab entries tag e o there at =
-    let held = o.only e there in
+    let held = command-of o e there in
     let number : held.command.flying.tag ≡ tag = sym (ap (λ (f : Entry). f.at) held.is) ∙ at in
     sym (any-held (λ d. nat_eq d.flying.tag tag) slab.slots e.slot held.command held.there (eq-eqb held.command.flying.tag tag number))
 
 taken-none : (slab : Slab Outstanding) (entries : List Entry) (tag : ℕ) → IsOrderOf slab each by_tag entries
     → ((e : Entry) → Contains entries e → e.at ≢ tag) → false ≡ is_taken (values slab) tag
 taken-none slab entries tag o none = sym (none-held (λ d. nat_eq d.flying.tag tag) slab.slots (λ k d at.
-    ne_eqb _ _ (none (by_tag k d) (o.all k d at refl))))
+    ne_eqb _ _ (none (by_tag k d) (entry-of o k d at refl))))
 
 pub taken-is : (slab : Slab Outstanding) (entries : List Entry) (tag : ℕ) (b : Bool) → IsOrderOf slab each by_tag entries
     → (b ≡ true → (e : Entry) × Contains entries e × (e.at ≡ tag)) → (b ≡ false → (e : Entry) → Contains entries e → e.at ≢ tag)
@@ -126,27 +109,27 @@ pub none-pass : {slab : Slab Outstanding} {test : Outstanding → Bool} {entry :
     → ((c : Outstanding) → passes c ≡ true → test c ≡ true) → IsOrderOf slab test entry entries → slice_get entries 0 ≡ None
     → All (λ c. passes c ≡ false) (values slab)
 none-pass {slab} {test} {entry} {entries} passes wider o none = all-held (λ c. passes c ≡ false) slab.slots (λ k c at.
-    false_from_ne_true _ (λ is. none-there entries (entry k c) none (o.all k c at (wider c is))))
+    false_from_ne_true _ (λ is. none-there entries (entry k c) none (entry-of o k c at (wider c is))))
 
 -- the command of the first entry
 head-of : (slab : Slab Outstanding) (test : Outstanding → Bool) (entry : ℕ → Outstanding → Entry) (entries : List Entry) (e : Entry) (c : Outstanding)
     → IsOrderOf slab test entry entries → slice_get entries 0 ≡ Some e → get slab e.slot ≡ Some c → (e ≡ entry e.slot c) × (test c ≡ true)
 head-of slab test entry entries e c o head at =
-    let held = o.only e (head-there entries e head) in
+    let held = command-of o e (head-there entries e head) in
     let one : held.command ≡ c = same-command slab e.slot held.command c held.there at in
     (held.is ∙ ap (entry e.slot) one, ap test (sym one) ∙ held.passes)
 
 -- where the first of an order doesn't pass, none passes
 pub none-past : {slab : Slab Outstanding} {test : Outstanding → Bool} {entry : ℕ → Outstanding → Entry} {entries : List Entry} (passes : Outstanding → Bool)
     (e : Entry) (c : Outstanding)
-    → ((d : Outstanding) → passes d ≡ true → test d ≡ true) → IsOrderOf slab test entry entries → IsInOrder entries
+    → ((d : Outstanding) → passes d ≡ true → test d ≡ true) → IsOrderOf slab test entry entries → AreInOrder rank_of entries
     → slice_get entries 0 ≡ Some e → get slab e.slot ≡ Some c
     → ((k : ℕ) (d : Outstanding) → get slab k ≡ Some d → test c ≡ true → (entry e.slot c).at ≤ (entry k d).at → passes d ≡ false)
     → All (λ c. passes c ≡ false) (values slab)
 none-past {slab} {test} {entry} {entries} passes e c wider o order head at out = all-held (λ c. passes c ≡ false) slab.slots (λ k d at_d.
     false_from_ne_true _ (λ is.
     let first = head-of slab test entry entries e c o head at in
-    let least = at-least e (entry k d) (head-least entries e (entry k d) order head (o.all k d at_d (wider d is))) in
+    let least = at-least e (entry k d) (head-least rank_of entries e (entry k d) order head (entry-of o k d at_d (wider d is))) in
     let none = out k d at_d first.1 (omega (arith, ap (λ (f : Entry). f.at) first.0)) in
     true≢false (sym is ∙ none)))
 
@@ -170,24 +153,24 @@ due-flying now c is = grind arith
 due-past : (now : ℕ) (c d : Outstanding) → flies c ≡ true → d.flying.last.0 ≤ now → is_due now c ≡ false → precedes d c ≡ false → is_due now d ≡ false
 due-past now c d flying past out later = grind (arith, nat_tests)
 
-pub before-precedes : (k j : ℕ) (o c : Outstanding) → before (by_due k o) (by_due j c) ≡ false → precedes o c ≡ false
+pub before-precedes : (k j : ℕ) (o c : Outstanding) → before (rank_of (by_due k o)) (rank_of (by_due j c)) ≡ false → precedes o c ≡ false
 before-precedes k j o c out = grind arith
 
-pub before-older : (k j : ℕ) (o c : Outstanding) → before (by_first k o) (by_first j c) ≡ false → is_older o c ≡ false
+pub before-older : (k j : ℕ) (o c : Outstanding) → before (rank_of (by_first k o)) (rank_of (by_first j c)) ≡ false → is_older o c ≡ false
 before-older k j o c out = grind arith
 
 -- the command of the first entry is the first of those that pass
 pub first-held : {slab : Slab Outstanding} {test : Outstanding → Bool} {entry : ℕ → Outstanding → Entry} {entries : List Entry}
     (ahead : Outstanding → Outstanding → Bool) (e : Entry) (c : Outstanding)
-    → ((k j : ℕ) (o d : Outstanding) → before (entry k o) (entry j d) ≡ false → ahead o d ≡ false) → IsOrderOf slab test entry entries
-    → IsInOrder entries → slice_get entries 0 ≡ Some e → get slab e.slot ≡ Some c → IsFirst test ahead (values slab) c
+    → ((k j : ℕ) (o d : Outstanding) → before (rank_of (entry k o)) (rank_of (entry j d)) ≡ false → ahead o d ≡ false) → IsOrderOf slab test entry entries
+    → AreInOrder rank_of entries → slice_get entries 0 ≡ Some e → get slab e.slot ≡ Some c → IsFirst test ahead (values slab) c
 first-held {slab} {test} {entry} {entries} ahead e c goes_on o order head at =
     let is = head-of slab test entry entries e c o head at in
     record {
       there = held-at slab.slots e.slot c at;
       passes = is.1;
       least = all-held (λ other. test other ≡ true → ahead other c ≡ false) slab.slots (λ k d at_k passes.
-          goes_on k e.slot d c (rw (is.0) at (head-least entries e (entry k d) order head (o.all k d at_k passes))));
+          goes_on k e.slot d c (rw (is.0) at (head-least rank_of entries e (entry k d) order head (entry-of o k d at_k passes))));
     }
 
 -- where a narrower test goes on
@@ -215,13 +198,9 @@ pub expired-all : {commands : List Outstanding} (dead now : ℕ) (c : Outstandin
 expired-all {commands} dead now c out first = λ k d below. let e = slice_index_or commands k d in false_from_ne_true _ (λ is.
     true≢false (sym is ∙ expired-past dead now c e first.passes out (first.least k d below (expired-flying dead now e is))))
 
-pub if-none : {T : Type 0} (result : Option T) (P : Type 0) → P → IfNone result P
-if-none None P holds = holds
-if-none (Some found) P holds = tt
-
 pub tag-held : (slab : Slab Outstanding) (entries : List Entry) (tag slot : ℕ) → IsOrderOf slab each by_tag entries
     → Contains entries (entry_at tag slot)
     → ((k : ℕ) → 0 ≤ k → k < slot → ¬ (Contains entries (entry_at tag k))) → get slab slot ≡ find (flies_with tag) (values slab)
 tag-held slab entries tag slot o there first =
-    let held = o.only (entry_at tag slot) there in
+    let held = command-of o (entry_at tag slot) there in
     held.there ∙ tag-found slab entries tag slot held.command o there first held.there

@@ -1,6 +1,7 @@
 -- The commands that were sent, each in a slot, and the orders by which they are found.
-use Rattle.std.specs.Prelude.{ℕ, ◌≡◌, ◌+◌, ◌<◌, ◌≤◌, Bool, true, false, not, List, length, Some, if◌then◌else◌, Contains}
-use Rattle.slab.specs.Slab.{get, slab_len, Slab}
+use Rattle.std.specs.Prelude.{ℕ, ◌≡◌, ◌<◌, ◌≤◌, ◌&&◌, Bool, true, false, not, List, Some, if◌then◌else◌}
+use Rattle.std.specs.List.{count_by}
+use Rattle.slab.specs.Slab.{get, slab_len, entries as slab_entries, Slab}
 use Rattle.aoe_flight.specs.declared.order.Entry.{Entry}
 use Rattle.aoe_flight.specs.declared.outstanding.Outstanding.{Outstanding}
 use Rattle.aoe_flight.specs.Order.{OrderTable}
@@ -22,17 +23,11 @@ by_first slot c = record { at = c.flying.first.0; tie = c.ticket.0; slot = slot 
 abbrev pub by_last : ℕ → Outstanding → Entry
 by_last slot c = record { at = c.flying.last.0; tie = c.ticket.0; slot = slot }
 
--- the command of an entry
-pub record IsHeld (slab : Slab Outstanding) (test : Outstanding → Bool) (entry : ℕ → Outstanding → Entry) (e : Entry) : Type 0 where
-  pub command : Outstanding
-  pub there : get slab e.slot ≡ Some command
-  pub passes : test command ≡ true
-  pub is : e ≡ entry e.slot command
-
--- an order has the commands that pass a test, and no others
+-- an order has the entry of each command that passes a test, once, and no others: each further test holds of as many
+-- there as here
 pub record IsOrderOf (slab : Slab Outstanding) (test : Outstanding → Bool) (entry : ℕ → Outstanding → Entry) (entries : List Entry) : Type 0 where
-  pub only : (e : Entry) → Contains entries e → IsHeld slab test entry e
-  pub all : (slot : ℕ) (c : Outstanding) → get slab slot ≡ Some c → test c ≡ true → Contains entries (entry slot c)
+  pub slots : (k : ℕ) (c : Outstanding) → (entry k c).slot ≡ k
+  pub same : (p : Entry → Bool) → count_by p entries ≡ count_by (λ held. test held.1 && p (entry held.0 held.1)) (slab_entries slab)
 
 abbrev pub each : Outstanding → Bool
 each c = true
@@ -43,23 +38,18 @@ flies c = not c.finished
 abbrev pub rests : Outstanding → Bool
 rests c = c.finished
 
--- an order has room for all commands that fit
-pub record HasRoom (slab : Slab Outstanding) (resting : ℕ) (order : OrderTable) : Type 0 where
-  pub room : order.room ≡ slab.capacity
-  pub fits : length order.entries + resting ≤ slab_len slab
-
 -- all orders are those of the commands, and have room
 pub record IsIndexed (slab : Slab Outstanding) (tags tickets dues firsts resting : OrderTable) : Type 0 where
   pub fits : slab_len slab ≤ slab.capacity
-  pub has_tags : IsOrderOf slab each by_tag tags.entries
-  pub has_tickets : IsOrderOf slab flies by_ticket tickets.entries
-  pub has_dues : IsOrderOf slab flies by_due dues.entries
-  pub has_firsts : IsOrderOf slab flies by_first firsts.entries
-  pub has_resting : IsOrderOf slab rests by_last resting.entries
-  pub tags_room : HasRoom slab 0 tags
-  pub tickets_room : HasRoom slab (length resting.entries) tickets
-  pub dues_room : HasRoom slab (length resting.entries) dues
-  pub firsts_room : HasRoom slab (length resting.entries) firsts
+  pub has_tags : IsOrderOf slab each by_tag tags.items
+  pub has_tickets : IsOrderOf slab flies by_ticket tickets.items
+  pub has_dues : IsOrderOf slab flies by_due dues.items
+  pub has_firsts : IsOrderOf slab flies by_first firsts.items
+  pub has_resting : IsOrderOf slab rests by_last resting.items
+  pub tags_room : tags.room ≡ slab.capacity
+  pub tickets_room : tickets.room ≡ slab.capacity
+  pub dues_room : dues.room ≡ slab.capacity
+  pub firsts_room : firsts.room ≡ slab.capacity
   pub resting_room : resting.room ≡ slab.capacity
 
 -- the command in the first slot, from one on, whose command passes a test

@@ -1,13 +1,11 @@
 //! Places of commands in an order: by their times, their tickets or their tags.
-ghost use Rattle.std.specs.Prelude.{◌≡◌, ◌≢◌, ◌+◌, ◌<◌, ◌≤◌, ◌⊎◌, ℕ, false, true, length, slice_get, All, Contains, IfNone, IfOk, IfSome};
-ghost use Rattle.std.specs.List.{AllWithin};
-ghost use Rattle.aoe_flight.specs.declared.order.Entry.{Entry};
-ghost use Rattle.aoe_flight.specs.Order.{before, entry_at, no_entries, IsInOrder};
+ghost use Rattle.std.specs.Prelude.{◌≡◌, ◌≢◌, ◌<◌, ◌≤◌, ◌∷◌, ℕ, false, true, All, Contains, IfNone, IfSome};
+ghost use Rattle.std.specs.List.Sorted.{IsPermutation};
+ghost use Rattle.aoe_sorted.specs.Order.{before};
+ghost use Rattle.aoe_flight.specs.declared.order.Entry.{Entry as EntryValue};
+ghost use Rattle.aoe_flight.specs.Order.{entry_at, rank_of};
 
-use aoe_base::NoMemory;
-use std::alloc::Global;
-use std::collections::VecDeque;
-use std::marker::Model;
+use aoe_sorted::{Rank, Ranked, Sorted};
 
 /// A command in an order, which stands in a slot.
 #[derive(Clone, Copy)]
@@ -21,157 +19,85 @@ pub struct Entry {
     pub slot: usize,
 }
 
-impl Entry {
-    /// Whether the entry stands before another.
-    fn is_before(&self, other: &Entry) -> bool
-        ensures { result ≡ before self.now other.now }
-    {
-        self.at < other.at
-            || self.at == other.at
-                && (self.tie < other.tie || self.tie == other.tie && self.slot < other.slot)
+impl Ranked for Entry {
+    ghost use Rattle.aoe_flight.specs.Order.{rank_of};
+
+    ghost rank = { rank_of };
+
+    fn rank(&self) -> Rank {
+        Rank {
+            at: self.at,
+            tie: self.tie,
+            rest: self.slot as u64,
+        }
     }
 }
 
-/// Entries in their order, none of them twice. All room is made by `new`.
-#[derive(Drop)]
-pub struct Order {
-    /// The most entries.
-    room: usize,
+/// Entries in their order.
+pub type Order = Sorted<Entry>;
 
-    entries: VecDeque<Entry>,
+/// The first entry that doesn't stand before another.
+fn first_from(order: &Order, from: Entry) -> Option<Entry>
+    ensures there { IfSome result (λ e. Contains order.now.items e) }
+    ensures from { IfSome result (λ e. before (rank_of e) (rank_of from) ≡ false) }
+    ensures first { IfSome result (λ e. All (λ other. before (rank_of other) (rank_of from) ≡ false
+        → before (rank_of other) (rank_of e) ≡ false) order.now.items) }
+    ensures none { IfNone result (All
+        (λ other. before (rank_of other) (rank_of from) ≡ true) order.now.items) }
+{
+    let (_, first) = order.first_from(&from.rank())?;
+    Some(first)
 }
 
-impl Model for Order {
-    ghost use Rattle.std.specs.VecDeque.{deque_capacity};
-    ghost use Rattle.aoe_flight.specs.Order.{IsInRoom, OrderTable};
-
-    ghost Value = { OrderTable };
-
-    ghost view = { λ o. record { room = o.room; entries = o.entries.items } };
-
-    ghost invariant = { λ o. IsInRoom o.room (deque_capacity o.entries) o.entries.items };
+/// The first slot from `from` on with an entry at a number and without a tie.
+pub fn find(order: &Order, at: u128, from: usize) -> Option<usize>
+    ensures there { IfSome result (λ slot. Contains order.now.items (entry_at at slot)) }
+    ensures from { IfSome result (λ slot. from ≤ slot) }
+    ensures first { IfSome result (λ slot. (k : ℕ) → from ≤ k → k < slot
+        → ¬ (Contains order.now.items (entry_at at k))) }
+    ensures none { IfNone result ((k : ℕ) → from ≤ k
+        → ¬ (Contains order.now.items (entry_at at k))) }
+{
+    let entry = Entry {
+        at,
+        tie: 0,
+        slot: from,
+    };
+    let first = first_from(order, entry)?;
+    if first.at == at && first.tie == 0 {
+        Some(first.slot)
+    } else {
+        None
+    }
 }
 
-impl Order {
-    /// No entries.
-    pub fn new(alloc: Global, room: usize) -> Result<Order, NoMemory>
-        ensures { IfOk result (λ order. order ≡ no_entries room) }
-    {
-        let entries = VecDeque::with_capacity(alloc, room)?;
-        Ok(Order { room, entries })
+/// Whether an entry stands at a number.
+pub fn has(order: &Order, at: u128) -> bool
+    ensures some { result ≡ true → (e : EntryValue) × Contains order.now.items e × (e.at ≡ at) }
+    ensures none { result ≡ false → (e : EntryValue) → Contains order.now.items e → e.at ≢ at }
+{
+    let entry = Entry {
+        at,
+        tie: 0,
+        slot: 0,
+    };
+    match first_from(order, entry) {
+        Some(first) => first.at == at,
+        None => false,
     }
+}
 
-    /// The first entry.
-    pub fn first(&self) -> Option<Entry>
-        ensures value { result ≡ slice_get self.now.entries 0 }
-        ensures order { IsInOrder self.now.entries }
+/// Takes an entry out, where it stands there.
+pub fn remove(order: &mut Order, entry: Entry)
+    ensures taken { Contains order.old.items entry
+        → IsPermutation order.old.items (entry ∷ order.new.items) }
+    ensures none { ¬ (Contains order.old.items entry) → order.new.items ≡ order.old.items }
+    ensures room { order.new.room ≡ order.old.room }
+{
+    let rank = entry.rank();
+    if let Some((place, first)) = order.first_from(&rank)
+        && !rank.is_before(&first.rank())
     {
-        self.entries.front().copied()
-    }
-
-    /// How many entries stand before another.
-    fn place(&self, entry: &Entry) -> usize
-        ensures bound { result ≤ length self.now.entries }
-        ensures low { AllWithin (λ e. before e entry.now ≡ true) self.now.entries 0 result }
-        ensures high { AllWithin (λ e. before e entry.now ≡ false) self.now.entries result
-            (length self.now.entries) }
-        ensures order { IsInOrder self.now.entries }
-        ensures fits { length self.now.entries ≤ self.now.room }
-    {
-        self.entries.partition_point(|other| other.is_before(entry))
-    }
-
-    /// The first entry that doesn't stand before another.
-    fn first_from(&self, from: Entry) -> Option<Entry>
-        ensures there { IfSome result (λ e. Contains self.now.entries e) }
-        ensures from { IfSome result (λ e. before e from ≡ false) }
-        ensures first { IfSome result (λ e. All
-            (λ other. before other from ≡ false → before other e ≡ false) self.now.entries) }
-        ensures none { IfNone result (All (λ other. before other from ≡ true) self.now.entries) }
-    {
-        self.entries.get(self.place(&from)).copied()
-    }
-
-    /// The first slot from `from` on with an entry at a number and without a tie.
-    pub fn find(&self, at: u128, from: usize) -> Option<usize>
-        ensures there { IfSome result (λ slot. Contains self.now.entries (entry_at at slot)) }
-        ensures from { IfSome result (λ slot. from ≤ slot) }
-        ensures first { IfSome result (λ slot. (k : ℕ) → from ≤ k → k < slot
-            → ¬ (Contains self.now.entries (entry_at at k))) }
-        ensures none { IfNone result ((k : ℕ) → from ≤ k
-            → ¬ (Contains self.now.entries (entry_at at k))) }
-    {
-        let first = self.first_from(Entry {
-            at,
-            tie: 0,
-            slot: from,
-        })?;
-        if first.at == at && first.tie == 0 {
-            Some(first.slot)
-        } else {
-            None
-        }
-    }
-
-    /// Whether an entry stands at a number.
-    pub fn has(&self, at: u128) -> bool
-        ensures some { result ≡ true → (e : Entry) × Contains self.now.entries e × (e.at ≡ at) }
-        ensures none { result ≡ false → (e : Entry) → Contains self.now.entries e → e.at ≢ at }
-    {
-        match self.first_from(Entry {
-            at,
-            tie: 0,
-            slot: 0,
-        }) {
-            Some(first) => first.at == at,
-            None => false,
-        }
-    }
-
-    /// Whether an entry stands at a place behind which none stands before it.
-    fn is_at(&self, place: usize, entry: &Entry) -> bool
-        requires { AllWithin (λ e. before e entry.now ≡ false) self.now.entries place
-            (length self.now.entries) }
-        ensures here { result ≡ true → slice_get self.now.entries place ≡ Some entry.now }
-        ensures out { result ≡ false → IfSome (slice_get self.now.entries place)
-            (λ e. before entry.now e ≡ true) }
-    {
-        match self.entries.get(place) {
-            Some(other) => !entry.is_before(other),
-            None => false,
-        }
-    }
-
-    /// Adds an entry, for which there is room, unless it stands there.
-    pub fn insert(&mut self, entry: Entry)
-        requires { length self.old.entries < self.old.room }
-        ensures room { self.new.room ≡ self.old.room }
-        ensures length { length self.new.entries ≤ length self.old.entries + 1 }
-        ensures there { Contains self.new.entries entry }
-        ensures kept { (e : Entry) → Contains self.old.entries e → Contains self.new.entries e }
-        ensures only { (e : Entry) → Contains self.new.entries e
-            → Contains self.old.entries e ⊎ (e ≡ entry) }
-    {
-        let place = self.place(&entry);
-        if !self.is_at(place, &entry) {
-            let _ = self.entries.insert(place, entry);
-        }
-    }
-
-    /// Takes an entry out, where it stands there.
-    pub fn remove(&mut self, entry: Entry)
-        ensures room { self.new.room ≡ self.old.room }
-        ensures shorter { length self.new.entries ≤ length self.old.entries }
-        ensures length { Contains self.old.entries entry
-            → length self.new.entries + 1 ≤ length self.old.entries }
-        ensures kept { (e : Entry) → e ≢ entry → Contains self.old.entries e
-            → Contains self.new.entries e }
-        ensures only { (e : Entry) → Contains self.new.entries e
-            → Contains self.old.entries e × (e ≢ entry) }
-    {
-        let place = self.place(&entry);
-        if self.is_at(place, &entry) {
-            let _ = self.entries.remove(place);
-        }
+        let _ = order.remove_at(place);
     }
 }

@@ -7,11 +7,11 @@ ghost use Rattle.std.specs.List.{find};
 ghost use Rattle.std.specs.List.Sorted.{IsPermutation};
 ghost use Rattle.slab.specs.Slab.{get, slab_len, values, with_value};
 ghost use Rattle.aoe_flight.specs.declared.outstanding.Outstanding.{Outstanding};
-ghost use Rattle.aoe_flight.specs.Order.{no_entries};
+ghost use Rattle.aoe_sorted.specs.Order.{nothing};
 ghost use Rattle.aoe_flight.specs.Outstanding.{after_finish, after_repeat, change_of, flies_as, flies_with, is_older, is_over, is_taken, launched, live, precedes, tag_after, IsFirst, IsNextTag};
 ghost use Rattle.aoe_flight.specs.Table.{flies, IsFirstSlot};
 
-use crate::order::Order;
+use crate::order::{Order, find, has, remove};
 use crate::outstanding::Outstanding;
 use aoe_base::{Millis, NoMemory, PathNo, Steps, Ticket};
 use slab::Slab;
@@ -64,8 +64,8 @@ impl Table {
     {
         let slots = Slab::with_capacity(alloc, room)?;
         let room = slots.capacity();
-        let tags = Order::new(alloc, room)?;
-        let rests = Order::new(alloc, room)?;
+        let tags = Order::with_room(alloc, room)?;
+        let rests = Order::with_room(alloc, room)?;
         let (tickets, dues, firsts) = flying_orders(alloc, room)?;
         Ok(Table {
             slots,
@@ -91,7 +91,7 @@ impl Table {
         ensures none { IfNone result ((k : ℕ) (c : Outstanding) → from ≤ k → get self.now k ≡ Some c
             → flies_as ticket.0 c ≡ false) }
     {
-        let slot = self.tickets.find(u128::from(ticket.0), from)?;
+        let slot = find(&self.tickets, u128::from(ticket.0), from)?;
         let command = self.slots.get(slot)?;
         Some((slot, *command))
     }
@@ -118,7 +118,7 @@ impl Table {
         ensures step { steps.new ≡ steps.old + 1 }
     {
         steps.tick();
-        let slot = self.tags.find(u128::from(tag), 0)?;
+        let slot = find(&self.tags, u128::from(tag), 0)?;
         self.slots.get(slot).copied()
     }
 
@@ -129,7 +129,7 @@ impl Table {
         ensures step { steps.new ≡ steps.old + 1 }
     {
         steps.tick();
-        let first = self.dues.first()?;
+        let first = self.dues.front()?;
         let command = self.slots.get(first.slot)?;
         Some(command)
     }
@@ -141,7 +141,7 @@ impl Table {
         ensures step { steps.new ≡ steps.old + 1 }
     {
         steps.tick();
-        let first = self.firsts.first()?;
+        let first = self.firsts.front()?;
         let command = self.slots.get(first.slot)?;
         Some(command)
     }
@@ -159,7 +159,7 @@ impl Table {
     fn is_taken(&self, tag: u32) -> bool
         ensures { result ≡ is_taken (values self.now) tag }
     {
-        self.tags.has(u128::from(tag))
+        has(&self.tags, u128::from(tag))
     }
 
     /// A command that rested out.
@@ -168,7 +168,7 @@ impl Table {
             × (is_over rest.0 now.0 found.1 ≡ true)) }
         ensures none { IfNone result (All (λ c. is_over rest.0 now.0 c ≡ false) (values self.now)) }
     {
-        let first = self.rests.first()?;
+        let first = self.rests.front()?;
         let command = self.slots.get(first.slot)?;
         if command.is_over(rest, now) {
             Some((first.slot, *command))
@@ -197,8 +197,8 @@ impl Table {
         ensures len { slab_len self.new + 1 ≡ slab_len self.old }
     {
         let _ = self.slots.remove(slot);
-        self.tags.remove(command.by_tag(slot));
-        self.rests.remove(command.by_last(slot));
+        remove(&mut self.tags, command.by_tag(slot));
+        remove(&mut self.rests, command.by_last(slot));
     }
 
     /// Drops the commands that rested out.
@@ -229,10 +229,10 @@ impl Table {
             ..command
         };
         self.slots[slot] = finished;
-        self.tags.remove(command.by_tag(slot));
-        self.tickets.remove(command.by_ticket(slot));
-        self.dues.remove(command.by_due(slot));
-        self.firsts.remove(command.by_first(slot));
+        remove(&mut self.tags, command.by_tag(slot));
+        remove(&mut self.tickets, command.by_ticket(slot));
+        remove(&mut self.dues, command.by_due(slot));
+        remove(&mut self.firsts, command.by_first(slot));
         self.tags.insert(finished.by_tag(slot));
         self.rests.insert(finished.by_last(slot));
     }
@@ -266,7 +266,7 @@ impl Table {
     {
         let repeated = command.repeated(now, path, wait);
         self.slots[slot] = repeated;
-        self.dues.remove(command.by_due(slot));
+        remove(&mut self.dues, command.by_due(slot));
         self.dues.insert(repeated.by_due(slot));
     }
 
@@ -339,11 +339,11 @@ impl Table {
 /// The orders in which no command flies: by tickets, by the times at which commands are due, and by
 /// those of their first sends.
 fn flying_orders(alloc: Global, room: usize) -> Result<(Order, Order, Order), NoMemory>
-    ensures { IfOk result (λ orders. orders ≡ (no_entries room, no_entries room, no_entries room)) }
+    ensures { IfOk result (λ orders. orders ≡ (nothing room, nothing room, nothing room)) }
 {
-    let tickets = Order::new(alloc, room)?;
-    let dues = Order::new(alloc, room)?;
-    let firsts = Order::new(alloc, room)?;
+    let tickets = Order::with_room(alloc, room)?;
+    let dues = Order::with_room(alloc, room)?;
+    let firsts = Order::with_room(alloc, room)?;
     Ok((tickets, dues, firsts))
 }
 

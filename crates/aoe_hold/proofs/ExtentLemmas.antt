@@ -9,10 +9,9 @@ use Rattle.aoe_base.specs.Spans.{overlap}
 use Rattle.aoe_hold.specs.declared.command.Command.{Command}
 use Rattle.aoe_hold.specs.declared.command.Kind.{Kind}
 use Rattle.aoe_hold.specs.declared.command.Stage.{Stage}
-use Rattle.aoe_hold.specs.declared.extent.Extent.{Extent}
 use Rattle.aoe_hold.specs.declared.keys.Key.{Key}
 use Rattle.aoe_hold.specs.Commands.{after_stage, conflict, is_edit, is_flush, is_past, is_write, live, with_stage}
-use Rattle.aoe_hold.specs.Extents.{goes_by_span, widened, Covers, HasKey, IsNonePast, IsWithin}
+use Rattle.aoe_hold.specs.Extents.{goes_by_span, widened, Covers, HasKey, IsNonePast, IsWithin, Extent}
 use Rattle.aoe_hold.specs.HoldTable.{is_ascending}
 use Rattle.aoe_hold.proofs.OrderLemmas.{ascending-at}
 

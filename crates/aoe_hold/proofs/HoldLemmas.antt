@@ -23,18 +23,18 @@ use Rattle.aoe_hold.proofs.WaitLemmas.{ready-is}
 -- ---- there is no more in the queues than was never sent
 
 pub index-few : {life latest unsent : ℕ} {commands : List Command} {timed ready : QueueTable} → unsent ≡ unsent_count commands
-    → IsIndex life latest unsent commands timed ready → length timed.waiters + length ready.waiters ≤ unsent
-index-few {life} {latest} {unsent} {commands} {timed} {ready} is index = omega (arith, waiters-few commands timed.waiters ready.waiters index.same)
+    → IsIndex life latest unsent commands timed ready → length timed.items + length ready.items ≤ unsent
+index-few {life} {latest} {unsent} {commands} {timed} {ready} is index = omega (arith, waiters-few commands timed.items ready.items index.same)
 
 pub held-few : {unsent : ℕ} {commands : List Command} {timed ready blocked : QueueTable} → unsent ≡ unsent_count commands
-    → AreHeld unsent commands timed ready blocked → length timed.waiters + length ready.waiters + length blocked.waiters ≡ unsent
+    → AreHeld unsent commands timed ready blocked → length timed.items + length ready.items + length blocked.items ≡ unsent
 held-few {unsent} {commands} {timed} {ready} {blocked} is held =
-    omega (arith, held.all (λ _. true), count-all timed.waiters, count-all ready.waiters, count-all blocked.waiters, unsent-all commands)
+    omega (arith, held.all (λ _. true), count-all timed.items, count-all ready.items, count-all blocked.items, unsent-all commands)
 
 -- ---- the queues get more room
 
 pub index-reserved : {life latest unsent : ℕ} {commands : List Command} {timed ready : QueueTable} (timed_new ready_new : QueueTable)
-    → timed_new.waiters ≡ timed.waiters → ready_new.waiters ≡ ready.waiters → timed.room ≤ timed_new.room → ready.room ≤ ready_new.room
+    → timed_new.items ≡ timed.items → ready_new.items ≡ ready.items → timed.room ≤ timed_new.room → ready.room ≤ ready_new.room
     → IsIndex life latest unsent commands timed ready → IsIndex life latest unsent commands timed_new ready_new
 index-reserved timed_new ready_new timed_is ready_is timed_more ready_more index = record {
   same = rw (timed_is, ready_is) index.same;
@@ -46,7 +46,7 @@ index-reserved timed_new ready_new timed_is ready_is timed_more ready_more index
 }
 
 pub held-reserved : {unsent : ℕ} {commands : List Command} {timed ready blocked : QueueTable} (timed_new ready_new blocked_new : QueueTable)
-    → timed_new.waiters ≡ timed.waiters → ready_new.waiters ≡ ready.waiters → blocked_new.waiters ≡ blocked.waiters → blocked.room ≤ blocked_new.room
+    → timed_new.items ≡ timed.items → ready_new.items ≡ ready.items → blocked_new.items ≡ blocked.items → blocked.room ≤ blocked_new.room
     → AreHeld unsent commands timed ready blocked → AreHeld unsent commands timed_new ready_new blocked_new
 held-reserved timed_new ready_new blocked_new timed_is ready_is blocked_is more held = record {
   all = rw (timed_is, ready_is, blocked_is) held.all;
@@ -62,9 +62,9 @@ module _ {life latest : ℕ} {commands : List Command} {c : Command} {timed bloc
       → unsent + 1 ≤ timed.room → unsent + 1 ≤ ready.room
       → IsIndex life latest unsent commands timed ready → IsIndex life latest (unsent + 1) (live life latest commands ++ c ∷ []) timed_new ready
   index-entered {unsent} {ready} greatest up above timed_room ready_room index = record {
-    same = entered-waits life latest commands c fresh greatest timed.waiters timed_new.waiters ready.waiters up above queued.timed index.same;
-    knows_timed = knows-entered life latest _ c timed_new.waiters fresh (queued.knows (knows-live life latest commands timed.waiters index.knows_timed));
-    knows_ready = knows-entered life latest _ c ready.waiters fresh (knows-live life latest commands ready.waiters index.knows_ready);
+    same = entered-waits life latest commands c fresh greatest timed.items timed_new.items ready.items up above queued.timed index.same;
+    knows_timed = knows-entered life latest _ c timed_new.items fresh (queued.knows (knows-live life latest commands timed.items index.knows_timed));
+    knows_ready = knows-entered life latest _ c ready.items fresh (knows-live life latest commands ready.items index.knows_ready);
     past = index.past;
     timed_room = omega (arith, queued.timed_room);
     ready_room = ready_room;
@@ -73,7 +73,7 @@ module _ {life latest : ℕ} {commands : List Command} {c : Command} {timed bloc
   pub held-entered : {unsent : ℕ} {ready : QueueTable} → unsent + 1 ≤ blocked.room → AreHeld unsent commands timed ready blocked
       → AreHeld (unsent + 1) (live life latest commands ++ c ∷ []) timed_new ready blocked_new
   held-entered {unsent} {ready} enough held =
-      let before = held-live life latest commands blocked.waiters held.held in
+      let before = held-live life latest commands blocked.items held.held in
       let now = queued.held (λ _. false) (λ k d below _. before k d below) in
       record {
         all = λ test. omega (
@@ -84,7 +84,7 @@ module _ {life latest : ℕ} {commands : List Command} {c : Command} {timed bloc
           split (is_blocked (live life latest commands) c) (test c),
           unsent-entered life latest commands c fresh test,
         );
-        held = held-pushed _ c blocked_new.waiters (λ k d below. now k d below refl);
+        held = held-pushed _ c blocked_new.items (λ k d below. now k d below refl);
         room = omega (arith, queued.blocked_room);
       }
     where
@@ -95,28 +95,28 @@ module _ {life latest : ℕ} {commands : List Command} {c : Command} {timed bloc
 
 pub index-sent : {life latest unsent : ℕ} {commands : List Command} {timed ready : QueueTable} (less ticket : ℕ) (now : Millis)
     (timed_new ready_new : QueueTable)
-    → latest ≤ now.0 → less ≤ unsent → timed_new.waiters ≡ filter (keeps ticket) timed.waiters → ready_new.waiters ≡ filter (keeps ticket) ready.waiters
+    → latest ≤ now.0 → less ≤ unsent → timed_new.items ≡ filter (keeps ticket) timed.items → ready_new.items ≡ filter (keeps ticket) ready.items
     → timed_new.room ≡ timed.room → ready_new.room ≡ ready.room
     → IsIndex life latest unsent commands timed ready → IsIndex life now.0 less (after_stage ticket (stage_sent now) commands) timed_new ready_new
 index-sent {life} {latest} {unsent} {commands} {timed} {ready} less ticket now timed_new ready_new later fewer timed_is ready_is timed_room ready_room index =
     let known : Waiter → Type 0 = Knows life latest commands in
     record {
-      same = rw (timed_is, ready_is) (sent-waits ticket now commands timed.waiters ready.waiters index.same);
-      knows_timed = knows-sent life latest ticket now commands _ later (rw timed_is (All-filter (keeps ticket) known timed.waiters index.knows_timed));
-      knows_ready = knows-sent life latest ticket now commands _ later (rw ready_is (All-filter (keeps ticket) known ready.waiters index.knows_ready));
-      past = rw ready_is (All-filter (keeps ticket) (λ w. w.from ≡ 0) ready.waiters index.past);
+      same = rw (timed_is, ready_is) (sent-waits ticket now commands timed.items ready.items index.same);
+      knows_timed = knows-sent life latest ticket now commands _ later (rw timed_is (All-filter (keeps ticket) known timed.items index.knows_timed));
+      knows_ready = knows-sent life latest ticket now commands _ later (rw ready_is (All-filter (keeps ticket) known ready.items index.knows_ready));
+      past = rw ready_is (All-filter (keeps ticket) (λ w. w.from ≡ 0) ready.items index.past);
       timed_room = omega (arith, index.timed_room);
       ready_room = omega (arith, index.ready_room);
     }
 
 pub held-gone : {unsent : ℕ} {commands : List Command} {timed ready blocked : QueueTable} (less ticket : ℕ) (now : Millis)
     (timed_new ready_new blocked_new : QueueTable)
-    → less ≤ unsent → timed_new.waiters ≡ filter (keeps ticket) timed.waiters → ready_new.waiters ≡ filter (keeps ticket) ready.waiters
-    → blocked_new.waiters ≡ filter (keeps ticket) blocked.waiters → blocked_new.room ≡ blocked.room
+    → less ≤ unsent → timed_new.items ≡ filter (keeps ticket) timed.items → ready_new.items ≡ filter (keeps ticket) ready.items
+    → blocked_new.items ≡ filter (keeps ticket) blocked.items → blocked_new.room ≡ blocked.room
     → AreHeld unsent commands timed ready blocked → AreHeld less (after_stage ticket (stage_sent now) commands) timed_new ready_new blocked_new
 held-gone {unsent} {commands} {timed} {ready} {blocked} less ticket now timed_new ready_new blocked_new fewer timed_is ready_is blocked_is room held = record {
-  all = rw (timed_is, ready_is, blocked_is) (all-sent ticket now commands timed.waiters ready.waiters blocked.waiters held.all);
-  held = held-sent ticket now commands _ (rw blocked_is (All-filter (keeps ticket) (IsHeldBy commands) blocked.waiters held.held));
+  all = rw (timed_is, ready_is, blocked_is) (all-sent ticket now commands timed.items ready.items blocked.items held.all);
+  held = held-sent ticket now commands _ (rw blocked_is (All-filter (keeps ticket) (IsHeldBy commands) blocked.items held.held));
   room = omega (arith, held.room);
 }
 
@@ -125,24 +125,24 @@ held-gone {unsent} {commands} {timed} {ready} {blocked} less ticket now timed_ne
 pub index-ended : {life latest unsent ticket i : ℕ} {commands : List Command} {ended new : Command} {timed ready blocked timed_new blocked_new : QueueTable}
     → StandsAt ticket commands i ended → new ≡ ends ticket ended
     → Released life latest (after_stage ticket stage_finished commands) new timed blocked timed_new blocked_new
-    → All (λ w. waited_for new w ≡ false) blocked_new.waiters
+    → All (λ w. waited_for new w ≡ false) blocked_new.items
     → IsIndex life latest unsent commands timed ready → AreHeld unsent commands timed ready blocked
     → IsIndex life latest unsent (after_stage ticket stage_finished commands) timed_new ready
     × AreHeld unsent (after_stage ticket stage_finished commands) timed_new ready blocked_new
 index-ended {life} {latest} {unsent} {ticket} {i} {commands} {ended} {new} {timed} {ready} {blocked} {timed_new} {blocked_new} at is r none index all_held =
     let after = after_stage ticket stage_finished commands in
-    let free = waiters-free commands timed.waiters ready.waiters index.same in
-    let free_new = none-all (λ (w : Waiter). is_blocked after w.command) timed_new.waiters
-    (r.free ∙ all-none (λ w. is_blocked after w.command) timed.waiters (free-ended at timed.waiters free.0)) in
-    let rest = r.held (held-ended at new blocked.waiters is all_held.held) in
-    let held : All (IsHeldBy after) blocked_new.waiters = λ k d below. rest k d below (none k d below) in
-    let all : HasAll after timed_new.waiters ready.waiters blocked_new.waiters =
+    let free = waiters-free commands timed.items ready.items index.same in
+    let free_new = none-all (λ (w : Waiter). is_blocked after w.command) timed_new.items
+    (r.free ∙ all-none (λ w. is_blocked after w.command) timed.items (free-ended at timed.items free.0)) in
+    let rest = r.held (held-ended at new blocked.items is all_held.held) in
+    let held : All (IsHeldBy after) blocked_new.items = λ k d below. rest k d below (none k d below) in
+    let all : HasAll after timed_new.items ready.items blocked_new.items =
     λ test. omega (arith, all_held.all test, r.all test, unsent-ended ticket commands test) in (
       record {
-        same = waiters-all after timed_new.waiters ready.waiters blocked_new.waiters all free_new (free-ended at ready.waiters free.1)
-            (held-blocked after blocked_new.waiters held);
-        knows_timed = r.knows (knows-ended life latest ticket commands timed.waiters free.0 index.knows_timed);
-        knows_ready = knows-ended life latest ticket commands ready.waiters free.1 index.knows_ready;
+        same = waiters-all after timed_new.items ready.items blocked_new.items all free_new (free-ended at ready.items free.1)
+            (held-blocked after blocked_new.items held);
+        knows_timed = r.knows (knows-ended life latest ticket commands timed.items free.0 index.knows_timed);
+        knows_ready = knows-ended life latest ticket commands ready.items free.1 index.knows_ready;
         past = index.past;
         timed_room = omega (arith, index.timed_room, r.timed_room);
         ready_room = index.ready_room;
@@ -171,10 +171,10 @@ index-moved {life} {latest} {now} {unsent} {commands} later moved index =
     }
 
 pub index-ready : {life now unsent : ℕ} {commands : List Command} {timed ready : QueueTable} → is_ascending commands ≡ true
-    → IsIndex life now unsent commands timed ready → All (λ w. now < w.from) timed.waiters → IsInOrder ready.waiters
-    → map ticket_of ready.waiters ≡ clear_tickets life now commands
+    → IsIndex life now unsent commands timed ready → All (λ w. now < w.from) timed.items → IsInOrder ready.items
+    → map ticket_of ready.items ≡ clear_tickets life now commands
 index-ready {life} {now} {unsent} {commands} {timed} {ready} up index late order =
-    ready-is life now commands timed.waiters ready.waiters up index.same index.knows_timed index.knows_ready late index.past order
+    ready-is life now commands timed.items ready.items up index.same index.knows_timed index.knows_ready late index.past order
 
 pub tickets-filter : (ticket : ℕ) (waiters : List Waiter)
     → map ticket_of (filter (keeps ticket) waiters) ≡ filter (λ other. not (nat_eq other ticket)) (map ticket_of waiters)

@@ -12,7 +12,6 @@ mod OrderLemmas
 mod OutsideLemmas
 mod PastLemmas
 mod PlaceLemmas
-mod QueueLemmas
 mod QueuedLemmas
 mod ReleaseLemmas
 mod StageLemmas

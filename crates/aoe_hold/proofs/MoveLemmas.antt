@@ -1,6 +1,6 @@
 -- Commands are moved from one queue to the other.
 use Rattle.std.proofs.Common.{ℕ, zero, suc, ◌≡◌, ◌+◌, ◌-◌, ◌<◌, ◌≤◌, ◌&&◌, ◌||◌, not, get_or, Bool, true, false, List, ◌∷◌, length, drop, drop-cons, max, Option, Some, None, inl, inr, refl, sym, ◌∙◌, arith, nat_eq, nat_le}
-use Rattle.std.specs.Prelude.{All, Err, IfNone, Ok, OnErr, OnOk, Result}
+use Rattle.std.specs.Prelude.{All, IfNone}
 use Rattle.std.specs.List.{count_by, list_any}
 use Rattle.std.specs.List.Sorted.{IsPermutation}
 use Rattle.std.proofs.lemmas.Bool.{cases_lt, eq-eqb, le-leb, ne_eqb, true≢false}
@@ -22,40 +22,29 @@ knows-moved : (life now : ℕ) (commands : List Command) (w : Waiter) → w.from
 knows-moved life now commands w le knows = λ t later. rw (knows t later, le-leb w.from t (omega arith), le-leb 0 t (omega arith))
 
 pub moved-more : {now : ℕ} {timed0 ready0 timed ready : QueueTable} (timed1 ready1 : QueueTable) (w : Waiter) → Moved now timed0 ready0 timed ready
-    → timed.waiters ≡ w ∷ timed1.waiters → w.from ≤ now → IsPermutation (record w { from = 0 } ∷ ready.waiters) ready1.waiters
+    → timed.items ≡ w ∷ timed1.items → w.from ≤ now → IsPermutation (record w { from = 0 } ∷ ready.items) ready1.items
     → timed1.room ≡ timed.room → ready1.room ≡ ready.room → Moved now timed0 ready0 timed1 ready1
 moved-more {now} {timed0} {ready0} {timed} {ready} timed1 ready1 w m timed_is le ready_is timed_room ready_room =
     let moved : Waiter = record w { from = 0 } in
     record {
       same = λ test.
           let p : Waiter → Bool = λ v. test v.command in
-          let left : count_by p timed.waiters ≡ bit (test w.command) + count_by p timed1.waiters = rw timed_is (count-cons p w timed1.waiters) in
-          omega (arith, m.same test, left, sum_by_pushed (λ v. bit (p v)) moved ready.waiters ready1.waiters ready_is);
+          let left : count_by p timed.items ≡ bit (test w.command) + count_by p timed1.items = rw timed_is (count-cons p w timed1.items) in
+          omega (arith, m.same test, left, sum_by_pushed (λ v. bit (p v)) moved ready.items ready1.items ready_is);
       knows = λ life commands a b.
           let P : Waiter → Type 0 = Knows life now commands in
           let before = m.knows life commands a b in
-          let timed_all : All P (w ∷ timed1.waiters) = rw timed_is at before.0 in (
-            All-tail P w timed1.waiters timed_all,
-            All-permutation P (moved ∷ ready.waiters) ready1.waiters ready_is
-                (All-cons P moved ready.waiters (knows-moved life now commands w le (All-head P w timed1.waiters timed_all)) before.1),
+          let timed_all : All P (w ∷ timed1.items) = rw timed_is at before.0 in (
+            All-tail P w timed1.items timed_all,
+            All-permutation P (moved ∷ ready.items) ready1.items ready_is
+                (All-cons P moved ready.items (knows-moved life now commands w le (All-head P w timed1.items timed_all)) before.1),
           );
       past = λ is.
           let P : Waiter → Type 0 = λ v. v.from ≡ 0 in
-          All-permutation P (moved ∷ ready.waiters) ready1.waiters ready_is (All-cons P moved ready.waiters refl (m.past is));
+          All-permutation P (moved ∷ ready.items) ready1.items ready_is (All-cons P moved ready.items refl (m.past is));
       timed_room = timed_room ∙ m.timed_room;
       ready_room = ready_room ∙ m.ready_room;
     }
-
--- what a queue shows of its fields
-pub fewer-shown : (room : ℕ) (waiters : List Waiter) (table : QueueTable)
-    → (let shown : QueueTable = record { room = room; waiters = waiters } in shown) ≡ table
-    → length table.waiters < table.room → length waiters < room
-fewer-shown room waiters table is fewer = rw (← is) at fewer
-
--- an insert for which there was room
-pub inserted-room : {T E : Type 0} (r : Result T E) (A B : Type 0) → OnOk r A → OnErr r B → (B → ⊥) → A
-inserted-room (Ok done) A B ok err room = ok
-inserted-room (Err refused) A B ok err room = absurd (room err)
 
 pub none-late : {X : Type 0} (now : ℕ) (waiters : List Waiter) (r : Option X) → IfNone r (length waiters ≡ 0) → IfNone r (All (λ w. now < w.from) waiters)
 none-late now waiters (Some w) none = tt
@@ -78,22 +67,22 @@ lingers-more life commands c (suc i) from more next d next_is some within so_far
 
 -- the same, where nothing was taken out
 pub released-same : {life latest : ℕ} {commands : List Command} {ended : Command} {old_timed old_blocked timed blocked : QueueTable} (same : QueueTable)
-    → same.waiters ≡ blocked.waiters → same.room ≡ blocked.room
+    → same.items ≡ blocked.items → same.room ≡ blocked.room
     → Released life latest commands ended old_timed old_blocked timed blocked → Released life latest commands ended old_timed old_blocked timed same
 released-same same is room r =
     record { all = rw is r.all; free = r.free; knows = r.knows; held = rw is r.held; timed_room = r.timed_room; blocked_room = room ∙ r.blocked_room }
 
 module _ {life latest : ℕ} {commands : List Command} {ended : Command} {old_timed old_blocked timed blocked : QueueTable} {one : QueueTable} {w : Waiter}
-    (r : Released life latest commands ended old_timed old_blocked timed blocked) (is : IsPermutation blocked.waiters (w ∷ one.waiters))
+    (r : Released life latest commands ended old_timed old_blocked timed blocked) (is : IsPermutation blocked.items (w ∷ one.items))
     (room : one.room ≡ blocked.room) where
   -- there is room for one that was taken out
-  pub released-room : length old_timed.waiters + length old_blocked.waiters ≤ old_timed.room
-      → length old_timed.waiters + length old_blocked.waiters ≤ old_blocked.room
-      → (length timed.waiters < timed.room) × (length one.waiters < one.room)
+  pub released-room : length old_timed.items + length old_blocked.items ≤ old_timed.room
+      → length old_timed.items + length old_blocked.items ≤ old_blocked.room
+      → (length timed.items < timed.room) × (length one.items < one.room)
   released-room timed_enough blocked_enough =
-      let longer = length_permutation blocked.waiters (w ∷ one.waiters) is in
-      let total : length timed.waiters + length blocked.waiters ≡ length old_timed.waiters + length old_blocked.waiters =
-      omega (arith, r.all (λ _. true), count-all timed.waiters, count-all blocked.waiters, count-all old_timed.waiters, count-all old_blocked.waiters) in
+      let longer = length_permutation blocked.items (w ∷ one.items) is in
+      let total : length timed.items + length blocked.items ≡ length old_timed.items + length old_blocked.items =
+      omega (arith, r.all (λ _. true), count-all timed.items, count-all blocked.items, count-all old_timed.items, count-all old_blocked.items) in
       (omega (arith, r.timed_room), omega (arith, r.blocked_room))
 
   -- one was taken out and queued anew
@@ -102,13 +91,13 @@ module _ {life latest : ℕ} {commands : List Command} {ended : Command} {old_ti
   released-more queued = record {
     all = λ test.
         let split = either (is_blocked commands w.command) (test w.command) in
-        let taken = sum_by_popped (λ v. bit (test v.command)) w blocked.waiters one.waiters is in
+        let taken = sum_by_popped (λ v. bit (test v.command)) w blocked.items one.items is in
         omega (arith, r.all test, queued.timed test, queued.blocked test, split, taken);
     free = let none = apart (is_blocked commands w.command) in omega (arith, r.free, queued.timed (is_blocked commands), none);
     knows = λ all. queued.knows (r.knows all);
     held = λ all.
         let P : Waiter → Type 0 = λ v. waited_for ended v ≡ false → IsHeldBy commands v in
-        queued.held (waited_for ended) (All-tail P w one.waiters (All-permutation P blocked.waiters (w ∷ one.waiters) is (r.held all)));
+        queued.held (waited_for ended) (All-tail P w one.items (All-permutation P blocked.items (w ∷ one.items) is (r.held all)));
     timed_room = queued.timed_room ∙ r.timed_room;
     blocked_room = queued.blocked_room ∙ room ∙ r.blocked_room;
   }

@@ -15,10 +15,9 @@ use Rattle.std.proofs.lemmas.List.Sums.{count_by-le-length, length-filter, sum_b
 use Rattle.std.proofs.lemmas.Map.Keys.{sorted_tail, Less-from_sorted}
 use Rattle.aoe_base.proofs.CountLemmas.{all-none, count-cons, count-filter, count-no, count-split, count-yes}
 use Rattle.aoe_hold.specs.declared.command.Command.{Command}
-use Rattle.aoe_hold.specs.declared.extent.Extent.{Extent}
 use Rattle.aoe_hold.specs.declared.keys.Key.{Key}
 use Rattle.aoe_hold.specs.Commands.{is_past, is_write, live}
-use Rattle.aoe_hold.specs.Extents.{goes_by_span, is_key_of, kept_extent, key_cmp, key_of, lies_between, no_extent, AreKeysOf}
+use Rattle.aoe_hold.specs.Extents.{goes_by_span, is_key_of, kept_extent, key_cmp, key_of, lies_between, no_extent, AreKeysOf, Extent}
 use Rattle.aoe_hold.specs.HoldTable.{HoldTable, OnePastFrom}
 use Rattle.aoe_hold.specs.Looks.{begins_near, is_near, looks_back, looks_to_drop}
 use Rattle.aoe_hold.proofs.KeyLemmas.{key-is, same-key}

@@ -9,7 +9,7 @@ use Rattle.std.proofs.lemmas.List.Sums.{sum_by_push}
 use Rattle.aoe_base.specs.declared.counted.Millis.{Millis}
 use Rattle.aoe_hold.specs.declared.command.Command.{Command}
 use Rattle.aoe_hold.specs.declared.command.Stage.TheVariants.{Unsent}
-use Rattle.aoe_hold.specs.declared.extent.Extent.{Extent}
+use Rattle.aoe_hold.specs.Extents.{Extent}
 use Rattle.aoe_hold.specs.Commands.{after_stage, clear_tickets, is_unsent, live, stage_finished, stage_sent, unsent_count}
 use Rattle.aoe_hold.specs.HoldTable.{after_finish, after_send, at_time, HoldTable, Recalls, is_ascending}
 use Rattle.aoe_hold.proofs.LiveLemmas.{live-live, live-same, recalls-after_stage, recalls-enter, tickets-same}

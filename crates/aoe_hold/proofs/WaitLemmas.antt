@@ -3,17 +3,18 @@ use Rattle.std.proofs.Common.{ℕ, suc, ◌≡◌, ◌+◌, ◌<◌, ◌≤◌, 
 use Rattle.std.specs.Prelude.{option_map, slice_get, All, Contains, IfNone, IfSome, ⊤}
 use Rattle.std.specs.List.{count_by, filter, list_any}
 use Rattle.std.proofs.lemmas.Bool.{le-leb, le-ltb, lt-leb, ltb-false}
+use Rattle.std.proofs.lemmas.Bool.Decides.{nat_tests}
 use Rattle.std.proofs.lemmas.List.Elements.{All-cons, All-map}
 use Rattle.aoe_base.specs.declared.counted.Ticket.{Ticket}
 use Rattle.aoe_base.proofs.CountLemmas.{all-none, count-agree, count-alike, count-all, count-cons, count-filter, count-map, none-all}
+use Rattle.aoe_sorted.specs.Order.{before}
 use Rattle.aoe_hold.specs.declared.command.Command.{Command}
 use Rattle.aoe_hold.specs.declared.queue.Waiter.{Waiter}
 use Rattle.aoe_hold.specs.Commands.{clear_tickets, is_clear, keeps_back}
 use Rattle.aoe_hold.specs.HoldTable.{is_ascending}
-use Rattle.aoe_hold.specs.Queue.{blocks, is_blocked, lingers, ticket_of, time_of, waits, IsInOrder, Knows}
+use Rattle.aoe_hold.specs.Queue.{blocks, is_blocked, lingers, rank_of, ticket_of, waits, IsInOrder, Knows}
 use Rattle.aoe_hold.proofs.ListLemmas.{any-alike, any-or}
 use Rattle.aoe_hold.proofs.OrderLemmas.{ascending-filter, ascending-rest, behind}
-use Rattle.aoe_hold.proofs.QueueLemmas.{before-false}
 
 -- the counts of what waits
 abbrev pub HasWaiters : List Command → List Waiter → List Waiter → Type 0
@@ -73,12 +74,16 @@ same-rising (x ∷ xs) (y ∷ ys) up on same =
     let rest = same-rising xs ys up.1 on.1 (λ test. omega (arith, same test, count-cons test x xs, count-cons test y ys, ap (bit test) first)) in
     rw (first, rest) refl
 
+-- at the same time one that isn't before another has no lower ticket
+no-lower : (a b : Waiter) → before (rank_of a) (rank_of b) ≡ false → a.from ≡ b.from → ticket_of b ≤ ticket_of a
+no-lower a b out same = grind (arith, nat_tests)
+
 ready-rises : (ready : List Waiter) → IsInOrder ready → All (λ w. w.from ≡ 0) ready → Rises (map ticket_of ready)
 ready-rises [] order past = tt
 ready-rises (w ∷ ready) order past =
     let rest : All (λ v. v.from ≡ 0) ready = λ k d below. past (suc k) d (omega arith) in (
       All-map (λ n. ticket_of w ≤ n) ticket_of ready (λ k d below.
-          (before-false time_of ticket_of (get_or ready k d) w (order.0 k d below)).1 (rest k d below ∙ sym (past 0 w (omega arith)))),
+          no-lower (get_or ready k d) w (order.0 k d below) (rest k d below ∙ sym (past 0 w (omega arith)))),
       ready-rises ready order.1 rest,
     )
 

@@ -9,9 +9,13 @@ use Rattle.std.specs.List.{list_any}
 use Rattle.aoe_hold.specs.declared.command.Command.{Command}
 use Rattle.aoe_hold.specs.declared.command.Kind.{Kind}
 use Rattle.aoe_hold.specs.declared.command.Kind.TheVariants.{Read, Write, Other}
-use Rattle.aoe_hold.specs.declared.extent.Extent.{Extent}
 use Rattle.aoe_hold.specs.declared.keys.Key.{Key}
 use Rattle.aoe_hold.specs.Commands.{is_flush, is_past, is_write}
+
+-- how far the last sector of a command lies behind its first at most, and whether one may be a flush
+pub record Extent : Type 0 where
+  pub reach : ℕ
+  pub flushes : Bool
 
 -- what a command is found by: whether it writes, its first sector and its ticket
 abbrev pub key_of : Command → Key

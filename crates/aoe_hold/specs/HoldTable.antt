@@ -7,9 +7,8 @@ use Rattle.aoe_base.specs.declared.counted.Millis.{Millis}
 use Rattle.aoe_hold.specs.declared.command.Command.{Command}
 use Rattle.aoe_hold.specs.declared.command.Kind.{Kind}
 use Rattle.aoe_hold.specs.declared.command.Stage.TheVariants.{Unsent}
-use Rattle.aoe_hold.specs.declared.extent.Extent.{Extent}
 use Rattle.aoe_hold.specs.Commands.{after_stage, clear_tickets, is_past, live, stage_finished, stage_sent, unsent_count}
-use Rattle.aoe_hold.specs.Extents.{kept_extent, no_extent, widened}
+use Rattle.aoe_hold.specs.Extents.{kept_extent, no_extent, widened, Extent}
 
 -- how long a frame can arrive, the latest time that was told, the greatest ticket entered, and the commands
 -- that are held, in the order of their tickets; the tickets of those that were found clear and weren't sent; and

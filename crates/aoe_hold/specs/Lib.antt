@@ -1,7 +1,6 @@
 pub mod Commands
 pub mod HoldTable
 pub mod Queue
-pub mod Order
 pub mod Extents
 pub mod Held
 pub mod Looks

@@ -2,9 +2,8 @@
 use Rattle.std.specs.Prelude.{ℕ, ◌+◌, ◌*◌, ◌-◌, ◌&&◌, ◌||◌, Bool, length, nat_le, nat_lt, if◌then◌else◌}
 use Rattle.std.specs.List.{count_by, list_any}
 use Rattle.aoe_hold.specs.declared.command.Command.{Command}
-use Rattle.aoe_hold.specs.declared.extent.Extent.{Extent}
 use Rattle.aoe_hold.specs.Commands.{is_past, is_write}
-use Rattle.aoe_hold.specs.Extents.{goes_by_span}
+use Rattle.aoe_hold.specs.Extents.{goes_by_span, Extent}
 use Rattle.aoe_hold.specs.HoldTable.{HoldTable}
 
 -- a command begins inside the span of a new one, or no further ahead of it than a command within the extent reaches

@@ -1,38 +1,29 @@
 -- Commands that wait, in the order of what they wait for.
-use Rattle.std.specs.Prelude.{ℕ, ◌≡◌, ◌+◌, ◌<◌, ◌≤◌, ◌&&◌, Bool, cond, true, false, not, length, take, List, [], nat_eq, nat_le, nat_lt, All}
+use Rattle.std.specs.Prelude.{ℕ, ◌≡◌, ◌+◌, ◌<◌, ◌≤◌, ◌&&◌, Bool, cond, true, false, not, length, take, List, nat_eq, nat_le, nat_lt, All}
 use Rattle.std.specs.List.{count_by, list_any, AllWithin}
-use Rattle.aoe_hold.specs.Order.{AreInOrder}
+use Rattle.aoe_sorted.specs.Order.{AreInOrder, SortedTable}
+use Rattle.aoe_sorted.specs.declared.rank.Rank.{Rank}
 use Rattle.aoe_hold.specs.declared.command.Command.{Command}
 use Rattle.aoe_hold.specs.declared.queue.Keeper.{Keeper}
 use Rattle.aoe_hold.specs.declared.queue.Keeper.TheVariants.{Blocker, Clear}
 use Rattle.aoe_hold.specs.declared.queue.Waiter.{Waiter}
 use Rattle.aoe_hold.specs.Commands.{all_gone, comes_first, finished, has_effect, is_past, is_unsent, rests_on_effects}
 
--- for how many there is room, and those that wait, in order
-pub record QueueTable : Type 0 where
-  pub room : ℕ
-  pub waiters : List Waiter
-
-abbrev pub no_waiters : QueueTable
-no_waiters = record { room = 0; waiters = [] }
-
--- what a command waits for, and its ticket
-abbrev pub time_of : Waiter → ℕ
-time_of w = w.from
+abbrev pub QueueTable : Type 0
+QueueTable = SortedTable Waiter
 
 abbrev pub ticket_of : Waiter → ℕ
 ticket_of w = w.command.ticket.0
+
+-- what a command waits for, and its ticket
+abbrev pub rank_of : Waiter → Rank
+rank_of w = record { at = w.from; tie = ticket_of w; rest = 0 }
 
 abbrev pub has_ticket : ℕ → Waiter → Bool
 has_ticket ticket w = nat_eq w.command.ticket.0 ticket
 
 abbrev pub IsInOrder : List Waiter → Type 0
-IsInOrder waiters = AreInOrder time_of ticket_of waiters
-
--- all stand in order, and there is memory for as many as there is room for
-pub record IsInRoom (room capacity : ℕ) (waiters : List Waiter) : Type 0 where
-  pub order : IsInOrder waiters
-  pub reserved : room ≤ capacity
+IsInOrder waiters = AreInOrder rank_of waiters
 
 -- an earlier command in conflict isn't finished
 abbrev pub blocks : Command → Command → Bool
@@ -57,11 +48,11 @@ Knows life latest commands w = (now : ℕ) → latest ≤ now → list_any (λ e
 
 -- the two queues have just the commands that wait, each with its time; in the second this is past
 pub record IsIndex (life latest unsent : ℕ) (commands : List Command) (timed ready : QueueTable) : Type 0 where
-  pub same : (test : Command → Bool) → count_by (λ w. test w.command) timed.waiters + count_by (λ w. test w.command) ready.waiters
+  pub same : (test : Command → Bool) → count_by (λ w. test w.command) timed.items + count_by (λ w. test w.command) ready.items
       ≡ count_by (λ c. waits commands c && test c) commands
-  pub knows_timed : All (Knows life latest commands) timed.waiters
-  pub knows_ready : All (Knows life latest commands) ready.waiters
-  pub past : All (λ w. w.from ≡ 0) ready.waiters
+  pub knows_timed : All (Knows life latest commands) timed.items
+  pub knows_ready : All (Knows life latest commands) ready.items
+  pub past : All (λ w. w.from ≡ 0) ready.items
   pub timed_room : unsent ≤ timed.room
   pub ready_room : unsent ≤ ready.room
 
@@ -92,10 +83,10 @@ waited_for ended w = nat_eq w.from ended.ticket.0 && finished ended.stage
 
 -- each command that was never sent stands in one of the queues, once, and in the last one with a command that it waits for
 pub record AreHeld (unsent : ℕ) (commands : List Command) (timed ready blocked : QueueTable) : Type 0 where
-  pub all : (test : Command → Bool) → count_by (λ w. test w.command) timed.waiters + count_by (λ w. test w.command) ready.waiters + count_by
-      (λ w. test w.command) blocked.waiters
+  pub all : (test : Command → Bool) → count_by (λ w. test w.command) timed.items + count_by (λ w. test w.command) ready.items + count_by
+      (λ w. test w.command) blocked.items
       ≡ count_by (λ c. is_unsent c && test c) commands
-  pub held : All (IsHeldBy commands) blocked.waiters
+  pub held : All (IsHeldBy commands) blocked.items
   pub room : unsent ≤ blocked.room
 
 -- what keeps a command back stands from the one place on and ahead of the other: the commands in front are past, and those behind aren't earlier
@@ -106,35 +97,35 @@ pub record AreOutside (life latest first until : ℕ) (commands : List Command) 
 
 -- commands whose time was past were moved from the first queue to the second
 pub record Moved (now : ℕ) (old_timed old_ready timed ready : QueueTable) : Type 0 where
-  pub same : (test : Command → Bool) → count_by (λ w. test w.command) timed.waiters + count_by (λ w. test w.command) ready.waiters
-      ≡ count_by (λ w. test w.command) old_timed.waiters + count_by (λ w. test w.command) old_ready.waiters
-  pub knows : (life : ℕ) (commands : List Command) → All (Knows life now commands) old_timed.waiters → All (Knows life now commands) old_ready.waiters
-      → All (Knows life now commands) timed.waiters × All (Knows life now commands) ready.waiters
-  pub past : All (λ w. w.from ≡ 0) old_ready.waiters → All (λ w. w.from ≡ 0) ready.waiters
+  pub same : (test : Command → Bool) → count_by (λ w. test w.command) timed.items + count_by (λ w. test w.command) ready.items
+      ≡ count_by (λ w. test w.command) old_timed.items + count_by (λ w. test w.command) old_ready.items
+  pub knows : (life : ℕ) (commands : List Command) → All (Knows life now commands) old_timed.items → All (Knows life now commands) old_ready.items
+      → All (Knows life now commands) timed.items × All (Knows life now commands) ready.items
+  pub past : All (λ w. w.from ≡ 0) old_ready.items → All (λ w. w.from ≡ 0) ready.items
   pub timed_room : timed.room ≡ old_timed.room
   pub ready_room : ready.room ≡ old_ready.room
 
 -- a command was queued by what keeps it back
 pub record Queued (life latest : ℕ) (commands : List Command) (c : Command) (old_timed old_blocked new_timed new_blocked : QueueTable) : Type 0 where
-  pub timed : (test : Command → Bool) → count_by (λ w. test w.command) new_timed.waiters
-      ≡ cond (not (is_blocked commands c) && test c) 1 0 + count_by (λ w. test w.command) old_timed.waiters
-  pub blocked : (test : Command → Bool) → count_by (λ w. test w.command) new_blocked.waiters
-      ≡ cond (is_blocked commands c && test c) 1 0 + count_by (λ w. test w.command) old_blocked.waiters
-  pub knows : All (Knows life latest commands) old_timed.waiters → All (Knows life latest commands) new_timed.waiters
-  pub held : (skip : Waiter → Bool) → All (λ w. skip w ≡ false → IsHeldBy commands w) old_blocked.waiters
-      → All (λ w. skip w ≡ false → IsHeldBy commands w) new_blocked.waiters
+  pub timed : (test : Command → Bool) → count_by (λ w. test w.command) new_timed.items
+      ≡ cond (not (is_blocked commands c) && test c) 1 0 + count_by (λ w. test w.command) old_timed.items
+  pub blocked : (test : Command → Bool) → count_by (λ w. test w.command) new_blocked.items
+      ≡ cond (is_blocked commands c && test c) 1 0 + count_by (λ w. test w.command) old_blocked.items
+  pub knows : All (Knows life latest commands) old_timed.items → All (Knows life latest commands) new_timed.items
+  pub held : (skip : Waiter → Bool) → All (λ w. skip w ≡ false → IsHeldBy commands w) old_blocked.items
+      → All (λ w. skip w ≡ false → IsHeldBy commands w) new_blocked.items
   pub after : (ended : Command) → ((d : Command) → list_any (λ e. nat_eq e.ticket.0 ended.ticket.0 && blocks d e) commands ≡ false)
-      → count_by (waited_for ended) new_blocked.waiters ≡ count_by (waited_for ended) old_blocked.waiters
+      → count_by (waited_for ended) new_blocked.items ≡ count_by (waited_for ended) old_blocked.items
   pub timed_room : new_timed.room ≡ old_timed.room
   pub blocked_room : new_blocked.room ≡ old_blocked.room
 
 -- the commands that waited for an ended one were queued anew
 pub record Released (life latest : ℕ) (commands : List Command) (ended : Command) (old_timed old_blocked timed blocked : QueueTable) : Type 0 where
-  pub all : (test : Command → Bool) → count_by (λ w. test w.command) timed.waiters + count_by (λ w. test w.command) blocked.waiters
-      ≡ count_by (λ w. test w.command) old_timed.waiters + count_by (λ w. test w.command) old_blocked.waiters
-  pub free : count_by (λ w. is_blocked commands w.command) timed.waiters ≡ count_by (λ w. is_blocked commands w.command) old_timed.waiters
-  pub knows : All (Knows life latest commands) old_timed.waiters → All (Knows life latest commands) timed.waiters
-  pub held : All (λ w. waited_for ended w ≡ false → IsHeldBy commands w) old_blocked.waiters
-      → All (λ w. waited_for ended w ≡ false → IsHeldBy commands w) blocked.waiters
+  pub all : (test : Command → Bool) → count_by (λ w. test w.command) timed.items + count_by (λ w. test w.command) blocked.items
+      ≡ count_by (λ w. test w.command) old_timed.items + count_by (λ w. test w.command) old_blocked.items
+  pub free : count_by (λ w. is_blocked commands w.command) timed.items ≡ count_by (λ w. is_blocked commands w.command) old_timed.items
+  pub knows : All (Knows life latest commands) old_timed.items → All (Knows life latest commands) timed.items
+  pub held : All (λ w. waited_for ended w ≡ false → IsHeldBy commands w) old_blocked.items
+      → All (λ w. waited_for ended w ≡ false → IsHeldBy commands w) blocked.items
   pub timed_room : timed.room ≡ old_timed.room
   pub blocked_room : blocked.room ≡ old_blocked.room

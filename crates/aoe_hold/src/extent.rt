@@ -6,15 +6,26 @@ ghost use Rattle.aoe_hold.specs.Extents.{goes_by_span, kept_extent, no_extent, w
 
 use crate::command::{Command, Kind};
 use crate::held::HeldCommands;
+use std::marker::Model;
 
 /// A bound of the held commands.
 #[derive(Clone, Copy)]
 pub struct Extent {
     /// How far the last sector of one lies behind its first.
-    pub reach: u32,
+    reach: u32,
 
     /// Whether one of them may be a flush.
     flushes: bool,
+}
+
+impl Model for Extent {
+    ghost use Rattle.aoe_hold.specs.Extents.{Extent};
+
+    ghost Value = { Extent };
+
+    ghost view = { λ e. record { reach = e.reach; flushes = e.flushes } };
+
+    ghost inverse = { λ v. record { reach = v.reach; flushes = v.flushes } };
 }
 
 impl Extent {
@@ -26,6 +37,13 @@ impl Extent {
             reach: 0,
             flushes: false,
         }
+    }
+
+    /// How far the last sector of a command lies behind its first at most.
+    pub fn reach(self) -> u32
+        ensures { result ≡ self.reach }
+    {
+        self.reach
     }
 
     /// The extent of what is still held.

@@ -77,18 +77,18 @@ fn make_room(
     blocked: &mut Queue,
     room: u32,
 ) -> Result<(), NoMemory>
-    requires timed { length timed.old.waiters ≤ room }
-    requires ready { length ready.old.waiters ≤ room }
-    requires blocked { length blocked.old.waiters ≤ room }
+    requires timed { length timed.old.items ≤ room }
+    requires ready { length ready.old.items ≤ room }
+    requires blocked { length blocked.old.items ≤ room }
     ensures commands { commands.new.items ≡ commands.old.items }
     ensures place { OnOk result (length commands.new.items < commands.new.capacity) }
     ensures key { OnOk result (HasKey commands.new.keys command.now) }
     ensures keys { AreAmong commands.old.keys commands.new.keys }
     ensures only { OnOk result (AddsOnly commands.old.keys commands.new.keys command.now) }
     ensures err { OnErr result (AreAmong commands.new.keys commands.old.keys) }
-    ensures timed { timed.new.waiters ≡ timed.old.waiters }
-    ensures ready { ready.new.waiters ≡ ready.old.waiters }
-    ensures blocked { blocked.new.waiters ≡ blocked.old.waiters }
+    ensures timed { timed.new.items ≡ timed.old.items }
+    ensures ready { ready.new.items ≡ ready.old.items }
+    ensures blocked { blocked.new.items ≡ blocked.old.items }
     ensures timed_more { timed.old.room ≤ timed.new.room }
     ensures ready_more { ready.old.room ≤ ready.new.room }
     ensures blocked_more { blocked.old.room ≤ blocked.new.room }
@@ -149,8 +149,8 @@ fn keeper_of<L: Ledger>(
 
 /// Queues a command that was never sent by what keeps it back.
 fn queue(timed: &mut Queue, blocked: &mut Queue, command: Command, keeper: Keeper)
-    requires timed { length timed.old.waiters < timed.old.room }
-    requires blocked { length blocked.old.waiters < blocked.old.room }
+    requires timed { length timed.old.items < timed.old.room }
+    requires blocked { length blocked.old.items < blocked.old.room }
     ensures { (life latest : ℕ) (commands : List Command) → IsKeeper life latest commands command keeper
         → Queued life latest commands command timed.old blocked.old timed.new blocked.new }
 {
@@ -178,10 +178,10 @@ fn release<L: Ledger>(
     requires past { ArePast life.0 latest.0 gone commands.now }
     requires done { finished ended.now.stage ≡ true → (c : Command)
         → list_any (λ e. nat_eq e.ticket.0 ended.now.ticket.0 && blocks c e) commands.now ≡ false }
-    requires timed { length timed.old.waiters + length blocked.old.waiters ≤ timed.old.room }
-    requires blocked { length timed.old.waiters + length blocked.old.waiters ≤ blocked.old.room }
+    requires timed { length timed.old.items + length blocked.old.items ≤ timed.old.room }
+    requires blocked { length timed.old.items + length blocked.old.items ≤ blocked.old.room }
     ensures released { Released life.0 latest.0 commands.now ended.now timed.old blocked.old timed.new blocked.new }
-    ensures none { All (λ w. waited_for ended.now w ≡ false) blocked.new.waiters }
+    ensures none { All (λ w. waited_for ended.now w ≡ false) blocked.new.items }
 {
     if !ended.is_finished() {
         return;
@@ -206,11 +206,11 @@ fn count_gone(commands: &[Command], known: usize, life: Millis, latest: Millis) 
 
 /// Moves the commands whose time is past to those that may be sent.
 fn make_ready<L: Ledger>(timed: &mut Queue, ready: &mut Queue, now: Millis, steps: &mut Steps<L>)
-    requires { length timed.old.waiters + length ready.old.waiters ≤ ready.old.room }
+    requires { length timed.old.items + length ready.old.items ≤ ready.old.room }
     ensures moved { Moved now.0 timed.old ready.old timed.new ready.new }
-    ensures late { All (λ w. now.0 < w.from) timed.new.waiters }
-    ensures steps { steps.new + length ready.old.waiters
-        ≡ steps.old + 1 + length ready.new.waiters }
+    ensures late { All (λ w. now.0 < w.from) timed.new.items }
+    ensures steps { steps.new + length ready.old.items
+        ≡ steps.old + 1 + length ready.new.items }
 {
     'past: while let Some(waiter) = timed.pop_past(now, steps) {
         ready.insert(Waiter { from: 0, ..waiter });
@@ -226,14 +226,14 @@ fn leave<L: Ledger>(
     may_stand: bool,
     steps: &mut Steps<L>,
 )
-    requires once { count_by (has_ticket ticket.0) timed.old.waiters + count_by (has_ticket ticket.0) ready.old.waiters
-        + count_by (has_ticket ticket.0) blocked.old.waiters ≤ cond may_stand 1 0 }
-    ensures timed { timed.new.waiters ≡ filter
-        (λ w. not (nat_eq w.command.ticket.0 ticket.0)) timed.old.waiters }
-    ensures ready { ready.new.waiters ≡ filter
-        (λ w. not (nat_eq w.command.ticket.0 ticket.0)) ready.old.waiters }
-    ensures blocked { blocked.new.waiters ≡ filter
-        (λ w. not (nat_eq w.command.ticket.0 ticket.0)) blocked.old.waiters }
+    requires once { count_by (has_ticket ticket.0) timed.old.items + count_by (has_ticket ticket.0) ready.old.items
+        + count_by (has_ticket ticket.0) blocked.old.items ≤ cond may_stand 1 0 }
+    ensures timed { timed.new.items ≡ filter
+        (λ w. not (nat_eq w.command.ticket.0 ticket.0)) timed.old.items }
+    ensures ready { ready.new.items ≡ filter
+        (λ w. not (nat_eq w.command.ticket.0 ticket.0)) ready.old.items }
+    ensures blocked { blocked.new.items ≡ filter
+        (λ w. not (nat_eq w.command.ticket.0 ticket.0)) blocked.old.items }
     ensures timed_room { timed.new.room ≡ timed.old.room }
     ensures ready_room { ready.new.room ≡ ready.old.room }
     ensures blocked_room { blocked.new.room ≡ blocked.old.room }
@@ -299,7 +299,7 @@ impl Model for Holds {
       latest = holds.latest.0;
       greatest = option_map (λ t. t.0) holds.greatest;
       commands = holds.commands.items;
-      ready = map ticket_of holds.ready.waiters;
+      ready = map ticket_of holds.ready.items;
       extent = holds.extent;
     } };
 

@@ -81,7 +81,7 @@ fn keeper_of_sort<L: Ledger>(
         (λ e. beq (is_write e.kind) writes && begins_near extent command.now e) held }
 {
     let at = u128::from(command.span.at);
-    let first = at.saturating_sub(u128::from(extent.reach));
+    let first = at.saturating_sub(u128::from(extent.reach()));
     let until = at + u128::from(command.span.count);
     let mut near = commands.near(writes, first, until);
     keeper_of_some(&mut near, commands, command, life, steps)

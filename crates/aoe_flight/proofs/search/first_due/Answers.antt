@@ -1,6 +1,7 @@
 use Rattle.std.proofs.Common.{refl, sym, ◌∙◌}
 use Rattle.aoe_flight.specs.Outstanding.{is_due}
-use Rattle.aoe_flight.proofs.TableLemmas.{all-passing, due-all, due-flying, first-passing, if-none}
+use Rattle.aoe_base.proofs.CommonLemmas.{if-none}
+use Rattle.aoe_flight.proofs.TableLemmas.{all-passing, due-all, due-flying, first-passing}
 use Rattle.aoe_flight.proofs.search.first_due.Goals as goal
 
 pub returns-in_err-command-clause-none : goal.returns-in_err-command-clause-none

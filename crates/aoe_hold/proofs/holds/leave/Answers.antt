@@ -4,8 +4,8 @@ use Rattle.aoe_hold.proofs.holds.leave.Goals as goal
 use Rattle.aoe_hold.proofs.holds.leave.Given.{Over}
 use Rattle.aoe_hold.proofs.holds.leave.Goals.{Joined-else-may_stand, else-may_stand-via-then-may_stand+else-is_none, else-may_stand-via-else-may_stand}
 
-left : (g : Over) (c : Joined-else-may_stand g) → HaveLeft c.args.ticket.0 c.args.timed.now.waiters c.args.ready.now.waiters c.args.blocked.now.waiters
-    c.args.timed.now.waiters c.else-may_stand.ready.waiters c.args.blocked.now.waiters
+left : (g : Over) (c : Joined-else-may_stand g) → HaveLeft c.args.ticket.0 c.args.timed.now.items c.args.ready.now.items c.args.blocked.now.items
+    c.args.timed.now.items c.else-may_stand.ready.items c.args.blocked.now.items
 left g c = elim c.else-may_stand.branch [
   | else-may_stand-via-then-may_stand+else-is_none w ↦
       rw w.ready-is (leaves-first c.args.ticket.0 w.pop_ticket.result _ _ _ _ (search rules) w.pop_ticket.ensures.some

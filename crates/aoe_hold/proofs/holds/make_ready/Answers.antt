@@ -9,7 +9,7 @@ pub past-preserved : goal.past-preserved
 past-preserved g c =
     let popped = c.in-Some.ensures.some in
     let moved : Waiter = record c.in-Some.waiter { from = 0 } in
-    let longer = length_permutation (moved ∷ c.past.ready.waiters) c.insert.new.self.waiters c.insert.ensures.waiters in
+    let longer = length_permutation (moved ∷ c.past.ready.items) c.insert.new.self.items c.insert.ensures.waiters in
     let shorter = ap (λ (l : List Waiter). length l) popped.1 in (
       moved-more c.pop_past.new.self c.insert.new.self c.in-Some.waiter c.past.invariant.0 popped.1 popped.0 c.insert.ensures.waiters
           c.in-Some.ensures.room c.insert.ensures.room,

@@ -6,8 +6,8 @@ use Rattle.aoe_hold.proofs.holds.make_ready.Given as goal
 abbrev pub invariant-past : goal.invariant-past
 invariant-past g l =
     Moved l.now.0 l.fn.timed l.fn.ready l.timed l.ready
-    × (length l.timed.waiters + length l.ready.waiters ≡ length l.fn.timed.waiters + length l.fn.ready.waiters)
-    × (l.steps + length l.fn.ready.waiters ≡ l.fn.steps + length l.ready.waiters)
+    × (length l.timed.items + length l.ready.items ≡ length l.fn.timed.items + length l.fn.ready.items)
+    × (l.steps + length l.fn.ready.items ≡ l.fn.steps + length l.ready.items)
 
 abbrev pub decreases-past : goal.decreases-past
-decreases-past g l = length l.timed.waiters
+decreases-past g l = length l.timed.items

@@ -18,10 +18,10 @@ pub waiting-smaller : goal.waiting-smaller
 waiting-smaller g c =
     let done : finished c.args.ended.now.stage ≡ true = search rules in
     let queued = c.queue.ensures c.args.life.0 c.args.latest.0 c.args.commands.now c.keeper_by_walk-keeper.ensures in
-    released-fewer c.args.ended.now c.in-Some.waiter c.waiting.blocked.waiters c.pop_from.new.self.waiters c.queue.new.blocked.waiters
+    released-fewer c.args.ended.now c.in-Some.waiter c.waiting.blocked.items c.pop_from.new.self.items c.queue.new.blocked.items
     c.in-Some.ensures.some.1 (c.in-Some.ensures.some.0 ∙ c.from.ensures) done (queued.after c.args.ended.now (c.requires.done done))
 
 pub returns-clause-released : goal.returns-clause-released
 returns-clause-released g c =
-    let same : c.pop_from.new.self.waiters ≡ c.waiting.blocked.waiters = search rules in
+    let same : c.pop_from.new.self.items ≡ c.waiting.blocked.items = search rules in
     released-same c.pop_from.new.self same c.pop_from.ensures.room c.waiting.invariant

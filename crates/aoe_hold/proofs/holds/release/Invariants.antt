@@ -7,4 +7,4 @@ abbrev pub invariant-waiting : goal.invariant-waiting
 invariant-waiting g l = Released l.life.0 l.latest.0 l.commands l.ended l.fn.timed l.fn.blocked l.timed l.blocked
 
 abbrev pub decreases-waiting : goal.decreases-waiting
-decreases-waiting g l = count_by (waited_for l.ended) l.blocked.waiters
+decreases-waiting g l = count_by (waited_for l.ended) l.blocked.items

@@ -8,6 +8,5 @@ invariant_of-self c =
     let tag = c.remove-2.ensures in
     let last = c.remove-3.ensures in
     indexed-dropped c.args.slot c.args.command at c.requires.rests slots.updates slots.len slots.capacity
-    (removed c.self.inside.tags c.remove-2.new.self _ _ c.by_tag.ensures tag.shorter tag.length tag.kept tag.only tag.room)
-    (removed c.self.inside.rests c.remove-3.new.self _ _ c.by_last.ensures last.shorter last.length last.kept last.only last.room)
-    c.self.invariant
+    (removed c.self.inside.tags c.remove-2.new.order c.by_tag.ensures tag.taken tag.room)
+    (removed c.self.inside.rests c.remove-3.new.order c.by_last.ensures last.taken last.room) c.self.invariant

@@ -1,5 +1,6 @@
 use Rattle.std.proofs.Common.{sym}
-use Rattle.aoe_flight.proofs.TableLemmas.{before-older, first-held, head-held, if-none, none-pass}
+use Rattle.aoe_base.proofs.CommonLemmas.{if-none}
+use Rattle.aoe_flight.proofs.TableLemmas.{before-older, first-held, head-held, none-pass}
 use Rattle.aoe_flight.specs.Outstanding.{is_older}
 use Rattle.aoe_flight.specs.Table.{flies}
 use Rattle.aoe_flight.proofs.table.Table.look_oldest.Goals as goal
@@ -10,9 +11,9 @@ returns-in_err-first-clause-none g c =
 
 pub returns-in_err-command-clause-none : goal.returns-in_err-command-clause-none
 returns-in_err-command-clause-none g c =
-    absurd (head-held c.in_ok-first.first c.self.invariant.has_firsts (sym c.in_ok-first.ensures.value) (sym c.in_err-command.ensures))
+    absurd (head-held c.in_ok-first.first.now c.self.invariant.has_firsts (sym c.in_ok-first.ensures.value) (sym c.in_err-command.ensures))
 
 pub returns-clause-first : goal.returns-clause-first
 returns-clause-first g c =
-    rw (← c.self.view_is) (first-held is_older c.in_ok-first.first c.in_ok-command.command.now before-older c.self.invariant.has_firsts
+    rw (← c.self.view_is) (first-held is_older c.in_ok-first.first.now c.in_ok-command.command.now before-older c.self.invariant.has_firsts
     c.in_ok-first.ensures.order (sym c.in_ok-first.ensures.value) (sym c.in_ok-command.ensures))

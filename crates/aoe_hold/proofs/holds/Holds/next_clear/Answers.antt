@@ -29,7 +29,7 @@ invariant_of-self g c =
 
 -- the ready queue has the clear commands, and the first of them is told
 ready : (g : Over) (c : After-map g)
-    → map ticket_of c.make_ready.new.ready.waiters ≡ clear_tickets c.self.inside.life.0 c.args.now.0 c.self.inside.commands.items
+    → map ticket_of c.make_ready.new.ready.items ≡ clear_tickets c.self.inside.life.0 c.args.now.0 c.self.inside.commands.items
 ready g c =
     let index = index-moved (time-of c.self.view_is c.args.now.0 c.requires) c.make_ready.ensures.moved c.self.invariant.1 in
     index-ready c.self.invariant.0.0 index c.make_ready.ensures.late c.look-first.ensures.order
@@ -38,7 +38,7 @@ first : (g : Over) (c : After-map g)
     → option_map (λ t. t.0) c.map.result ≡ slice_get (clear_tickets c.self.inside.life.0 c.args.now.0 c.self.inside.commands.items) 0
 first g c =
     let mapped : c.map.result ≡ option_map (λ (w : Waiter). w.command.ticket) (option_copied c.look-first.result) = search rules in
-    rw (mapped, c.look-first.ensures.value, ← ready g c) (head-ticket c.make_ready.new.ready.waiters)
+    rw (mapped, c.look-first.ensures.value, ← ready g c) (head-ticket c.make_ready.new.ready.items)
 
 pub returns-clause-clear : goal.returns-clause-clear
 returns-clause-clear g c = answer-clear c.self.view_is c.args.now.0 c.requires c.map.result (first g c)
@@ -57,5 +57,5 @@ returns-clause-recalls g c = time-recalls c.self.view_is c.args.now.0 c.requires
 
 pub returns-clause-bound : goal.returns-clause-bound
 returns-clause-bound g c =
-    rw (← c.self.view_is) (steps-few c.args.steps.now c.look-first.new.steps c.make_ready.new.steps c.self.inside.ready.waiters _ _ (ready g c)
+    rw (← c.self.view_is) (steps-few c.args.steps.now c.look-first.new.steps c.make_ready.new.steps c.self.inside.ready.items _ _ (ready g c)
     c.make_ready.ensures.steps c.look-first.ensures.step)

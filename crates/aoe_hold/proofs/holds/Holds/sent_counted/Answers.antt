@@ -59,7 +59,7 @@ invariant_of-self-in_default g c =
     rw c.look_all-commands.ensures.value at (sym c.place_of.ensures ∙ none) in
     let same = stage-missing ticket (stage_sent c.args.now) held missing in
     let stay =
-    leaves-missing ticket held c.self.inside.timed.waiters c.self.inside.ready.waiters c.self.inside.blocked.waiters c.self.invariant.3.all missing in
+    leaves-missing ticket held c.self.inside.timed.items c.self.inside.ready.items c.self.inside.blocked.items c.self.invariant.3.all missing in
     let later = time-of c.self.view_is c.args.now.0 c.requires.time in
     let index =
     index-sent c.self.inside.unsent ticket c.args.now c.self.inside.timed c.self.inside.ready later (omega arith) stay.0 stay.1 refl refl c.self.invariant.1 in
@@ -84,7 +84,7 @@ leave-requires g c =
     let read_first : c.is_unsent-first.result ≡ is_unsent (get_or c.look_all-commands.result.now c.in-Some.at none_command) = search rules in
     let first_is = rw seen at read_first in
     record {
-      once = leaves-once c.self.inside.timed.waiters c.self.inside.ready.waiters c.self.inside.blocked.waiters c.is_unsent-first.result at
+      once = leaves-once c.self.inside.timed.items c.self.inside.ready.items c.self.inside.blocked.items c.is_unsent-first.result at
           c.self.invariant.3.all first_is;
     }
 
@@ -100,7 +100,7 @@ returns-in-Some-clause-value g c =
     let after = set_is ∙ stage-set at (stage_sent c.args.now) c.sent-stage.result is in
     rw after
     (send-value c.self.view_is c.args.ticket.0 c.args.now _
-    (ap (λ (l : List Waiter). map ticket_of l) c.leave.ensures.ready ∙ tickets-filter c.args.ticket.0 c.self.inside.ready.waiters))
+    (ap (λ (l : List Waiter). map ticket_of l) c.leave.ensures.ready ∙ tickets-filter c.args.ticket.0 c.self.inside.ready.items))
 
 pub returns-in-Some-clause-recalls : goal.returns-in-Some-clause-recalls
 returns-in-Some-clause-recalls g c =
@@ -121,9 +121,9 @@ returns-clause-value g c =
     let missing : position (λ (d : Command). nat_eq d.ticket.0 c.args.ticket.0) held ≡ None =
     rw c.look_all-commands.ensures.value at (sym c.place_of.ensures ∙ none) in
     let stay =
-    leaves-missing c.args.ticket.0 held c.self.inside.timed.waiters c.self.inside.ready.waiters c.self.inside.blocked.waiters c.self.invariant.3.all missing in
+    leaves-missing c.args.ticket.0 held c.self.inside.timed.items c.self.inside.ready.items c.self.inside.blocked.items c.self.invariant.3.all missing in
     let value = send-value c.self.view_is c.args.ticket.0 c.args.now _
-    (ap (λ (l : List Waiter). map ticket_of l) stay.1 ∙ tickets-filter c.args.ticket.0 c.self.inside.ready.waiters) in
+    (ap (λ (l : List Waiter). map ticket_of l) stay.1 ∙ tickets-filter c.args.ticket.0 c.self.inside.ready.items) in
     rw (stage-missing c.args.ticket.0 (stage_sent c.args.now) held missing) at value
 
 pub returns-clause-recalls : goal.returns-clause-recalls
