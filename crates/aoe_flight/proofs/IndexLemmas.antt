@@ -48,7 +48,8 @@ pub record IsHeld (slab : Slab Outstanding) (test : Outstanding → Bool) (entry
 pub same-command : (slab : Slab Outstanding) (k : ℕ) (c d : Outstanding) → get slab k ≡ Some c → get slab k ≡ Some d → c ≡ d
 same-command slab k c d one two = cc
 
-module _ {slab : Slab Outstanding} {test : Outstanding → Bool} {entry : ℕ → Outstanding → Entry} {entries : List Entry} (o : IsOrderOf slab test entry entries) where
+module _ {slab : Slab Outstanding} {test : Outstanding → Bool} {entry : ℕ → Outstanding → Entry} {entries : List Entry}
+    (o : IsOrderOf slab test entry entries) where
   pub command-of : (e : Entry) → Contains entries e → IsHeld slab test entry e
   command-of e there =
       let own = there-counted (same_entry e) entries e there (same-self e) in
@@ -191,5 +192,6 @@ module _ {slab next : Slab Outstanding} {k : ℕ} {slot : Option Outstanding} {t
   -- a change that the order doesn't see
   pub unseen : {entries : List Entry} (c d : Outstanding) → get slab k ≡ Some c → slot ≡ Some d → test d ≡ test c → entry k d ≡ entry k c
       → IsOrderOf slab test entry entries → IsOrderOf next test entry entries
-  unseen c d at is tests entries_are = changed (λ p. let same : bit (on (shows test entry p) k (get slab k)) ≡ bit (on (shows test entry p) k slot) = rw (at, is, tests, entries_are) refl in
+  unseen c d at is tests entries_are = changed (λ p.
+      let same : bit (on (shows test entry p) k (get slab k)) ≡ bit (on (shows test entry p) k slot) = rw (at, is, tests, entries_are) refl in
       omega (arith, same))

@@ -15,19 +15,23 @@ insert_reserved-slot-requires c = omega (arith, more c.self.inside.slots c.args.
 
 pub insert-requires : goal.insert-requires
 insert-requires c =
-    more-fits c.self.inside.tags c.self.invariant.has_tags c.self.invariant.tags_room (more c.self.inside.slots c.args.self.now c.self.view_is c.requires.room)
+    more-fits c.self.inside.tags c.self.invariant.has_tags c.self.invariant.tags_room
+    (more c.self.inside.slots c.args.self.now c.self.view_is c.requires.room)
 
 pub insert-requires-2 : goal.insert-requires-2
 insert-requires-2 c =
-    more-fits c.self.inside.tickets c.self.invariant.has_tickets c.self.invariant.tickets_room (more c.self.inside.slots c.args.self.now c.self.view_is c.requires.room)
+    more-fits c.self.inside.tickets c.self.invariant.has_tickets c.self.invariant.tickets_room
+    (more c.self.inside.slots c.args.self.now c.self.view_is c.requires.room)
 
 pub insert-requires-3 : goal.insert-requires-3
 insert-requires-3 c =
-    more-fits c.self.inside.dues c.self.invariant.has_dues c.self.invariant.dues_room (more c.self.inside.slots c.args.self.now c.self.view_is c.requires.room)
+    more-fits c.self.inside.dues c.self.invariant.has_dues c.self.invariant.dues_room
+    (more c.self.inside.slots c.args.self.now c.self.view_is c.requires.room)
 
 pub insert-requires-4 : goal.insert-requires-4
 insert-requires-4 c =
-    more-fits c.self.inside.firsts c.self.invariant.has_firsts c.self.invariant.firsts_room (more c.self.inside.slots c.args.self.now c.self.view_is c.requires.room)
+    more-fits c.self.inside.firsts c.self.invariant.has_firsts c.self.invariant.firsts_room
+    (more c.self.inside.slots c.args.self.now c.self.view_is c.requires.room)
 
 pub invariant_of-self : goal.invariant_of-self
 invariant_of-self c =
