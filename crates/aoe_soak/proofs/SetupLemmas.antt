@@ -1,5 +1,5 @@
 -- Nothing is wrong with the setup lines.
-use Rattle.std.proofs.Common.{zero, suc, refl}
+use Rattle.std.proofs.Common.{suc, refl}
 use Rattle.aoe_script.specs.Classes.{is_name}
 use Rattle.aoe_script.specs.Lines.{AreGood}
 use Rattle.aoe_script.specs.Rules.{are_ports, setup_why}
