@@ -1,9 +1,10 @@
 -- The VLANs of a switch's ports, one after the other.
-use Rattle.std.proofs.Common.{◌≡◌, ◌≤◌, ◌+◌, ◌-◌, ◌∙◌, ℕ, zero, suc, Bool, true, false, cond, List, [], ◌∷◌, ◌++◌, length, filter, refl, ap, arith}
+use Rattle.std.proofs.Common.{◌≡◌, ◌≤◌, ◌+◌, ◌-◌, ◌∙◌, ℕ, suc, Bool, true, false, cond, List, [], ◌∷◌, ◌++◌, length, filter, refl, ap, arith}
 use Rattle.std.specs.List.{list_all, list_any, range_with_len}
 use Rattle.std.proofs.lemmas.List.{length-append}
 use Rattle.std.proofs.lemmas.List.Elements.{filter-append}
 use Rattle.std.proofs.lemmas.List.Folds.{list_all-append}
+use Rattle.aoe_base.proofs.CommonLemmas.{range-more}
 use Rattle.aoe_vlan.specs.Tag.{carries}
 use Rattle.aoe_vlan.specs.declared.port.PortKind.{PortKind}
 use Rattle.aoe_args.specs.Switching.{vlans_of}
@@ -15,10 +16,6 @@ all_with p xs x all e = list_all-append p xs (x ∷ []) ∙ rw (all, e) refl
 -- those below a number that a port is of
 unfoldable pub carried_below : List PortKind → ℕ → List ℕ
 carried_below kinds n = filter (λ vid. list_any (carries vid) kinds) (range_with_len 1 (n - 1))
-
-range-more : (a n : ℕ) → range_with_len a (suc n) ≡ range_with_len a n ++ (a + n) ∷ []
-range-more a zero = ap (λ (m : ℕ). m ∷ []) (omega arith)
-range-more a (suc n) = ap (λ (l : List ℕ). a ∷ l) (range-more (a + 1) n ∙ ap (λ (m : ℕ). range_with_len (a + 1) n ++ m ∷ []) (omega arith))
 
 -- one more number
 below-more : (kinds : List PortKind) (n : ℕ) → 1 ≤ n

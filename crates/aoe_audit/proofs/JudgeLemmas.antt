@@ -1,6 +1,6 @@
 -- What a reply tells of a request, by each verdict.
 use Rattle.std.proofs.Common.{◌≡◌, ◌≢◌, ◌≤◌, ◌+◌, ◌*◌, ◌-◌, ◌++◌, ℕ, zero, suc, List, [], ◌∷◌, true, cond, length, length-append, take, drop, replicate, Option, Some, None, refl, sym, ap, subst, ◌∙◌, arith, append_assoc, append-nil, inl, inr}
-use Rattle.std.specs.Prelude.{IfOk, IfSome, Result, Ok, Err, get_or, slice_range}
+use Rattle.std.specs.Prelude.{IfOk, IfSome, Result, Ok, Err, slice_range}
 use Rattle.std.specs.Option.{option_map, option_or}
 use Rattle.std.proofs.Math.Seq.{take-append_seam}
 use Rattle.std.proofs.lemmas.List.{length-drop, take-append-drop, take_all}
@@ -21,12 +21,11 @@ use Rattle.aoe_target.specs.Law.{Allows, after, after_ata, replied}
 use Rattle.aoe_target.specs.Reply.{ata_reply, data_of, data_reply, reply_head, spelled}
 use Rattle.aoe_target.specs.Sectors.{Sectors, Tells, in_span, learns, puts, value_in}
 use Rattle.aoe_target.specs.Verdict.{verdict}
-use Rattle.aoe_target.specs.declared.heard.Effect.{Effect}
 use Rattle.aoe_target.specs.declared.heard.Effect.TheVariants as effect
 use Rattle.aoe_target.specs.declared.station.Station.{Station}
 use Rattle.aoe_target.specs.declared.verdict.Verdict.{Verdict}
-use Rattle.aoe_target.proofs.OneReply.{data-apart, gives-is}
-use Rattle.aoe_audit.specs.Judged.{answers_by, reply_in}
+use Rattle.aoe_target.proofs.OneReply.{data-apart, gives-is, same-reply}
+use Rattle.aoe_audit.specs.Judged.{answers_by}
 use Rattle.aoe_audit.specs.Known.{AreAsKnown, AreKnown, AreKnownOf, IsKnown, IsTold, IsToldAta, IsToldBy, Knowing, SaysOne, KnownTable, value_of, value_put, value_read}
 use Rattle.aoe_audit.specs.declared.judge.Told.{Told}
 use Rattle.aoe_audit.specs.declared.judge.Told.TheVariants.{By, Wrong}
@@ -40,9 +39,6 @@ by-verdict station k f reply old new told v is t =
     (λ e. after station f w (replied e reply) k) old new told) is t
 
 -- one reply alone
-same-reply : (e d : Effect) (a b : List ℕ) → replied e a ≡ replied d b → a ≡ b
-same-reply e d a b is = ap (λ x. get_or (reply_in x) 0 a) is
-
 pub by-one : (told : Told) (reply bytes : List ℕ) (k : State) (old : Knowing) → IsKnown old k → SaysOne reply bytes told
     → IsToldBy true (λ e. replied e reply ≡ replied effect.None bytes) (λ e. k) old old told
 by-one told reply bytes k old known (inl says) =

@@ -1,9 +1,10 @@
 -- Writing the buffer down leaves what the store shows as it was.
-use Rattle.std.proofs.Common.{◌≡◌, ◌≤◌, ◌<◌, ◌+◌, ◌*◌, ◌/◌, ◌++◌, ℕ, Bool, true, false, List, [], ◌∷◌, Option, Some, None, IfSome, Result, Ok, Err, is_err, length, take, drop, refl, sym, arith, ◌∙◌, ◌||◌, ap, append_assoc, inl, inr, nat_lt, if◌then◌else◌, take-append-drop, option_map, min, Vec, Global}
+use Rattle.std.proofs.Common.{◌≡◌, ◌≤◌, ◌<◌, ◌+◌, ◌*◌, ◌/◌, ◌++◌, ℕ, Bool, true, false, List, [], ◌∷◌, Option, Some, None, IfSome, Result, Ok, Err, is_err, length, take, drop, refl, sym, arith, ◌∙◌, ap, append_assoc, inl, inr, nat_lt, if◌then◌else◌, take-append-drop, option_map, min, Vec, Global}
 use Rattle.std.specs.Vec.{with_items}
 use Rattle.std.proofs.lemmas.Bool.{cases_Bool, cases_lt, lt-ltb, or_parts, or_right}
 use Rattle.std.proofs.lemmas.List.{append-nil, drop-drop, length-take, length-take-le, take-take, with_items_is}
 use Rattle.std.proofs.lemmas.List.Folds.{list_any-append}
+use Rattle.std.proofs.Math.Bool.{or-false}
 use Rattle.aoe_disk.specs.State.{Contents, DiskState, HasShape, IsDisk, BothTell, with_marks}
 use Rattle.aoe_disk.specs.Calls.{IsRange, IsRun, Puts, Spoils, SameOutside, WritesTo}
 use Rattle.aoe_disk.specs.Sectors.{IsOutside}
@@ -107,12 +108,8 @@ module _ {done left n : ℕ} {held places : List HeldSector} {old mid new : Disk
         writes = runs_more up.runs r held old mid new up.writes (rw up.all run);
         all = after_more up.runs r held ∙ ap (drop n) up.all ∙ drop-drop n done held;
         stays = up.stays ∙ sym (unwritten_more up.runs r held ∙ append-nil _);
-        failed = list_any-append (λ (r : Run). r.failed) up.runs (r ∷ []) ∙ rw up.failed (both (nat_lt 0 left));
+        failed = list_any-append (λ (r : Run). r.failed) up.runs (r ∷ []) ∙ rw up.failed (or-false (nat_lt 0 left));
       }
-    where
-      both : (b : Bool) → (b || false) ≡ b
-      both true = refl
-      both false = refl
 
   -- and one that wasn't, whose sectors were moved down
   pub fails_one : (moved : List HeldSector) → 0 < n → take (left + n) moved ≡ take left places ++ take n (drop done held)

@@ -1,8 +1,8 @@
 -- The disk without the buffer, and how much can be written before it is.
-use Rattle.std.proofs.Common.{◌≡◌, ◌≤◌, ◌+◌, ◌-◌, ◌/◌, ℕ, zero, suc, true, false, not, List, [], Option, Some, None, IfSome, Result, Ok, Err, OnOk, is_err, length, replicate, refl, sym, arith, ◌∙◌, ap, inl, inr, option_map}
-use Rattle.std.specs.List.{list_all}
+use Rattle.std.proofs.Common.{◌≡◌, ◌≤◌, ◌+◌, ◌-◌, ◌/◌, ℕ, true, false, List, [], Option, Some, None, IfSome, Result, Ok, Err, OnOk, is_err, length, refl, sym, arith, ◌∙◌, ap, inl, inr, option_map}
 use Rattle.std.proofs.lemmas.Bool.{both_ways, cases_Bool}
 use Rattle.std.proofs.lemmas.Option.{IfSome_then}
+use Rattle.aoe_base.proofs.CommonLemmas.{none-set}
 use Rattle.aoe_disk.specs.State.{Contents, DiskState, HasShape, IsDisk, BothTell}
 use Rattle.aoe_disk.specs.Calls.{IsRange, Settles}
 use Rattle.aoe_cache.specs.declared.place.HeldSector.{HeldSector}
@@ -59,16 +59,12 @@ spends_free state at piece result old new range writes k is le =
 
 -- an Ok sync
 
-settled_replicate : (n : ℕ) → list_all not (replicate n false) ≡ true
-settled_replicate zero = refl
-settled_replicate (suc n) = settled_replicate n
-
 frees_from : (room : ℕ) (shown disk : Option Contents) → BothTell Settles shown (option_map (seen_contents []) disk)
     → IfSome shown (λ c. (option_map (λ (d : Contents). d.bytes) disk ≡ Some c.bytes) × (free_of room disk ≡ Some room))
 frees_from room None disk told = tt
 frees_from room (Some x) None told = absurd told
 frees_from room (Some x) (Some y) told =
-    let settled : is_settled y ≡ true = rw told.loose (settled_replicate (length x.loose)) in
+    let settled : is_settled y ≡ true = rw told.loose (none-set (length x.loose)) in
     (ap Some told.bytes, rw settled refl)
 
 module _ {D T E : Type 0} (state : D → DiskState) (old new : Cache D) (disk : IsDisk (state old.disk)) (held : AreHeld (state old.disk).sectors old.held) where

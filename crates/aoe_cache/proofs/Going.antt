@@ -1,7 +1,7 @@
 -- Device calls that go on after one that failed.
-use Rattle.std.proofs.Common.{◌≡◌, ◌≤◌, ◌<◌, ◌+◌, ◌-◌, ◌^◌, ◌||◌, ℕ, Bool, true, false, Option, Some, None, IsSome, is_some, is_none, refl, arith, ◌∙◌, subst, inl, inr}
+use Rattle.std.proofs.Common.{◌≡◌, ◌≤◌, ◌+◌, ◌-◌, ◌||◌, ℕ, Bool, true, false, Option, Some, None, is_none, refl, arith, ◌∙◌, subst, inl, inr}
 use Rattle.std.proofs.lemmas.Bool.{cases_Bool, cases_lt}
-use Rattle.aoe_base.specs.Faults.{Rose}
+use Rattle.aoe_base.proofs.CommonLemmas.{none-from, rose-before, rose-later, some-from}
 use Rattle.aoe_disk.specs.State.{Schedule, DiskState, BothTell}
 use Rattle.aoe_disk.specs.Calls.{MovesDue, MovesDueCall, MovesOn, IsRun}
 use Rattle.aoe_disk.proofs.Runs.{is_none_same, run_then}
@@ -29,35 +29,18 @@ dues_on m n f i j (Some x) None c e t u = absurd t
 dues_on m n f i j (Some x) (Some y) None e t u = u
 dues_on m n f i j (Some x) (Some y) (Some z) e t u = due_on m n f i x y z t (subst (λ w. MovesDue n f w y z) e u)
 
-rose_before : (a b c : ℕ) → b ≤ c → Rose a b → Rose a c
-rose_before a b c m rose = λ low. let more : a < b = rose low in omega arith
-
-rose_later : (a b c : ℕ) → a ≤ b → b ≤ c → Rose b c → Rose a c
-rose_later a b c l m rose = λ low. elim (cases_lt b (2 ^ 64 - 1)) [
-  | inl below ↦ let more : b < c = rose below in omega arith
-  | inr full ↦ omega arith
-]
-
-number_still : {A : Type 0} (x y : Option A) → is_some y ≡ is_some x → IsSome x → IsSome y
-number_still x y kind some = cc
-
-stop_still : {A : Type 0} (x y : Option A) → is_some y ≡ is_some x → x ≡ None → y ≡ None
-stop_still x None k e = refl
-stop_still None (Some y) k e = cc
-stop_still (Some x) (Some y) k e = cc
-
 move_on : (m n : ℕ) (failed : Bool) (p q r : ℕ) (a b c : Schedule) → p ≤ q → q ≤ r → MovesOn m true p q a b → MovesOn n failed q r b c
     → MovesOn (m + n) true p r a c
 move_on m n f p q r a b c l h t u = record {
   kind = u.kind ∙ t.kind;
-  fewer = λ e. omega (arith, t.fewer e, u.fewer (number_still a.armed b.armed t.kind e));
+  fewer = λ e. omega (arith, t.fewer e, u.fewer (some-from a.armed b.armed t.kind e));
   stop = λ e more. elim (cases_lt q r) [
-    | inl later ↦ u.stop (stop_still a.armed b.armed t.kind e) later
+    | inl later ↦ u.stop (none-from a.armed b.armed t.kind e) later
     | inr same ↦ u.stays_out (t.stop e (omega arith))
   ];
   out_by_fault = λ was is. elim (cases_Bool b.out) [
-    | inl yet ↦ rose_before p q r h (t.out_by_fault was yet)
-    | inr not ↦ rose_later p q r l h (u.out_by_fault not is)
+    | inl yet ↦ rose-before p q r h (t.out_by_fault was yet)
+    | inr not ↦ rose-later p q r l h (u.out_by_fault not is)
   ];
   out_by_failure = λ told was is. refl;
   stays_out = λ e. u.stays_out (t.stays_out e);
@@ -81,7 +64,7 @@ run_on m n f a b c t u = record {
   sectors = u.sectors ∙ t.sectors;
   tells = u.tells ∙ t.tells;
   later = omega (arith, t.later, u.later);
-  cause = rose_before a.faults b.faults c.faults u.later t.cause;
+  cause = rose-before a.faults b.faults c.faults u.later t.cause;
   schedule = moves_on m n f a.faults b.faults c.faults a.schedule b.schedule c.schedule t.later u.later t.schedule u.schedule;
 }
 

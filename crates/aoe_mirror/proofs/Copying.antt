@@ -2,10 +2,11 @@
 use Rattle.std.proofs.Common.{◌≡◌, ◌≤◌, ◌<◌, ◌+◌, ◌-◌, ◌*◌, ◌/◌, ◌⊎◌, ℕ, Bool, true, false, Some, IfSome, IfErr, List, length, take, drop, Result, Ok, Err, is_err, refl, sym, ap, ◌∙◌, subst, inl, inr, arith}
 use Rattle.std.proofs.lemmas.Bool.{OnTrue_at, both_ways, cases_Bool}
 use Rattle.aoe_base.specs.Faults.{Rose}
+use Rattle.aoe_base.proofs.CommonLemmas.{rose-later}
 use Rattle.aoe_disk.specs.State.{Contents, DiskState, HasShape, BothTell, is_loose, sector}
 use Rattle.aoe_disk.specs.Calls.{IsRange, Puts, Settles, Syncs, SyncsTo, Writes, WritesTo}
 use Rattle.aoe_disk.specs.Sectors.{Calms, IsOutside}
-use Rattle.aoe_disk.proofs.Touching.{sector-read, sector-with_piece, settles_kept}
+use Rattle.aoe_disk.proofs.Touching.{calm_refl, sector-read, sector-with_piece, settles_kept}
 use Rattle.std.proofs.lemmas.List.{length-replicate}
 use Rattle.aoe_mirror.specs.Marks.{IsFirstRun, count_of, with_each}
 use Rattle.aoe_mirror.specs.Sides.{Agree, IsMirror, Pair, both, seen, shown}
@@ -13,8 +14,8 @@ use Rattle.aoe_mirror.specs.Calls.{Answer, Blames, Copied, Copies, CopiesRun, Fo
 use Rattle.aoe_mirror.proofs.Bits.{count_cleared, length-with_each, with_each_inside, with_each_outside}
 use Rattle.aoe_mirror.proofs.Told.{and_if, both_if, if_any, told_both, told_if, told_map, told_mono, told_same, told_tells, told_then, told_with}
 use Rattle.aoe_mirror.proofs.Whole.{Beside, Fit, beside_refl, cases_range, length-loose_of, loose_at, puts_beside, seen_at}
-use Rattle.aoe_mirror.proofs.Quiet.{calm_by, calm_refl, in_from, parts_in, settled_by}
-use Rattle.aoe_mirror.proofs.Steps.{Holds, counts_same, follower_same, rose_from, holds_of, lead_same, rose_part, run_shown}
+use Rattle.aoe_mirror.proofs.Quiet.{calm_by, in_from, parts_in, settled_by}
+use Rattle.aoe_mirror.proofs.Steps.{Holds, counts_same, follower_same, holds_of, lead_same, rose_part, run_shown}
 use Rattle.aoe_mirror.proofs.Reading.{ok_given}
 use Rattle.aoe_mirror.proofs.Syncing.{blame_follower, blame_lead}
 use Rattle.aoe_mirror.proofs.Writing.{beside_by, put_by}
@@ -286,7 +287,7 @@ module _ {T : Type 0} (old : Pair) (m : IsMirror old) (at n : ℕ) (run : IsFirs
 
   synced_fell : (w : WritesCopy at c.piece result (record old { lead = c.looked }) mid) (reply : Answer) → SyncsTo reply w.written mid.follower
       → is_err reply ≡ true → Rose old.follower.faults mid.follower.faults
-  synced_fell w reply s bad = rose_from old.follower.faults w.written.faults mid.follower.faults w.write.call.later s.call.later (OnTrue_at bad s.call.cause)
+  synced_fell w reply s bad = rose-later old.follower.faults w.written.faults mid.follower.faults w.write.call.later s.call.later (OnTrue_at bad s.call.cause)
 
   write_touched : (w : WritesCopy at c.piece result (record old { lead = c.looked }) mid) → BothTell (Touched at n) old.follower.contents w.written.contents
   write_touched w = told_mono (Beside at n) (Touched at n) old.follower.contents w.written.contents (beside_written w.answer w.written w.write)

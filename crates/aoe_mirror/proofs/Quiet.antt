@@ -21,9 +21,6 @@ pub settled_by : (r : Answer) (a b : Contents) → is_err r ≡ false → Syncs 
 settled_by (Ok v) a b ok s = s
 settled_by (Err e) a b ok s = cc
 
-pub calm_refl : (a : Contents) → Calms a a
-calm_refl a = record { bytes = refl; marks = refl; kept = λ s e. e }
-
 pub calm_then : (a b c : Contents) → Calms a b → Calms b c → Calms a c
 calm_then a b c t u = record { bytes = u.bytes ∙ t.bytes; marks = u.marks ∙ t.marks; kept = λ s e. u.kept s (t.kept s e) }
 

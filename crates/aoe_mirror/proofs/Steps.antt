@@ -1,6 +1,6 @@
 -- A mirror as a store, and whose faults are whose.
-use Rattle.std.proofs.Common.{◌≡◌, ◌≤◌, ◌<◌, ◌+◌, ◌-◌, ◌^◌, ℕ, Bool, true, false, Option, Some, None, IfSome, is_some, option_map, List, Result, is_err, refl, sym, ap, ◌∙◌, subst, inl, inr, arith, eq-eqb, ne_eqb}
-use Rattle.std.proofs.lemmas.Bool.{OnTrue_from, cases_eq, cases_lt}
+use Rattle.std.proofs.Common.{◌≡◌, ◌≤◌, ◌<◌, ◌+◌, ◌-◌, ℕ, Bool, true, false, Option, Some, None, IfSome, is_some, option_map, List, Result, is_err, refl, sym, ap, ◌∙◌, subst, inl, inr, arith, eq-eqb, ne_eqb}
+use Rattle.std.proofs.lemmas.Bool.{OnTrue_from, cases_eq}
 use Rattle.aoe_base.specs.Faults.{Rose}
 use Rattle.aoe_disk.specs.State.{Contents, HasShape, IsDisk, BothTell}
 use Rattle.aoe_disk.specs.Calls.{IsRun, Syncs, SyncsTo}
@@ -40,12 +40,6 @@ shown_disk p m = record {
 -- one count of a sum rose
 pub rose_part : (x x' s s' : ℕ) → Rose x x' → x ≤ s → s + x' ≤ s' + x → Rose s s'
 rose_part x x' s s' rose le more = λ low. let h : x < x' = rose (omega arith) in omega arith
-
-pub rose_from : (a b c : ℕ) → a ≤ b → b ≤ c → Rose b c → Rose a c
-rose_from a b c l m rose = λ low. elim (cases_lt b (2 ^ 64 - 1)) [
-  | inl below ↦ let h : b < c = rose below in omega arith
-  | inr full ↦ omega arith
-]
 
 -- the sides as they were
 pub lead_same : (old new : Pair) → new.side ≡ old.side → Rose old.lead.faults new.lead.faults → LeadFailed old new

@@ -4,18 +4,19 @@ use Rattle.std.specs.Result.{IsErrAnd}
 use Rattle.std.proofs.lemmas.Bool.{OnTrue_at, both_ways, cases_Bool, cases_lt}
 use Rattle.std.proofs.lemmas.List.{get_or-replicate, length-replicate}
 use Rattle.aoe_base.specs.Faults.{Rose}
+use Rattle.aoe_base.proofs.CommonLemmas.{rose-later}
 use Rattle.aoe_disk.specs.State.{Contents, DiskState, HasShape, IsDisk, BothTell, is_loose}
 use Rattle.aoe_disk.specs.Calls.{Syncs, SyncsTo}
 use Rattle.aoe_disk.specs.Sectors.{Calms}
-use Rattle.aoe_disk.proofs.Touching.{settles_calm, settles_kept}
+use Rattle.aoe_disk.proofs.Touching.{calm_refl, settles_calm, settles_kept}
 use Rattle.aoe_mirror.specs.Marks.{count_of}
 use Rattle.aoe_mirror.specs.Sides.{Agree, IsMirror, Pair, both, disk_of, seen, shown, turned}
 use Rattle.aoe_mirror.specs.Calls.{Answer, Blames, Copies, Counts, DiskFailed, FollowerFailed, FollowerSyncs, Later, LeadFailed, Leads, MarkFailed, MirrorSyncs, SettlesLead, StaysLead, TakesLead}
 use Rattle.aoe_mirror.proofs.Told.{and_if, both_if, if_any, map_if, told_both, told_ends, told_if, told_map, told_mono, told_same, told_then, told_to}
 use Rattle.aoe_mirror.proofs.Bits.{with_each_inside, with_each_outside}
 use Rattle.aoe_mirror.proofs.Whole.{Fit, cases_range}
-use Rattle.aoe_mirror.proofs.Quiet.{Grows, agree_calm, calm_by, calm_may, calm_refl, calm_settles, calm_then, grows_all, grows_if, grows_refl, none_seen, seen_calm, settled_by}
-use Rattle.aoe_mirror.proofs.Steps.{Holds, counts_moved, counts_same, counts_then, fit_of, follower_later, lead_later, settled_counts, follower_moved, follower_same, holds_of, lead_moved, lead_same, rose_from, rose_part, settled_faults, settled_mirror, settled_sectors, settled_shown, settled_side, settled_stale, shown_if, synced, turned_mirror, turned_shown}
+use Rattle.aoe_mirror.proofs.Quiet.{Grows, agree_calm, calm_by, calm_may, calm_settles, calm_then, grows_all, grows_if, grows_refl, none_seen, seen_calm, settled_by}
+use Rattle.aoe_mirror.proofs.Steps.{Holds, counts_moved, counts_same, counts_then, fit_of, follower_later, lead_later, settled_counts, follower_moved, follower_same, holds_of, lead_moved, lead_same, rose_part, settled_faults, settled_mirror, settled_sectors, settled_shown, settled_side, settled_stale, shown_if, synced, turned_mirror, turned_shown}
 
 abbrev pub Quiet : Contents → Type 0
 Quiet c = (s : ℕ) → is_loose c.loose s ≡ false
@@ -369,12 +370,12 @@ pub settled_syncs : {T E : Type 0} (result : Result T E) (old mid new : Pair) (m
     → MirrorSyncs result old new
 settled_syncs result old mid new m s syncs =
     let w : MirrorSyncs result (record old { mark = mid.mark; settled = mid.settled }) new = subst (λ (p : Pair). MirrorSyncs result p new) s.is syncs in
-    let mark : MarkFailed mid new → MarkFailed old new = rose_from old.mark.faults mid.mark.faults new.mark.faults s.mark.later w.keeps.later in
+    let mark : MarkFailed mid new → MarkFailed old new = rose-later old.mark.faults mid.mark.faults new.mark.faults s.mark.later w.keeps.later in
     let later : (shown old).faults ≤ (shown new).faults = let c = w.syncs.call.later in omega (arith, c, s.mark.later) in
     record {
       mirror = w.mirror;
       syncs = synced old new m w.mirror w.syncs.call.sectors later result w.syncs.contents
-          (λ bad. rose_from (shown old).faults (old.lead.faults + old.follower.faults + mid.mark.faults) (shown new).faults
+          (λ bad. rose-later (shown old).faults (old.lead.faults + old.follower.faults + mid.mark.faults) (shown new).faults
           (omega (arith, s.mark.later)) w.syncs.call.later (OnTrue_at bad w.syncs.call.cause));
       keeps = record { later = omega (arith, s.mark.later, w.keeps.later); stale = w.keeps.stale; lead = w.keeps.lead };
       counts = counts_then old mid new (settled_counts false old mid s) syncs.counts;
@@ -389,7 +390,7 @@ settled_syncs result old mid new m s syncs =
 
 pub blames_then : (failed : Option ℕ) (old mid new : Pair) → Counts old mid → Counts mid new → Blames failed mid new → Blames failed old new
 blames_then None old mid new a b h = tt
-blames_then (Some k) old mid new a b h = (h.0, rose_from (disk_of old k).faults (disk_of mid k).faults (disk_of new k).faults (a k h.0) (b k h.0) h.1)
+blames_then (Some k) old mid new a b h = (h.0, rose-later (disk_of old k).faults (disk_of mid k).faults (disk_of new k).faults (a k h.0) (b k h.0) h.1)
 
 pub blames_before : (failed : Option ℕ) (old mid new : Pair) → Counts mid new → Blames failed old mid → Blames failed old new
 blames_before None old mid new b h = tt

@@ -2,6 +2,7 @@
 use Rattle.std.proofs.Common.{◌≡◌, ◌≤◌, ◌<◌, ◌+◌, ◌-◌, ◌*◌, ◌/◌, ◌⊎◌, ℕ, Bool, true, false, None, List, length, Result, Ok, Err, is_err, refl, sym, ap, ◌∙◌, subst, inl, inr, arith}
 use Rattle.std.proofs.lemmas.Bool.{OnTrue_at, both_ways}
 use Rattle.aoe_base.specs.Faults.{Rose}
+use Rattle.aoe_base.proofs.CommonLemmas.{rose-later}
 use Rattle.aoe_disk.specs.State.{Contents, DiskState, HasShape, BothTell, is_loose, sector, with_marks}
 use Rattle.aoe_disk.specs.Calls.{IsRange, Puts, Spoils, Writes, WritesTo}
 use Rattle.aoe_disk.proofs.Pieces.{with_piece_outside}
@@ -13,7 +14,7 @@ use Rattle.aoe_mirror.specs.Calls.{Answer, FollowerFailed, LeadFailed, MarkFaile
 use Rattle.aoe_mirror.proofs.Bits.{length-with_each, with_each_inside, with_each_outside}
 use Rattle.aoe_mirror.proofs.Told.{told_both, told_if, told_map, told_mono, told_same, told_with}
 use Rattle.aoe_mirror.proofs.Whole.{Beside, Fit, agree_written, beside_refl, cases_range, loose_written, puts_beside, same_marks_each, same_piece, seen_shape, spoils_beside}
-use Rattle.aoe_mirror.proofs.Steps.{Holds, counts_moved, counts_same, counts_then, settled_counts, shown_if, turned_mirror, turned_shown, follower_same, holds_of, lead_moved, lead_same, rose_from, rose_part, settled_faults, settled_mirror, settled_sectors, settled_shown, settled_side, settled_stale, stored}
+use Rattle.aoe_mirror.proofs.Steps.{Holds, counts_moved, counts_same, counts_then, settled_counts, shown_if, turned_mirror, turned_shown, follower_same, holds_of, lead_moved, lead_same, rose_part, settled_faults, settled_mirror, settled_sectors, settled_shown, settled_side, settled_stale, stored}
 
 -- a write by its answer
 
@@ -338,12 +339,12 @@ module _ {T E : Type 0} (at : ℕ) (piece : List ℕ) (result : Result T E) (old
       let faults = settled_faults false old mid s in
       let w : MirrorWrites at piece result (record old { mark = mid.mark; settled = mid.settled }) new =
       subst (λ (p : Pair). MirrorWrites at piece result p new) s.is writes in
-      let mark : MarkFailed mid new → MarkFailed old new = rose_from old.mark.faults mid.mark.faults new.mark.faults s.mark.later w.keeps.later in
+      let mark : MarkFailed mid new → MarkFailed old new = rose-later old.mark.faults mid.mark.faults new.mark.faults s.mark.later w.keeps.later in
       let later : (shown old).faults ≤ (shown new).faults = let c = w.stores.call.later in omega (arith, c, s.mark.later) in
       record {
         mirror = w.mirror;
         stores = stored old new m w.mirror w.stores.call.sectors later at piece result w.stores.contents
-            (λ bad. rose_from (shown old).faults (old.lead.faults + old.follower.faults + mid.mark.faults) (shown new).faults
+            (λ bad. rose-later (shown old).faults (old.lead.faults + old.follower.faults + mid.mark.faults) (shown new).faults
             (omega (arith, s.mark.later)) w.stores.call.later (OnTrue_at bad w.stores.call.cause));
         keeps = record { later = omega (arith, s.mark.later, w.keeps.later); stale = w.keeps.stale; lead = w.keeps.lead };
         counts = counts_then old mid new (settled_counts false old mid s) writes.counts;

@@ -4,7 +4,7 @@ use Rattle.std.specs.Prelude.{position, slice_get, unwrap_or, Contains}
 use Rattle.std.specs.List.{prefix_len, position_or_len}
 use Rattle.std.proofs.lemmas.List.{length-append, length-drop, length-map, length-take-le, get_or_append_left, get_or-append_right, get_or-drop, get_or-take, map-append, take-map}
 use Rattle.std.proofs.lemmas.List.Sums.{fails_before_first, passes_at_first}
-use Rattle.std.proofs.lemmas.Bool.{cases_lt, lt-ltb}
+use Rattle.std.proofs.lemmas.Bool.{cases_lt, lt-ltb, not-true}
 use Rattle.std.proofs.lemmas.Nat.{mod-mul-add}
 use Rattle.std.proofs.lemmas.Option.{slice_get-get_or}
 use Rattle.std.proofs.Math.Nat.{mod-eq_of_lt}
@@ -61,10 +61,6 @@ get-in_turn start i marks d inside below =
           rw same (get_or-append_right (drop start marks) (take start marks) (length marks - start) i d dropped back
           ∙ get_or-take start marks (i - (length marks - start)) d before ∙ ap (λ (k : ℕ). get_or marks k d) here)
     ]
-
-not-true : (b : Bool) → not b ≡ true → b ≡ false
-not-true true is = sym is
-not-true false is = refl
 
 length-in_turn : (start : ℕ) (marks : List Bool) → start < length marks → length (in_turn start marks) ≡ length marks
 length-in_turn start marks inside =

@@ -1,7 +1,7 @@
 -- The words of a line, one after the other.
 use Rattle.std.proofs.Common.{◌≡◌, ◌+◌, ◌-◌, ◌<◌, ◌≤◌, ◌==◌, ℕ, suc, Bool, true, false, cond, not, List, [], ◌∷◌, ◌++◌, length, take, drop, nat_lt, filter, refl, sym, ap, ◌∙◌, arith, length-take, length-drop}
 use Rattle.std.specs.List.{slice_split, onto_first, position_or_len}
-use Rattle.std.proofs.lemmas.List.{append-nil, take_all}
+use Rattle.std.proofs.lemmas.List.{append-nil, take_all, nil_from_length}
 use Rattle.std.proofs.lemmas.Bool.{eqb-true, lt-ltb}
 use Rattle.std.proofs.Math.Seq.{take-append_seam}
 use Rattle.aoe_script.proofs.SplitLemmas.{cut, position_or_len-le}
@@ -83,11 +83,7 @@ module _ (line rest behind : List ℕ) (start end : ℕ) (start_is : start ≡ p
 pub none_is : (line rest : List ℕ) (start : ℕ) → start ≡ position_or_len (λ c. not (c == 32)) line → rest ≡ drop start line → (length rest == 0) ≡ true
     → words line ≡ []
 none_is line rest start start_is rest_is none =
-    past_spaces line ∙ ap words (sym (rest_is ∙ ap (λ i. drop i line) start_is) ∙ empty rest (eqb-true (length rest) 0 none)) ∙ no_words
-  where
-    empty : (xs : List ℕ) → length xs ≡ 0 → xs ≡ []
-    empty [] h = refl
-    empty (x ∷ xs) h = absurd (omega (arith, h))
+    past_spaces line ∙ ap words (sym (rest_is ∙ ap (λ i. drop i line) start_is) ∙ nil_from_length rest (eqb-true (length rest) 0 none)) ∙ no_words
 
 -- a list that has room for no more words, and one to which no more come
 pub full_list : (line : List ℕ) (list rest : List (List ℕ)) → words line ≡ list ++ rest → length list ≡ 7 → list ≡ few_words line

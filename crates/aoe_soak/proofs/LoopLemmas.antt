@@ -1,23 +1,18 @@
 -- The commands one after the other, and how many lines they have.
-use Rattle.std.proofs.Common.{◌≡◌, ◌∙◌, ◌+◌, ◌*◌, ◌/◌, ◌%◌, ◌≢◌, ℕ, zero, suc, Bool, true, false, List, [], ◌∷◌, ◌++◌, length, nat_lt, refl, sym, ap, arith, append-nil, length-append}
+use Rattle.std.proofs.Common.{◌≡◌, ◌∙◌, ◌+◌, ◌*◌, ◌/◌, ◌%◌, ◌≢◌, ℕ, suc, Bool, true, false, List, [], ◌∷◌, ◌++◌, length, nat_lt, refl, sym, ap, arith, append-nil, length-append}
 use Rattle.std.specs.Prelude.{◌==◌, if◌then◌else◌}
 use Rattle.std.specs.List.{flat_map, range_with_len}
 use Rattle.std.proofs.lemmas.Bool.Decides.{nat_tests}
 use Rattle.std.proofs.lemmas.Grind.{flat_map-append}
+use Rattle.aoe_base.proofs.CommonLemmas.{range-more}
 use Rattle.aoe_script.specs.declared.event.Event.{Event}
 use Rattle.aoe_script.specs.Lines.{ScriptLines}
 use Rattle.aoe_soak.specs.Adds.{with_events}
 use Rattle.aoe_soak.specs.Soak.{before, command, commands, following, stations}
 
-range_more : (a n : ℕ) → range_with_len a (suc n) ≡ range_with_len a n ++ (a + n) ∷ []
-range_more a zero = ap (λ x. x ∷ []) (let e : a ≡ a + 0 = omega arith in e)
-range_more a (suc n) =
-    let e : a + 1 + n ≡ a + suc n = omega arith in
-    ap (λ t. a ∷ t) (range_more (a + 1) n ∙ ap (λ x. range_with_len (a + 1) n ++ x ∷ []) e)
-
 commands_more : (seed count i : ℕ) → commands seed count (suc i) ≡ commands seed count i ++ command seed count i
 commands_more seed count i =
-    ap (flat_map (command seed count)) (range_more 0 i ∙ ap (λ x. range_with_len 0 i ++ x ∷ []) (let e : 0 + i ≡ i = omega arith in e))
+    ap (flat_map (command seed count)) (range-more 0 i ∙ ap (λ x. range_with_len 0 i ++ x ∷ []) (let e : 0 + i ≡ i = omega arith in e))
     ∙ flat_map-append (command seed count) (range_with_len 0 i) (i ∷ [])
     ∙ ap (λ t. commands seed count i ++ t) (append-nil (command seed count i))
 

@@ -1,10 +1,9 @@
 -- When a keep is refused, and when its disk is said to have failed.
-use Rattle.std.proofs.Common.{◌≡◌, ◌≢◌, ◌≤◌, ◌<◌, ◌^◌, ◌-◌, ◌↔◌, ◌∙◌, ℕ, true, Option, Some, None, IfSome, Result, Ok, Err, ap, arith, inl, inr, refl, sym}
-use Rattle.std.proofs.lemmas.Bool.{cases_lt}
+use Rattle.std.proofs.Common.{◌≡◌, ◌≢◌, ◌≤◌, ◌-◌, ◌↔◌, ◌∙◌, ℕ, true, Option, Some, None, IfSome, Result, Ok, Err, ap, arith, refl, sym}
 use Rattle.aoe_base.specs.Faults.{Rose}
-use Rattle.aoe_disk.specs.State.{Contents, DiskState, BothTell}
-use Rattle.aoe_disk.specs.Calls.{Settles}
+use Rattle.aoe_disk.specs.State.{Contents, DiskState}
 use Rattle.aoe_keep.specs.Found.{found}
+use Rattle.aoe_keep.proofs.MountLemmas.{room-for-slots, told-found}
 use Rattle.aoe_keep.specs.Keep.{IsRefused, Mounts}
 use Rattle.aoe_keep.specs.declared.refusal.MountRefusal.{MountRefusal}
 use Rattle.aoe_keep.specs.declared.refusal.MountRefusal.TheVariants as refusal
@@ -13,23 +12,9 @@ use Rattle.aoe_upkeep.specs.Upkeep.{IsCaused, is_disk_fault}
 use Rattle.aoe_upkeep.specs.declared.stop.UpkeepStop.{UpkeepStop}
 use Rattle.aoe_upkeep.specs.declared.stop.UpkeepStop.TheVariants as stop
 
--- a count that rose after it was counted
-pub rose-then : (a m b : ℕ) → a ≤ m → m ≤ b → Rose m b → Rose a b
-rose-then a m b before later rose few =
-    elim (cases_lt m (2 ^ 64 - 1)) [
-      | inl below ↦ let more : m < b = rose below in omega (arith, before, more)
-      | inr above ↦ omega (arith, above, later, few)
-    ]
-
 -- a keep that wasn't mounted
 abbrev kept-out : MountRefusal → Result Unit UpkeepStop
 kept-out r = Err (stop.Keep r)
-
--- what the disk told of its slots
-told-found : (r : Result Settings ℕ) (a b : Option Contents) → BothTell (λ x y. (found x.bytes ≡ r) × Settles x y) a b → IfSome a (λ c. found c.bytes ≡ r)
-told-found r None b told = tt
-told-found r (Some x) None told = absurd told
-told-found r (Some x) (Some y) told = told.0
 
 -- of an answer that isn't a bad slot's
 not-bad : (ended : Result Unit UpkeepStop) (P : Type 0) (slot : ℕ) (a : Option Contents)
@@ -38,10 +23,6 @@ not-bad : (ended : Result Unit UpkeepStop) (P : Type 0) (slot : ℕ) (a : Option
     → IfSome a (λ c. (ended ≡ Err (stop.Keep (refusal.BadKeep slot))) ↔ (P × (found c.bytes ≡ Err slot) × (ended ≢ Err (stop.Keep refusal.Failed))))
 not-bad ended P slot None not never = tt
 not-bad ended P slot (Some c) not never = (λ e. absurd (not e), λ x. absurd (never x.0 x.1))
-
--- the sectors of a disk that was mounted
-enough : (before after : DiskState) (lists : Settings) → Mounts before after lists → 16 ≤ before.sectors
-enough before after lists m = omega (arith, m.room, m.run.run.sectors)
 
 -- lists that stand are no bad slot
 no-bad : (lists : Settings) (slot : ℕ) (P : Type 0) (a : Option Contents) → IfSome a (λ c. found c.bytes ≡ Ok lists)
@@ -55,7 +36,7 @@ module _ {D : Type 0} (state : D → DiskState) (disk disk' : D) where
       → ((r : MountRefusal) → ended ≡ Err (stop.Keep r) → ⊥) → (is_disk_fault ended ≡ true → Rose (state disk).faults (state disk').faults)
       → IsCaused state ended disk disk'
   mounted-causes ended m lists mounts inside failed = record {
-    small = λ sectors. (λ e. absurd (inside (refusal.TooSmall sectors) e), λ x. absurd (omega (arith, x.0, x.1, enough (state disk) m lists mounts)));
+    small = λ sectors. (λ e. absurd (inside (refusal.TooSmall sectors) e), λ x. absurd (omega (arith, x.0, x.1, room-for-slots (state disk) m lists mounts)));
     bad = λ slot. not-bad ended (16 ≤ (state disk).sectors) slot (state disk).contents (inside (refusal.BadKeep slot))
         (no-bad lists slot (16 ≤ (state disk).sectors) (state disk).contents (told-found (Ok lists) (state disk).contents m.contents mounts.stands));
     failed = failed;

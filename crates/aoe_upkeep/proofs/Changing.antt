@@ -3,6 +3,7 @@ use Rattle.std.proofs.Common.{◌≡◌, ◌⊎◌, ℕ, Bool, true, false, if�
 use Rattle.std.proofs.Math.Bool.{beq}
 use Rattle.aoe_base.specs.Faults.{Rose}
 use Rattle.aoe_base.specs.declared.failure.Failed.{Failed}
+use Rattle.aoe_base.proofs.CommonLemmas.{rose-later}
 use Rattle.aoe_disk.specs.State.{Contents, DiskState, BothTell}
 use Rattle.aoe_disk.specs.Calls.{IsRun}
 use Rattle.aoe_disk.specs.Sectors.{Touches}
@@ -15,7 +16,7 @@ use Rattle.aoe_lists.specs.Settings.{Settings}
 use Rattle.aoe_upkeep.specs.Upkeep.{Change, Changed, Changes, Holds, IsCaused, Says, Shows, ended_by, is_disk_fault, line, marked, marking}
 use Rattle.aoe_upkeep.specs.declared.stop.UpkeepStop.{UpkeepStop}
 use Rattle.aoe_upkeep.specs.declared.stop.UpkeepStop.TheVariants as stop
-use Rattle.aoe_upkeep.proofs.Causes.{mounted-causes, rose-then}
+use Rattle.aoe_upkeep.proofs.Causes.{mounted-causes}
 
 -- the format that stands where the lists do
 stands-so : (place : Option Place) (is_closed : Bool) (a : Option Contents) → IfSome a (λ c. placement (slot c.bytes 0) (slot c.bytes 1) ≡ (place, is_closed))
@@ -156,7 +157,7 @@ module _ {D : Type 0} (state : D → DiskState) (change : Change) (Still : Type 
     rose-in (Ok done) same run e = absurd cc
     rose-in (Err failed) same run e = elim decide [
       | inl still ↦ absurd (let no : true ≡ false = (same still).1 in cc)
-      | inr not ↦ let r = run not in rose-then (state disk).faults (state old.disk).faults (state new.disk).faults holds.mounts.run.run.later r.later r.cause
+      | inr not ↦ let r = run not in rose-later (state disk).faults (state old.disk).faults (state new.disk).faults holds.mounts.run.run.later r.later r.cause
     ]
 
     pub causes-of : (w : Result Unit Failed) → (Still → (new ≡ old) × (is_err w ≡ false))

@@ -1,9 +1,10 @@
 -- The ports of a VLAN.
-use Rattle.std.proofs.Common.{◌≡◌, ◌≤◌, ◌+◌, nat_eq, subst, inl, inr, cond, ℕ, zero, suc, Bool, true, false, List, [], ◌∷◌, ◌++◌, filter, sym, ap, ◌∙◌, add-one, append-nil, arith}
+use Rattle.std.proofs.Common.{◌≡◌, ◌≤◌, ◌+◌, nat_eq, subst, inl, inr, cond, ℕ, Bool, true, false, List, [], ◌∷◌, ◌++◌, filter, sym, ap, ◌∙◌, add-one, append-nil, arith}
 use Rattle.std.specs.Prelude.{All}
 use Rattle.std.specs.List.{list_all, list_any, range_with_len}
 use Rattle.std.proofs.lemmas.Bool.{and_parts, eqb-true, leb-true, or_cases}
 use Rattle.std.proofs.lemmas.List.Elements.{All-cons, All-nil, filter-append}
+use Rattle.aoe_base.proofs.CommonLemmas.{range-more}
 use Rattle.aoe_vlan.specs.Tag.{IsNumbered, is_numbered, is_vid}
 use Rattle.aoe_vlan.specs.declared.port.PortKind.TheVariants.{Access, Trunk}
 use Rattle.aoe_vlan.specs.Switched.{is_other}
@@ -12,13 +13,6 @@ use Rattle.aoe_vlan.specs.declared.port.PortKind.{PortKind}
 -- those below a number
 abbrev pub others-below : List PortKind → ℕ → ℕ → ℕ → List ℕ
 others-below ports vid port n = filter (is_other ports vid port) (range_with_len 0 n)
-
-range-more : (a n : ℕ) → range_with_len a (suc n) ≡ range_with_len a n ++ (a + n) ∷ []
-range-more a zero = (λ i. omega-zero i ∷ [])
-  where
-    omega-zero : a ≡ a + 0
-    omega-zero = omega arith
-range-more a (suc n) = ap (λ (l : List ℕ). a ∷ l) (range-more (a + 1) n ∙ ap (λ (m : ℕ). range_with_len (a + 1) n ++ m ∷ []) (omega arith))
 
 pub others-more : (ports : List PortKind) (vid port n : ℕ)
     → others-below ports vid port (n + 1) ≡ others-below ports vid port n ++ cond (is_other ports vid port n) (n ∷ []) []
