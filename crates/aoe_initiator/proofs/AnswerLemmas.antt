@@ -205,12 +205,21 @@ not-from-at host log frame h t at from c m is few f found out says =
         absurd (omega (arith, get-past host.pending at missing, placed-inside (λ (q : Pending). nat_eq q.ticket.0 t.0) host.pending at found))
     by_place (Some p) there says_so = not-from host log frame h p c (flyer-pending host log h.tag at t c p m f found there) is (sym says_so ∙ out)
 
-pub none-says : (host : Host) (log : List Event) (frame : List ℕ) (h : Header) (t : Ticket) (at : ℕ) (p : Pending) (c : HostCommand) → Matches log host
-    → head frame ≡ Some h → tag_count host.flight.commands h.tag ≤ 1 → IsFlyer (commands log) h.tag t c
-    → place t host.pending ≡ Some at → slice_get host.pending at ≡ Some p → answer p.op h (drop 24 frame) ≡ None
-    → All (λ x. answer_to host x frame ≡ None) (commands log)
-none-says host log frame h t at p c m is few f found there none =
-    none-answered host log frame h t c m is few f (no-answer host log frame h p c (flyer-pending host log h.tag at t c p m f found there) is none)
+-- a frame with the tag of a command that is pending at a place
+pub record HasFlyer (host : Host) (log : List Event) (frame : List ℕ) (h : Header) (t : Ticket) (at : ℕ) (p : Pending) (c : HostCommand) : Type 0 where
+  pub matches : Matches log host
+  pub read : head frame ≡ Some h
+  pub flies : IsFlyer (commands log) h.tag t c
+  pub found : place t host.pending ≡ Some at
+  pub there : slice_get host.pending at ≡ Some p
+
+module _ {host : Host} {log : List Event} {frame : List ℕ} {h : Header} {t : Ticket} {at : ℕ} {p : Pending} {c : HostCommand}
+    (x : HasFlyer host log frame h t at p c) where
+  its-pending : IsPending (commands log) p c
+  its-pending = flyer-pending host log h.tag at t c p x.matches x.flies x.found x.there
+
+  pub none-says : tag_count host.flight.commands h.tag ≤ 1 → answer p.op h (drop 24 frame) ≡ None → All (λ y. answer_to host y frame ≡ None) (commands log)
+  none-says few none = none-answered host log frame h t c x.matches x.read few x.flies (no-answer host log frame h p c its-pending x.read none)
 
 -- ---- the path of a response
 
@@ -220,16 +229,19 @@ from-device (Some d) op h is =
     let outer = and_parts (holds d.about.remotes.items h.src && same_id h.id d.about.id) (nat_eq h.command (command_of op)) is in
     (d, refl, (and_parts (holds d.about.remotes.items h.src) (same_id h.id d.about.id) outer.0).0)
 
--- the pair of a response's ports is that of a path
-pub no-path : (host : Host) (log : List Event) (h : Header) (at : ℕ) (p : Pending) (from : Bool) → Matches log host → slice_get host.pending at ≡ Some p
-    → is_response_to host h ≡ true → from ≡ true
+-- what was found of the sender of the command at a place
+pub from-there : (host : Host) (h : Header) (at : ℕ) {p : Pending} {from : Bool} → slice_get host.pending at ≡ Some p → from ≡ true
     → IfSome (slice_get host.pending at) (λ q. from ≡ is_from (slice_get host.devices q.device.0) q.op h)
+    → is_from (slice_get host.devices p.device.0) p.op h ≡ true
+from-there host h at there is_true says = sym (rw there at says) ∙ is_true
+
+-- the pair of a response's ports is that of a path
+pub no-path : (host : Host) (log : List Event) (h : Header) (at : ℕ) (p : Pending) → Matches log host → slice_get host.pending at ≡ Some p
+    → is_response_to host h ≡ true → is_from (slice_get host.devices p.device.0) p.op h ≡ true
     → IfSome (slice_get host.pending at) (λ q. IfSome (slice_get host.devices q.device.0) (λ d. (n : ℕ) → pair_of d.paths n ≢ Some (h.dst, h.src)))
     → {P : Type 0} → P
-no-path host log h at p from m there hears is_true says none =
-    let F : Option Pending → Type 0 = λ o. IfSome o (λ q. from ≡ is_from (slice_get host.devices q.device.0) q.op h) in
-    let here : is_from (slice_get host.devices p.device.0) p.op h ≡ true = sym (subst F there says) ∙ is_true in
-    let d = from-device (slice_get host.devices p.device.0) p.op h here in
+no-path host log h at p m there hears from none =
+    let d = from-device (slice_get host.devices p.device.0) p.op h from in
     let N : Option Pending → Type 0 =
     λ o. IfSome o (λ q. IfSome (slice_get host.devices q.device.0) (λ e. (n : ℕ) → pair_of e.paths n ≢ Some (h.dst, h.src))) in
     let M : Option Device → Type 0 = λ o. IfSome o (λ e. (n : ℕ) → pair_of e.paths n ≢ Some (h.dst, h.src)) in
@@ -242,42 +254,37 @@ no-path host log h at p from m there hears is_true says none =
     absurd (never_so (local.0 * length d.0.paths.remotes + remote.0)
     (pair-of-number d.0.paths local.0 remote.0 _ h.dst h.src refl (subst L (sym has.locals) local.1) (subst R (sym has.remotes) remote.1)))
 
-came-on : (host : Host) (log : List Event) (frame : List ℕ) (h : Header) (p : Pending) (c : HostCommand) (path : PathNo) → Matches log host
-    → IsPending (commands log) p c → head frame ≡ Some h → is_from (slice_get host.devices p.device.0) p.op h ≡ true
-    → IfSome (slice_get host.devices p.device.0) (λ d. pair_of d.paths path.0 ≡ Some (h.dst, h.src)) → CameOn host c frame path
-came-on host log frame h p c path m pending is from on =
-    let d = from-device (slice_get host.devices p.device.0) p.op h from in
-    let has = has-paths host log p.device.0 d.0 m d.1 in
-    let pair = rw d.1 at on in
-    record {
-      header = h;
-      read = is;
-      device = d.0;
-      there = rw pending.device d.1;
-      pair = rw (← has.locals, ← has.remotes) pair;
-    }
+module _ {host : Host} {log : List Event} {frame : List ℕ} {h : Header} {t : Ticket} {at : ℕ} {p : Pending} {c : HostCommand}
+    (x : HasFlyer host log frame h t at p c) where
+  came-on : (path : PathNo) → is_from (slice_get host.devices p.device.0) p.op h ≡ true
+      → IfSome (slice_get host.devices p.device.0) (λ d. pair_of d.paths path.0 ≡ Some (h.dst, h.src)) → CameOn host c frame path
+  came-on path from on =
+      let d = from-device (slice_get host.devices p.device.0) p.op h from in
+      let has = has-paths host log p.device.0 d.0 x.matches d.1 in
+      let pair = rw d.1 at on in
+      record {
+        header = h;
+        read = x.read;
+        device = d.0;
+        there = rw (its-pending x).device d.1;
+        pair = rw (← has.locals, ← has.remotes) pair;
+      }
 
--- the command that a frame answers
-pub found-answer : (host : Host) (log : List Event) (frame : List ℕ) (h : Header) (t : Ticket) (at : ℕ) (p : Pending) (c : HostCommand) (path : PathNo)
-    (a : Answer) (from : Bool) → Matches log host → head frame ≡ Some h → IsFlyer (commands log) h.tag t c
-    → place t host.pending ≡ Some at → slice_get host.pending at ≡ Some p → is_response_to host h ≡ true → from ≡ true
-    → IfSome (slice_get host.pending at) (λ q. from ≡ is_from (slice_get host.devices q.device.0) q.op h)
-    → IfSome (slice_get host.pending at) (λ q. IfSome (slice_get host.devices q.device.0) (λ d. pair_of d.paths path.0 ≡ Some (h.dst, h.src)))
-    → answer p.op h (drop 24 frame) ≡ Some a
-    → (x : HostCommand) × Contains (commands log) x × IfSome (slice_get host.pending at) (λ q. q.ticket ≡ x.ticket) × (answer_to host x frame ≡ Some a)
-    × CameOn host x frame path
-found-answer host log frame h t at p c path a from m is f found there hears is_true says on given =
-    let pending = flyer-pending host log h.tag at t c p m f found there in
-    let P : Option Pending → Type 0 = λ o. IfSome o (λ q. from ≡ is_from (slice_get host.devices q.device.0) q.op h) in
-    let here : is_from (slice_get host.devices p.device.0) p.op h ≡ true = sym (subst P there says) ∙ is_true in
-    let Q : Option Pending → Type 0 = λ o. IfSome o (λ q. q.ticket ≡ c.ticket) in
-    let O : Option Pending → Type 0 = λ o. IfSome o (λ q. IfSome (slice_get host.devices q.device.0) (λ d. pair_of d.paths path.0 ≡ Some (h.dst, h.src))) in (
-      c,
-      f.there,
-      subst Q (sym there) (sym pending.ticket),
-      answered-by host log frame h t p c a pending f is hears here given,
-      came-on host log frame h p c path m pending is here (subst O there on),
-    )
+  -- the command that a frame answers
+  pub found-answer : (path : PathNo) (a : Answer) → is_response_to host h ≡ true → is_from (slice_get host.devices p.device.0) p.op h ≡ true
+      → IfSome (slice_get host.pending at) (λ q. IfSome (slice_get host.devices q.device.0) (λ d. pair_of d.paths path.0 ≡ Some (h.dst, h.src)))
+      → answer p.op h (drop 24 frame) ≡ Some a
+      → (y : HostCommand) × Contains (commands log) y × IfSome (slice_get host.pending at) (λ q. q.ticket ≡ y.ticket) × (answer_to host y frame ≡ Some a)
+      × CameOn host y frame path
+  found-answer path a hears from on given =
+      let Q : Option Pending → Type 0 = λ o. IfSome o (λ q. q.ticket ≡ c.ticket) in
+      let O : Option Pending → Type 0 = λ o. IfSome o (λ q. IfSome (slice_get host.devices q.device.0) (λ d. pair_of d.paths path.0 ≡ Some (h.dst, h.src))) in (
+        c,
+        x.flies.there,
+        subst Q (sym x.there) (sym (its-pending x).ticket),
+        answered-by host log frame h t p c a (its-pending x) x.flies x.read hears from given,
+        came-on path from (subst O x.there on),
+      )
 
 -- what flies is found
 pub flies-found : (tag : ℕ) (table : FlightTable) (t : Ticket) → option_map (λ (c : Outstanding). c.ticket) (find (flies_with tag) table.commands) ≡ Some t

@@ -4,6 +4,7 @@ mod DeviceLemmas
 pub mod ListLemmas
 mod LogLemmas
 pub mod MatchLemmas
+pub mod NameLemmas
 mod PathLemmas
 mod PlaceLemmas
 mod RepeatLemmas

@@ -1,16 +1,11 @@
 -- Membership in lists that are mapped and filtered, and elements at a place.
-use Rattle.std.proofs.Common.{ℕ, zero, suc, ◌≡◌, ◌<◌, ◌≤◌, ◌⊎◌, cond, Bool, true, false, List, [], ◌∷◌, length, map, get_or, Option, Some, None, inl, inr, refl, sym, ap, ◌∙◌, arith, nat_lt}
-use Rattle.std.specs.Prelude.{position, slice_get, All, Contains, IfNone}
+use Rattle.std.proofs.Common.{ℕ, zero, suc, ◌≡◌, ◌<◌, ◌≤◌, ◌⊎◌, cond, Bool, true, false, List, [], ◌∷◌, length, map, get_or, Some, None, inl, inr, refl, sym, ap, ◌∙◌, arith, nat_lt}
+use Rattle.std.specs.Prelude.{position, slice_get, Contains}
 use Rattle.std.specs.List.{filter, position_or_len, remove}
 use Rattle.std.proofs.lemmas.Bool.{cases_Bool, cases_lt, lt-ltb, ltb-true}
 use Rattle.std.proofs.lemmas.List.Quantifiers.{position-Some}
 use Rattle.std.proofs.lemmas.List.Sums.{fails_before_first}
 use Rattle.std.proofs.lemmas.Option.{get_or_from_slice_get}
-
--- what holds anyway holds where there is nothing
-pub holds-anyway : {X Q : Type 0} (o : Option X) → Q → IfNone o Q
-holds-anyway None q = q
-holds-anyway (Some x) q = tt
 
 pub Contains-cons : {X : Type 0} (head x : X) (rest : List X) → Contains rest x → Contains (head ∷ rest) x
 Contains-cons head x rest p = (suc p.0, omega (arith, p.1), p.2)
@@ -74,17 +69,6 @@ remove-map f [] zero = refl
 remove-map f [] (suc i) = refl
 remove-map f (x ∷ xs) zero = refl
 remove-map f (x ∷ xs) (suc i) = ap (λ l. f x ∷ l) (remove-map f xs i)
-
-pub All-remove : {X : Type 0} (P : X → Type 0) (xs : List X) (i : ℕ) → i < length xs → All P xs → All P (remove xs i)
-All-remove P [] i inside all = absurd (omega (arith, inside))
-All-remove P (x ∷ xs) zero inside all = λ k d below. all (suc k) d (omega (arith, below))
-All-remove {X} P (x ∷ xs) (suc i) inside all =
-    let rest : All P (remove xs i) = All-remove P xs i (omega (arith, inside)) (λ k d below. all (suc k) d (omega (arith, below))) in
-    by_place rest
-  where
-    by_place : All P (remove xs i) → (k : ℕ) (d : X) → k < length (x ∷ remove xs i) → P (get_or (x ∷ remove xs i) k d)
-    by_place rest zero d below = all 0 d (omega arith)
-    by_place rest (suc k) d below = rest k d (omega (arith, below))
 
 -- what stands at the place that a search gives
 pub placed : {X : Type 0} (p : X → Bool) (xs : List X) (i : ℕ) (x : X) → position p xs ≡ Some i → slice_get xs i ≡ Some x → p x ≡ true

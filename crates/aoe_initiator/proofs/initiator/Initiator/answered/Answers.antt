@@ -9,7 +9,7 @@ use Rattle.aoe_initiator.specs.HostLog.{commands, sent_of}
 use Rattle.aoe_initiator.specs.Op.{data_len}
 use Rattle.aoe_initiator.specs.Response.{answer, CanFill}
 use Rattle.aoe_initiator.specs.Steps.{place}
-use Rattle.aoe_initiator.proofs.AnswerLemmas.{all-untagged, flyer, flyer-placed, flies-found, found-answer, if-none, no-path, none-says, not-from-at}
+use Rattle.aoe_initiator.proofs.AnswerLemmas.{all-untagged, flyer, flyer-placed, flies-found, found-answer, from-there, if-none, no-path, none-says, not-from-at, HasFlyer}
 use Rattle.aoe_initiator.proofs.ListLemmas.{get-there, placed-inside, placed-within}
 use Rattle.aoe_initiator.proofs.initiator.Initiator.answered.Goals as goal
 use Rattle.aoe_initiator.proofs.initiator.Initiator.answered.Goals.{After-index, In_ok-at}
@@ -58,8 +58,9 @@ returns-in_err-path-clause-none c =
     let p = get-there c.self.inside.pending.items c.in_ok-at.at inside in
     let hears : is_response_to c.args.self.now c.in_ok-header.header ≡ true = sym c.hears.ensures ∙ c.if-not-hears.false in
     if-none c.from_residual-in_err-path.result c.args.self.now c.args.frame.now (λ log m.
-    no-path c.args.self.now log c.in_ok-header.header c.in_ok-at.at p.0 c.is_from.result m
-    (rw (← c.self.view_is) p.1) hears c.if-not-is_from.false c.is_from.ensures c.in_err-path.ensures.none)
+    let there : slice_get c.args.self.now.pending c.in_ok-at.at ≡ Some p.0 = rw (← c.self.view_is) p.1 in
+    no-path c.args.self.now log c.in_ok-header.header c.in_ok-at.at p.0 m there hears
+    (from-there c.args.self.now c.in_ok-header.header c.in_ok-at.at there c.if-not-is_from.false c.is_from.ensures) c.in_err-path.ensures.none)
 
 pub returns-in_err-answer-clause-none : goal.returns-in_err-answer-clause-none
 returns-in_err-answer-clause-none c =
@@ -69,9 +70,14 @@ returns-in_err-answer-clause-none c =
     if-none c.from_residual-in_err-answer.result c.args.self.now c.args.frame.now (λ log m.
     let found = flyer (commands log) c.in_ok-header.header.tag c.in_ok-ticket.ticket
     (c.in_ok-ticket.ensures.flying_sent (sent_of (commands log)) (rw (← c.self.view_is) at m.sent)) in
-    none-says c.args.self.now log c.args.frame.now c.in_ok-header.header c.in_ok-ticket.ticket c.in_ok-at.at c.index.result.now found.0 m is
-    (rw (← c.self.view_is) c.in_ok-ticket.ensures.only) found.1
-    (placed (goal.at.returns-in_err-answer-clause-none c).In_ok-at) (read (goal.at.returns-in_err-answer-clause-none c).After-index) none)
+    let flies : HasFlyer c.args.self.now log c.args.frame.now c.in_ok-header.header c.in_ok-ticket.ticket c.in_ok-at.at c.index.result.now found.0 = record {
+      matches = m;
+      read = is;
+      flies = found.1;
+      found = placed (goal.at.returns-in_err-answer-clause-none c).In_ok-at;
+      there = read (goal.at.returns-in_err-answer-clause-none c).After-index;
+    } in
+    none-says flies (rw (← c.self.view_is) c.in_ok-ticket.ensures.only) none)
 
 pub returns-clause-fills : goal.returns-clause-fills
 returns-clause-fills c =
@@ -87,10 +93,16 @@ returns-clause-some c = λ log m.
     let hears : is_response_to c.args.self.now c.in_ok-header.header ≡ true = sym c.hears.ensures ∙ c.if-not-hears.false in
     let found = flyer (commands log) c.in_ok-header.header.tag c.in_ok-ticket.ticket
     (c.in_ok-ticket.ensures.flying_sent (sent_of (commands log)) (rw (← c.self.view_is) at m.sent)) in
-    found-answer c.args.self.now log c.args.frame.now c.in_ok-header.header c.in_ok-ticket.ticket c.in_ok-at.at c.index.result.now found.0 c.in_ok-path.path
-    c.in_ok-answer.answer c.is_from.result m is found.1
-    (placed (goal.at.returns-clause-some c).In_ok-at)
-    (read (goal.at.returns-clause-some c).After-index) hears c.if-not-is_from.false c.is_from.ensures c.in_ok-path.ensures.pair given
+    let there = read (goal.at.returns-clause-some c).After-index in
+    let flies : HasFlyer c.args.self.now log c.args.frame.now c.in_ok-header.header c.in_ok-ticket.ticket c.in_ok-at.at c.index.result.now found.0 = record {
+      matches = m;
+      read = is;
+      flies = found.1;
+      found = placed (goal.at.returns-clause-some c).In_ok-at;
+      there = there;
+    } in
+    found-answer flies c.in_ok-path.path c.in_ok-answer.answer hears
+    (from-there c.args.self.now c.in_ok-header.header c.in_ok-at.at there c.if-not-is_from.false c.is_from.ensures) c.in_ok-path.ensures.pair given
 
 pub returns-clause-there : goal.returns-clause-there
 returns-clause-there c = placed (goal.at.returns-clause-there c).In_ok-at

@@ -15,8 +15,8 @@ invariant_of-self-2 c =
     } in
     let pushed : c.push_reserved.new.self.items ≡ c.self.inside.devices.items ++ d ∷ [] = rw (← c.in-Ok.ensures) (search rules) in
     let some : 0 < length c.copy_of.result.items = search rules in
-    sound-attached _ c.self.inside.clock.0 c.self.inside.last_ticket.0 _ c.self.inside.devices.items c.push_reserved.new.self.items d _ _ _ pushed
-    (record { port = some; total = c.requires.total; max = c.requires.max; time = omega arith; ticket = λ g at. absurd cc }) c.self.invariant
+    rw pushed (sound-attached c.self.invariant d
+    (record { port = some; total = c.requires.total; max = c.requires.max; time = omega arith; ticket = λ g at. absurd cc }))
 
 pub returns-clause-matches : goal.returns-clause-matches
 returns-clause-matches c = λ log m.

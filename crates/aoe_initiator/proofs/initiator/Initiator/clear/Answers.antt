@@ -4,13 +4,13 @@ use Rattle.aoe_initiator.proofs.SoundLemmas.{sound-cleared, times-of}
 use Rattle.aoe_initiator.proofs.initiator.Initiator.clear.Goals as goal
 
 pub invariant_of-self : goal.invariant_of-self
-invariant_of-self c = sound-cleared _ c.self.inside.clock.0 _ _ c.self.inside.devices.items _ _ _ _ c.next_clear.ensures.value c.self.invariant
+invariant_of-self c = rw c.next_clear.ensures.value (sound-cleared c.self.invariant)
 
 pub invariant_of-self-in_err-at : goal.invariant_of-self-in_err-at
-invariant_of-self-in_err-at c = sound-cleared _ c.self.inside.clock.0 _ _ c.self.inside.devices.items _ _ _ _ c.next_clear.ensures.value c.self.invariant
+invariant_of-self-in_err-at c = rw c.next_clear.ensures.value (sound-cleared c.self.invariant)
 
 pub invariant_of-self-2 : goal.invariant_of-self-2
-invariant_of-self-2 c = sound-cleared _ c.self.inside.clock.0 _ _ c.self.inside.devices.items _ _ _ _ c.next_clear.ensures.value c.self.invariant
+invariant_of-self-2 c = rw c.next_clear.ensures.value (sound-cleared c.self.invariant)
 
 pub returns-in_err-ticket-clause-stays : goal.returns-in_err-ticket-clause-stays
 returns-in_err-ticket-clause-stays c = λ log m.

@@ -40,11 +40,8 @@ invariant_of-self c =
     (rw (← c.self.view_is) at c.requires.there) in
     let came : Option Arrival = Some (record { path = c.args.heard.path; trip = c.trip_at.result }) in
     let time = ap (λ (t : FlightTable). t.latest) c.close-command.ensures.flight in
-    sound-closed _ c.self.inside.clock.0 _ p.device.0 c.args.heard.at p.ticket came c.self.inside.flight c.close-command.new.flight c.self.inside.devices.items
-    c.close-command.new.devices.items
-    c.self.inside.pending.items c.close-command.new.pending.items c.self.inside.done.items c.push_back_reserved.new.self.items done _ _
-    (omega (arith, time, c.self.invariant.time)) c.close-command.ensures.devices c.close-command.ensures.pending c.push_back_reserved.ensures.items
-    c.push_back_reserved.ensures.capacity inside c.self.invariant
+    rw (c.close-command.ensures.devices, c.close-command.ensures.pending, c.push_back_reserved.ensures.items, c.push_back_reserved.ensures.capacity)
+    (sound-closed c.self.invariant p.device.0 c.args.heard.at p.ticket came done c.close-command.new.flight (omega (arith, time, c.self.invariant.time)) inside)
 
 pub returns-clause-closes : goal.returns-clause-closes
 returns-clause-closes c =

@@ -13,11 +13,8 @@ invariant_of-self c =
     let done : Done = record { ticket = p.ticket; outcome = GaveUp c.flying.result.first c.self.inside.clock } in
     let inside : c.args.at < length c.self.inside.pending.items = rw (← c.self.view_is) at c.requires.there in
     let time = ap (λ (t : FlightTable). t.latest) c.close-command.ensures.flight in
-    sound-closed _ c.self.inside.clock.0 _ p.device.0 c.args.at p.ticket None c.self.inside.flight c.close-command.new.flight c.self.inside.devices.items
-    c.close-command.new.devices.items
-    c.self.inside.pending.items c.close-command.new.pending.items c.self.inside.done.items c.push_back_reserved.new.self.items done _ _
-    (omega (arith, time, c.self.invariant.time)) c.close-command.ensures.devices c.close-command.ensures.pending c.push_back_reserved.ensures.items
-    c.push_back_reserved.ensures.capacity inside c.self.invariant
+    rw (c.close-command.ensures.devices, c.close-command.ensures.pending, c.push_back_reserved.ensures.items, c.push_back_reserved.ensures.capacity)
+    (sound-closed c.self.invariant p.device.0 c.args.at p.ticket None done c.close-command.new.flight (omega (arith, time, c.self.invariant.time)) inside)
 
 pub returns : goal.returns
 returns c =

@@ -1,10 +1,10 @@
+use Rattle.aoe_base.proofs.CommonLemmas.{if-none}
 use Rattle.aoe_initiator.specs.Steps.{GivesTag}
 use Rattle.aoe_initiator.specs.Host.{Host}
 use Rattle.std.specs.Prelude.{IfNone, IfSome}
 use Rattle.std.proofs.Common.{◌≡◌, ap, subst}
 use Rattle.std.proofs.lemmas.Option.{IfSome_then}
 use Rattle.aoe_initiator.proofs.ClearLemmas.{quiet-exit}
-use Rattle.aoe_initiator.proofs.ListLemmas.{holds-anyway}
 use Rattle.aoe_initiator.proofs.StartLemmas.{left-cleared, left-launched, left-then, start-frame, start-next-all, start-path, start-quiet, start-sends, IsCleared}
 use Rattle.aoe_initiator.proofs.initiator.Initiator.start.Goals as goal
 
@@ -53,7 +53,7 @@ returns-clause-same c =
     (left.same, left.clock, left.last, left.waiting)
 
 pub returns-in_err-ticket-clause-no_tag : goal.returns-in_err-ticket-clause-no_tag
-returns-in_err-ticket-clause-no_tag c = holds-anyway c.from_residual.result (ap (λ (h : Host). h.flight.last_tag) c.clear.ensures.same)
+returns-in_err-ticket-clause-no_tag c = if-none c.from_residual.result _ (ap (λ (h : Host). h.flight.last_tag) c.clear.ensures.same)
 
 pub returns-clause-tag : goal.returns-clause-tag
 returns-clause-tag c =

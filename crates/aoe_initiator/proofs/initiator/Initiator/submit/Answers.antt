@@ -5,6 +5,7 @@ use Rattle.aoe_hold.specs.declared.command.Command.{Command}
 use Rattle.aoe_hold.specs.HoldTable.{new_command, with_command}
 use Rattle.aoe_initiator.specs.declared.pending.Pending.{Pending}
 use Rattle.aoe_initiator.specs.Devices.{change_at}
+use Rattle.aoe_initiator.specs.Host.{IsSendable}
 use Rattle.aoe_initiator.specs.Op.{kind_of, span_of}
 use Rattle.aoe_initiator.proofs.DeviceLemmas.{about-change_at, device_entered, set-change_at}
 use Rattle.aoe_initiator.proofs.MatchLemmas.{matches-submitted}
@@ -34,11 +35,10 @@ invariant_of-self-2 c =
     c.push_back_reserved.ensures.items ∙ ap (λ (l : List Pending). l ++ p ∷ []) c.make_room.ensures.pending in
     let kept = ap (λ (l : List Pending). length l) c.make_room.ensures.pending in
     let waiting = ap length c.make_room.ensures.done in
-    sound-submitted _ c.self.inside.clock.0 c.self.inside.last_ticket.0
-    (c.self.inside.last_ticket.0 + 1) c.args.device.0 _ c.self.inside.devices.items _ command c.self.inside.pending.items
-    c.push_back_reserved.new.self.items p c.self.inside.done.items c.make_room.new.done.items _ _
-    refl refl changed pushed c.make_room.ensures.done (omega (arith, c.in-Ok.ensures.outcomes, kept, waiting))
-    refl (record { inside = inside; spelled = c.in_default.ensures.spelled; room = c.in-Ok.ensures.room ∙ c.data_len.ensures }) c.self.invariant
+    let ready : IsSendable (length c.self.inside.devices.items) p =
+    record { inside = inside; spelled = c.in_default.ensures.spelled; room = c.in-Ok.ensures.room ∙ c.data_len.ensures } in
+    rw (changed, pushed, c.make_room.ensures.done)
+    (sound-submitted c.self.invariant c.args.device.0 command p _ refl refl ready (omega (arith, c.in-Ok.ensures.outcomes, kept, waiting)))
 
 pub returns-clause-matches : goal.returns-clause-matches
 returns-clause-matches c = λ log m.
