@@ -9,7 +9,7 @@ use Rattle.aoe_disk.specs.State.{DiskState}
 use Rattle.aoe_keep.specs.Keep.{HasMounted, IsRefused}
 use Rattle.aoe_keep.specs.declared.refusal.MountRefusal.{MountRefusal}
 use Rattle.aoe_serve.specs.Backing.{lasts_of, over_file}
-use Rattle.aoe_serve.specs.Slots.{slot_of, slots_of}
+use Rattle.aoe_serve.specs.Slots.{Slot, slot_of, slots_of}
 use Rattle.aoe_shelf.specs.Shelf.{has_minor, refusal_of}
 use Rattle.aoe_target.specs.Mounted.{Mounted}
 use Rattle.aoe_target.specs.declared.station.Station.{Station}
@@ -134,20 +134,20 @@ free state most major ports mtu minor slot disks targets seated at room =
 
 -- The disks of the last slot, behind those of the others.
 
-module _ {D : Type 0} (state : D → DiskState) (most : Option ℕ) (all others pair : List (Option D)) (file keep : D) (parts : all ≡ others ++ pair)
-    (pair_is : pair ≡ Some file ∷ Some keep ∷ []) where
-  joined : all ≡ ends_with others file keep
-  joined = parts ∙ ap (λ (xs : List (Option D)). others ++ xs) pair_is
+pub last-pair : {D : Type 0} {all : List (Option D)} (others : List (Option D)) {pair : List (Option D)} {file keep : D} → all ≡ others ++ pair → pair ≡ Some file ∷ Some keep ∷ []
+    → all ≡ ends_with others file keep
+last-pair {D} others parts pair_is = parts ∙ ap (λ (xs : List (Option D)). others ++ xs) pair_is
 
-  -- the disk of a store that was over the file
-  unused-disk : (store : AnyStore D) (file' : D) → store ≡ over_file most file → file' ≡ any_disk store → file' ≡ file
-  unused-disk store file' is closed = closed ∙ ap (λ (x : AnyStore D). any_disk x) is ∙ over-disk most file
+-- the disk of a store that was over the file
+pub unused-disk : {D : Type 0} (most : Option ℕ) {store : AnyStore D} {file file' : D} → store ≡ over_file most file → file' ≡ any_disk store → file' ≡ file
+unused-disk {D} most {store} {file} is closed = closed ∙ ap (λ (x : AnyStore D). any_disk x) is ∙ over-disk most file
 
+module _ {D : Type 0} (state : D → DiskState) {all : List (Option D)} (others : List (Option D)) (file keep : D) (joined : all ≡ ends_with others file keep) where
   -- the slot is added behind the others
-  pub seated-then : (name name' : ℕ → ℕ → Station) (minor slot : ℕ) (store : AnyStore D) (middle new : List (Mounted (AnyStore D) D))
+  pub seated-then : (most : Option ℕ) (name name' : ℕ → ℕ → Station) (minor slot : ℕ) (store : AnyStore D) (middle new : List (Mounted (AnyStore D) D))
       → store ≡ over_file most file → length middle ≡ slot → name' ≡ name
       → AreSeated state most name minor others middle → IsSeated state (name' (minor + slot)) store keep middle new → AreSeated state most name minor all new
-  seated-then name name' minor slot store middle new is at same seated s =
+  seated-then most name name' minor slot store middle new is at same seated s =
       let P : List (Option D) → Type 0 = λ xs. AreSeated state most name minor xs new in
       let Q : List (Mounted (AnyStore D) D) → Type 0 = λ ts. AreSeated state most name minor (ends_with others file keep) ts in
       let on : IsSeatedOn state (name' (minor + slot)) (over_file most file) keep s.target =
@@ -159,29 +159,21 @@ module _ {D : Type 0} (state : D → DiskState) (most : Option ℕ) (all others 
       subst P (sym joined) (subst Q (sym s.added) (seated-more state most name minor others middle file keep s.target seated there))
 
   -- nothing is run for another cause
-  pub given-then : (e : ExportRefusal) (others' pair' : List (Option D)) (store : AnyStore D) (file' : D) → store ≡ over_file most file → file' ≡ any_disk store
-      → pair' ≡ Some file' ∷ Some keep ∷ []
-      → AreGivenBack state e others others' → AreGivenBack state e all (others' ++ pair')
-  given-then e others' pair' store file' is closed pair_is' back =
-      let here : ends_with others' file keep ≡ others' ++ pair' =
-      ap (λ (f : D). ends_with others' f keep) (sym (unused-disk store file' is closed)) ∙ ap (λ (xs : List (Option D)). others' ++ xs) (sym pair_is') in
-      let P : List (Option D) → Type 0 = λ xs. AreGivenBack state e xs (others' ++ pair') in
-      let Q : List (Option D) → Type 0 = λ ys. AreGivenBack state e (ends_with others file keep) ys in
-      subst P (sym joined) (subst Q here (given-front state e others others' (Some file ∷ Some keep ∷ []) back))
+  pub given-then : (e : ExportRefusal) (others' : List (Option D)) (file' : D) → file' ≡ file → AreGivenBack state e others others'
+      → AreGivenBack state e all (ends_with others' file' keep)
+  given-then e others' file' same back =
+      let P : List (Option D) → Type 0 = λ xs. AreGivenBack state e xs (ends_with others' file' keep) in
+      let Q : D → Type 0 = λ f. AreGivenBack state e (ends_with others file keep) (ends_with others' f keep) in
+      subst P (sym joined) (subst Q (sym same) (given-front state e others others' (Some file ∷ Some keep ∷ []) back))
 
   -- its keep is refused
-  pub refused-then : (name : ℕ → ℕ → Station) (minor slot : ℕ) (refusal : MountRefusal) (others' pair' : List (Option D))
-      (targets : List (Mounted (AnyStore D) D)) (store store' : AnyStore D) (file' keep' : D)
-      → AreSeated state most name minor others targets → AreBack state most others' targets → length targets ≡ slot → store ≡ over_file most file
-      → store' ≡ store → file' ≡ any_disk store' → pair' ≡ Some file' ∷ Some keep' ∷ []
-      → IsRefused state keep refusal keep' → GivesBack state slot refusal all (others' ++ pair')
-  refused-then name minor slot refusal others' pair' targets store store' file' keep' seated back at is same closed pair_is' why =
-      let R : ℕ → Type 0 = λ n. GivesBack state n refusal all (others' ++ pair') in
-      let P : List (Option D) → Type 0 = λ xs. GivesBack state (length targets) refusal xs (others' ++ pair') in
-      let Q : List (Option D) → Type 0 = λ ys. GivesBack state (length targets) refusal (ends_with others file keep) (others' ++ ys) in
-      let file_same : file' ≡ file = unused-disk store' file' (same ∙ is) closed in
-      subst R at (subst P (sym joined)
-      (subst Q (sym pair_is') (refused-last state most name minor others others' targets refusal file file' keep keep' seated back file_same why)))
+  pub refused-then : (most : Option ℕ) (name : ℕ → ℕ → Station) (minor : ℕ) (refusal : MountRefusal) (others' : List (Option D))
+      (targets : List (Mounted (AnyStore D) D)) (file' keep' : D)
+      → AreSeated state most name minor others targets → AreBack state most others' targets → file' ≡ file → IsRefused state keep refusal keep'
+      → GivesBack state (length targets) refusal all (ends_with others' file' keep')
+  refused-then most name minor refusal others' targets file' keep' seated back same why =
+      let P : List (Option D) → Type 0 = λ xs. GivesBack state (length targets) refusal xs (ends_with others' file' keep') in
+      subst P (sym joined) (refused-last state most name minor others others' targets refusal file file' keep keep' seated back same why)
 
 pub back-then : {D : Type 0} (state : D → DiskState) (most : Option ℕ) (others' pair' : List (Option D)) (file' keep' : D)
     (old new : List (Mounted (AnyStore D) D))
@@ -247,23 +239,27 @@ run-count lasts store keep t p e a b old new ran =
     let f = slot_of lasts store keep in
     sym (length-map new f) ∙ (served_in t p e a b (slots_of lasts store keep old) (slots_of lasts store keep new) ran).slots.count ∙ length-map old f
 
--- a shelf was given these slots, ran, and gave them back
-pub exported : {D S K L : Type 0} (state : D → DiskState) (most most' : Option ℕ) (name name' : ℕ → ℕ → Station) (minor : ℕ) (t : Tells S K L) (p : Plan)
-    (e : Exported) (a b : Outside S K L)
-    (disks disks' : List (Option D)) (first last : List (Mounted (AnyStore D) D)) → most' ≡ most → name' ≡ name → length last ≡ length first
+-- the same where the shelf says of itself how much is held back and how its slots are named
+pub files-over : {D : Type 0} (state : D → DiskState) {most most' : Option ℕ} {name name' : ℕ → ℕ → Station} (minor : ℕ) (disks disks' : List (Option D))
+    (first last : List (Mounted (AnyStore D) D)) → most' ≡ most → name' ≡ name → length last ≡ length first
     → AreSeated state most' name' minor disks first → AreBack state most' disks' last
-    → HasRunAndSynced t p e a b (slots_of (lasts_of most') (any_state state) state first) (slots_of (lasts_of most') (any_state state) state last)
-    → IsExported state most name minor t p e a b disks disks'
-exported {D} state most most' name name' minor t p e a b disks disks' first last room same count seated back run =
-    let over = over-files state most' name' minor disks disks' first last count seated back in
+    → OverFiles state most name minor disks disks' (slots_of (lasts_of most') (any_state state) state first)
+    (slots_of (lasts_of most') (any_state state) state last)
+files-over state {most} {most'} {name} {name'} minor disks disks' first last room same count seated back =
     let first_slots = slots_of (lasts_of most') (any_state state) state first in
     let last_slots = slots_of (lasts_of most') (any_state state) state last in
-    subst (λ (m : Option ℕ). IsExported state m name minor t p e a b disks disks') room
-    (subst (λ (n : ℕ → ℕ → Station). IsExported state most' n minor t p e a b disks disks') same (record {
-      first = first_slots;
-      last = last_slots;
-      over = over;
-      run = run;
-      ends = run_ends t p e.end a b first_slots run.middle last_slots run.results run.ran
-          (over_finds state most' name' minor disks disks' first_slots last_slots over) run.synced;
-    }))
+    subst (λ (m : Option ℕ). OverFiles state m name minor disks disks' first_slots last_slots) room
+    (subst (λ (n : ℕ → ℕ → Station). OverFiles state most' n minor disks disks' first_slots last_slots) same
+    (over-files state most' name' minor disks disks' first last count seated back))
+
+-- a shelf was given these slots, ran, and gave them back
+pub exported : {D S K L : Type 0} {state : D → DiskState} {most : Option ℕ} {name : ℕ → ℕ → Station} {minor : ℕ} {t : Tells S K L} {p : Plan}
+    {e : Exported} {a b : Outside S K L} {disks disks' : List (Option D)} {first last : List Slot} → OverFiles state most name minor disks disks' first last
+    → HasRunAndSynced t p e a b first last → IsExported state most name minor t p e a b disks disks'
+exported {state} {most} {name} {minor} {t} {p} {e} {a} {b} {disks} {disks'} {first} {last} over run = record {
+  first = first;
+  last = last;
+  over = over;
+  run = run;
+  ends = run_ends t p e.end a b first run.middle last run.results run.ran (over_finds state most name minor disks disks' first last over) run.synced;
+}

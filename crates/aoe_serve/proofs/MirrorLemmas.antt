@@ -6,6 +6,7 @@ use Rattle.std.specs.Prelude.{IsSome, OnErr, slice_get}
 use Rattle.std.specs.Option.{option_map}
 use Rattle.aoe_base.specs.Faults.{Rose}
 use Rattle.aoe_base.specs.declared.failure.Failed.{Failed}
+use Rattle.aoe_base.proofs.CommonLemmas.{rose-later}
 use Rattle.aoe_disk.specs.Calls.{Syncs, SyncsTo}
 use Rattle.aoe_disk.specs.Sectors.{Calms}
 use Rattle.aoe_disk.specs.State.{BothTell, Contents, DiskState, is_loose}
@@ -19,7 +20,7 @@ use Rattle.aoe_mirror.specs.Sides.{IsMirror, Pair, both, disk_of, pair_of, seen,
 use Rattle.aoe_mirror.specs.declared.sides.Sides.{Sides}
 use Rattle.aoe_mirror.proofs.Bits.{count_none}
 use Rattle.aoe_mirror.proofs.Quiet.{calm_then, parts_in}
-use Rattle.aoe_mirror.proofs.Steps.{Holds, counts_then, holds_of, rose_from, synced}
+use Rattle.aoe_mirror.proofs.Steps.{Holds, counts_then, holds_of, synced}
 use Rattle.aoe_mirror.proofs.Surviving.{survives}
 use Rattle.aoe_mirror.proofs.Syncing.{Quiet, blame_follower, blame_lead, same_calm, sync_ok, synced_quiet}
 use Rattle.aoe_mirror.proofs.Told.{told_if, told_mono, told_then, told_to}
@@ -50,9 +51,9 @@ side_failed old new le (inr follower) = elim (cases_eq old.side 1) [
 -- a fault of a later part is one of the whole
 pub side_from : (old mid new : Pair) → Counts old mid → Counts mid new → SideFailed mid new → SideFailed old new
 side_from old mid new before after (inl first) =
-    inl (rose_from (disk_of old 0).faults (disk_of mid 0).faults (disk_of new 0).faults (before 0 (omega arith)) (after 0 (omega arith)) first)
+    inl (rose-later (disk_of old 0).faults (disk_of mid 0).faults (disk_of new 0).faults (before 0 (omega arith)) (after 0 (omega arith)) first)
 side_from old mid new before after (inr second) =
-    inr (rose_from (disk_of old 1).faults (disk_of mid 1).faults (disk_of new 1).faults (before 1 (omega arith)) (after 1 (omega arith)) second)
+    inr (rose-later (disk_of old 1).faults (disk_of mid 1).faults (disk_of new 1).faults (before 1 (omega arith)) (after 1 (omega arith)) second)
 
 -- Copying what is stale.
 
@@ -239,25 +240,35 @@ each_one R x y r = record { count = refl; each = at }
     at zero a b ea eb = subst (λ (s : Slot). R 0 s b) (same_Some x a ea) (subst (λ (s : Slot). R 0 x s) (same_Some y b eb) r)
     at (suc i) a b ea eb = absurd cc
 
+-- The mirror and the keep of the only slot: as they left it, with the mirror as its last sync and copying left it, and their disks as they
+-- were given back.
+pub record IsEnded {D : Type 0} (state : D → DiskState) (faults : ℕ → ℕ) (e : MirrorEnd) (back : MirrorDisks D) (targets : List (Mounted (Mirrored D) D))
+    : Type 0 where
+  pub left : Mirrored D
+  pub keep : Kept D
+  pub alone : LeavesAlone left keep targets
+  pub since : IsSince faults (pair state left)
+  pub ended : Mirrored D
+  pub ends : EndsMirror (has_ended e.end) e.unsynced (pair state left) (pair state ended)
+  pub disks : IsOf state back (pair state ended)
+  pub kept : back.keep ≡ keep.disk
+
 pub ran_mirror : {D S K L : Type 0} (state : D → DiskState) (name : ℕ → Station) (faults : ℕ → ℕ) (t : Tells S K L) (p : Plan) (e : MirrorEnd)
     (a b : Outside S K L) (mirror : Mirrored D) (kept : Kept D) (back : MirrorDisks D) (targets targets' : List (Mounted (Mirrored D) D))
     → targets ≡ record { station = name (state_of state mirror).sectors; keep = kept; store = mirror } ∷ []
     → HasRun t p e.end a b (slots_of false (state_of state) state targets) (slots_of false (state_of state) state targets')
-    → (left ended : Mirrored D) (keep : Kept D) → LeavesAlone left keep targets' → IsSince faults (pair state left)
-    → EndsMirror (has_ended e.end) e.unsynced (pair state left) (pair state ended)
-    → IsOf state back (pair state ended) → back.keep ≡ keep.disk
-    → RanMirror state name faults t p e a b (pair state mirror) kept back
-ran_mirror {D} state name faults t p e a b mirror kept back targets targets' seated run left ended keep l since ends disks kept_back =
+    → IsEnded state faults e back targets' → RanMirror state name faults t p e a b (pair state mirror) kept back
+ran_mirror {D} state name faults t p e a b mirror kept back targets targets' seated run x =
     let first : Slot = record {
       station = name (state_of state mirror).sectors;
       lasts = false;
       device = record { lists = kept.lists; keep = state kept.disk; store = state_of state mirror };
     } in
-    let mid : Slot = slot_of false (state_of state) state l.target in
-    let last : Slot = record mid { device = record mid.device { store = shown (pair state ended) } } in
-    let ran : HasRun t p e.end a b (first ∷ []) (mid ∷ []) = rw (seated, l.only) at run in
-    let syncs : SyncsTo ends.answer mid.device.store (shown (pair state ended)) =
-    subst (λ (m : Mirrored D). SyncsTo ends.answer (state_of state m) (shown (pair state ended))) l.store ends.syncs in
+    let mid : Slot = slot_of false (state_of state) state x.alone.target in
+    let last : Slot = record mid { device = record mid.device { store = shown (pair state x.ended) } } in
+    let ran : HasRun t p e.end a b (first ∷ []) (mid ∷ []) = rw (seated, x.alone.only) at run in
+    let syncs : SyncsTo x.ends.answer mid.device.store (shown (pair state x.ended)) =
+    subst (λ (m : Mirrored D). SyncsTo x.ends.answer (state_of state m) (shown (pair state x.ended))) x.alone.store x.ends.syncs in
     record {
       first = first;
       last = last;
@@ -265,22 +276,22 @@ ran_mirror {D} state name faults t p e a b mirror kept back targets targets' sea
       store = refl;
       keep = refl;
       lists = refl;
-      middle = pair state left;
-      since = since;
-      ended = pair state ended;
-      ends = ends;
+      middle = pair state x.left;
+      since = x.since;
+      ended = pair state x.ended;
+      ends = x.ends;
       store_back = refl;
-      disks_back = disks;
-      keep_back = ap state kept_back ∙ ap (λ (k : Kept D). state k.disk) l.kept;
+      disks_back = x.disks;
+      keep_back = ap state x.kept ∙ ap (λ (k : Kept D). state k.disk) x.alone.kept;
       run = record {
         middle = mid ∷ [];
         ran = ran;
-        results = ends.answer ∷ [];
+        results = x.ends.answer ∷ [];
         synced = record {
           count = refl;
-          slots = each_one (λ i x y. SyncsSlot (get_or (ends.answer ∷ []) i (Ok tt)) x y) mid last (record { syncs = syncs; rest = refl });
+          slots = each_one (λ i y z. SyncsSlot (get_or (x.ends.answer ∷ []) i (Ok tt)) y z) mid last (record { syncs = syncs; rest = refl });
         };
-        unsynced = told_first e.unsynced ends.answer ends.told;
+        unsynced = told_first e.unsynced x.ends.answer x.ends.told;
       };
     }
 
@@ -328,7 +339,7 @@ module _ {D : Type 0} (state : D → DiskState) (given back : MirrorDisks D) (mi
     (counts : Counts middle ended) (is : IsOf state back ended) where
   has_failed : (k : ℕ) → k ≤ 2 → Rose (disk_of middle k).faults (disk_of ended k).faults → HasFailed state given back k
   has_failed k le rose = rw (counts_of state back ended is k le)
-      (rose_from (faults_of state given k) (disk_of middle k).faults (disk_of ended k).faults (since.counts k le) (counts k le) rose)
+      (rose-later (faults_of state given k) (disk_of middle k).faults (disk_of ended k).faults (since.counts k le) (counts k le) rose)
 
   blamed_one : (unsynced : Option ℕ) → Blames unsynced middle ended → IfSome unsynced (λ k. (k ≤ 2) × HasFailed state given back k)
   blamed_one None blames = tt

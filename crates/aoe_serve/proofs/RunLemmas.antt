@@ -3,12 +3,13 @@ use Rattle.std.proofs.Common.{◌≡◌, ◌≤◌, ◌<◌, ◌+◌, ◌*◌, �
 use Rattle.std.proofs.lemmas.Bool.{cases_lt}
 use Rattle.std.proofs.lemmas.List.{get_or_append_left, get_or_at}
 use Rattle.std.proofs.lemmas.Option.{same_Some, slice_get_within}
-use Rattle.std.specs.Prelude.{All, if◌then◌else◌, Ok, OnErr, OnOk}
+use Rattle.std.specs.Prelude.{All, if◌then◌else◌, OnErr, OnOk}
 use Rattle.std.specs.Option.{option_map}
 use Rattle.aoe_disk.specs.State.{Contents, BothTell, is_loose}
 use Rattle.aoe_io.proofs.BytesLemmas.{Gave-then, Gave-nothing, Took-then}
 use Rattle.aoe_io.specs.Bytes.{Gave, Took, TookSome}
 use Rattle.aoe_io.specs.Stream.{framed, stream, IsFrame}
+use Rattle.aoe_io.proofs.StreamFrames.{stream-frame}
 use Rattle.aoe_target.specs.Device.{Device, State, Holds}
 use Rattle.aoe_target.specs.Lasting.{IsFirmAfter, LeavesFirm}
 use Rattle.aoe_target.specs.Sectors.{Agrees, Sectors, sectors_of}
@@ -34,11 +35,6 @@ use Rattle.aoe_serve.specs.declared.over_stream.Format.TheVariants.{Replies, Cap
 use Rattle.aoe_serve.specs.OutletLaws.{pieces-append, sink_more, sink_over, stream-append, takes_on}
 use Rattle.aoe_serve.proofs.EndLemmas.{always_now, outlived}
 use Rattle.aoe_serve.proofs.SlotLemmas.{there}
-
--- Streams.
-
-pub stream-frame : (fs : List (List ℕ)) (f : List ℕ) → stream (fs ++ f ∷ []) ≡ stream fs ++ framed f
-stream-frame fs f = stream-append fs (f ∷ []) ∙ ap (λ (t : List ℕ). stream fs ++ t) (append-nil (framed f))
 
 -- Faults.
 

@@ -2,7 +2,7 @@ use Rattle.std.proofs.Common.{◌≤◌, ap, arith, refl, sym}
 use Rattle.aoe_base.specs.Faults.{Blamed}
 use Rattle.aoe_cache.specs.declared.any.AnyStore.{AnyStore}
 use Rattle.aoe_serve.specs.Files.{named}
-use Rattle.aoe_serve.proofs.FileLemmas.{exported, same-first}
+use Rattle.aoe_serve.proofs.FileLemmas.{exported, files-over, same-first}
 use Rattle.aoe_shelf.specs.Shelf.{ShelfTable}
 use Rattle.aoe_serve.proofs.over_files.export_at.Goals as goal
 
@@ -20,6 +20,8 @@ unmount-requires g c = omega (arith, c.run_slots-exported.ensures.count, c.in-Ok
 pub returns-clause-ran : goal.returns-clause-ran
 returns-clause-ran g c =
     let D = g.row.D.Denot in
-    exported g.D.Disk.state _ _ _ _ _ _ _ _ _ _ _ _ c.mount.new.shelf.targets c.run_slots-exported.new.shelf.targets
-    (sym c.requires.most) (ap (λ (r : ShelfTable (AnyStore D) D). named r.major r.ports r.mtu) c.in-Ok.ensures)
-    c.run_slots-exported.ensures.count c.in-Ok-mount.ensures.seated c.unmount.ensures.back c.run_slots-exported.ensures.ran.run
+    exported
+    (files-over g.D.Disk.state _ _ _ c.mount.new.shelf.targets c.run_slots-exported.new.shelf.targets (sym c.requires.most)
+    (ap (λ (r : ShelfTable (AnyStore D) D). named r.major r.ports r.mtu) c.in-Ok.ensures) c.run_slots-exported.ensures.count
+    c.in-Ok-mount.ensures.seated c.unmount.ensures.back)
+    c.run_slots-exported.ensures.ran.run

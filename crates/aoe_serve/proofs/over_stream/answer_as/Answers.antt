@@ -13,8 +13,10 @@ pub returns-in-Err-turn-clause-run : goal.returns-in-Err-turn-clause-run
 returns-in-Err-turn-clause-run g c =
     ends _ _ _ _ _ _ _ _ _ _ c.frames.offset c.frames.count c.frames-test.true c.frames.invariant.0 c.in-Err-turn.end c.in-Err-turn.ensures.ends
 
-pub overflow_add-offset-in-frames : goal.overflow_add-offset-in-frames
-overflow_add-offset-in-frames g c = omega (arith, offset-fits _ _ _ _ _ _ _ c.frames.offset c.frames.count c.frames.invariant.0)
+pub overflow_add-offset : goal.overflow_add-offset
+overflow_add-offset g c =
+    let t = c.in-Ok-turn.ensures.turned in
+    omega (arith, offset-fits _ _ _ _ _ _ _ c.frames.offset c.frames.count c.frames.invariant.0, t.long, t.whole.short)
 
 pub frames-preserved : goal.frames-preserved
 frames-preserved g c = (
