@@ -1,6 +1,6 @@
 -- A reply that the law allows is one of the device, to a request.
-use Rattle.std.proofs.Common.{◌≡◌, ◌≤◌, ◌+◌, ◌-◌, ◌/◌, ◌%◌, ℕ, List, [], ◌∷◌, ◌++◌, length, drop, get_or, Bool, true, false, true≢false, Option, Some, None, inl, inr, refl, sym, ap, subst, ◌∙◌, append_assoc, arith, eq-eqb}
-use Rattle.std.specs.Prelude.{if◌then◌else◌, ◌&&◌, ◌==◌, ◌*◌, is_some, nat_le, nat_lt, unwrap_or, slice_index, replicate}
+use Rattle.std.proofs.Common.{◌≡◌, ◌≤◌, ◌+◌, ◌-◌, ◌/◌, ◌%◌, ℕ, List, [], ◌∷◌, ◌++◌, length, drop, get_or, Bool, true, false, Option, Some, None, inl, inr, refl, sym, ap, subst, ◌∙◌, append_assoc, arith, eq-eqb}
+use Rattle.std.specs.Prelude.{if◌then◌else◌, ◌*◌, is_some, nat_lt, replicate}
 use Rattle.std.specs.Option.{option_map}
 use Rattle.std.specs.Int.{w16, w32, to_be_bytes}
 use Rattle.std.proofs.lemmas.Bool.{cases_Bool}
@@ -18,7 +18,7 @@ use Rattle.aoe_ata.specs.declared.args.AtaArgs.{AtaArgs}
 use Rattle.aoe_ata.specs.declared.reply.AtaOutcome.TheVariants.{Done, Active, Aborted, NotFound as OutOfRange, Uncorrectable}
 use Rattle.aoe_frame.specs.Header.{Fits, IsFlags, fields, head, header_bytes, reply_header}
 use Rattle.aoe_frame.specs.declared.header.Header.{Header}
-use Rattle.aoe_frame.proofs.HeaderLemmas.{head-header_bytes}
+use Rattle.aoe_frame.proofs.HeaderLemmas.{head-header_bytes, head-fields, head-long}
 use Rattle.aoe_lists.specs.Settings.{Settings}
 use Rattle.aoe_lists.specs.Step.{Step}
 use Rattle.aoe_lists.specs.Step as step
@@ -105,21 +105,6 @@ one-tag n =
     let c : n / 256 % 256 ≡ n % 4294967296 / 256 % 256 = omega arith in
     let d : n % 256 ≡ n % 4294967296 % 256 = omega arith in
     rw (a, b, c, d) refl
-
--- where there is a header its fields are those of the frame
-abbrev test : List ℕ → Bool
-test f = nat_le 24 (length f) && (slice_index f 12 == 136) && (slice_index f 13 == 162)
-
-head-fields : (f : List ℕ) (h : Header) → head f ≡ Some h → fields f ≡ h
-head-fields f h is =
-    let P : Bool → Type 0 = λ b. (if b then Some (fields f) else None) ≡ Some h → fields f ≡ h in
-    (elim (test f) as P [ true ↦ λ e. ap (λ (o : Option Header). unwrap_or o h) e | false ↦ λ e. absurd (cc) ]) is
-
-head-long : (f : List ℕ) → is_some (head f) ≡ true → 24 ≤ length f
-head-long f is =
-    let P : Bool → Type 0 = λ b. is_some (if b then Some (fields f) else None) ≡ true → b ≡ true in
-    let all : test f ≡ true = (elim (test f) as P [ true ↦ λ e. refl | false ↦ λ e. absurd (true≢false (sym e)) ]) is in
-    grind arith
 
 flags-of : (error : Option ℕ) → IsFlags (if is_some error then 12 else 8)
 flags-of None = inr (inr (inl refl))
