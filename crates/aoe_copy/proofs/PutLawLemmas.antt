@@ -1,7 +1,7 @@
 -- What follows from the steps of a copy into a device.
-use Rattle.std.proofs.Common.{ℕ, suc, ◌≡◌, ◌+◌, ◌≤◌, ◌<◌, cond, not, Bool, true, false, nat_eq, nat_le, List, [], ◌∷◌, ◌++◌, length, map, drop, Some, None, refl, sym, ap, ◌∙◌, arith, inl, inr, append-nil}
+use Rattle.std.proofs.Common.{ℕ, suc, ◌≡◌, ◌+◌, ◌≤◌, ◌<◌, cond, Bool, true, false, nat_eq, nat_le, List, [], ◌∷◌, ◌++◌, length, map, drop, Some, None, refl, sym, ap, ◌∙◌, arith, inl, inr, append-nil}
 use Rattle.std.specs.Prelude.{◌⊎◌, All, Contains, if◌then◌else◌, slice_index}
-use Rattle.std.proofs.lemmas.Bool.{cases_Bool, eqb-true}
+use Rattle.std.proofs.lemmas.Bool.{cases_Bool, eqb-true, not-false}
 use Rattle.std.proofs.lemmas.List.{map-append}
 use Rattle.std.proofs.lemmas.List.Elements.{All-contains, All-head, All-tail, Contains-append_cases, Contains-append_left, Contains-append_right}
 use Rattle.std.proofs.lemmas.Option.{option_and_then_some, same_Some}
@@ -366,11 +366,7 @@ acknowledged k h own says_so = record {
 
 -- a command of a copy of which none is open was done
 all-done : (cs : List HostCommand) (c : HostCommand) → Contains cs c → All (λ x. is_open x ≡ false) cs → c.done ≡ true
-all-done cs c there none = by c.done (All-contains (λ (x : HostCommand). is_open x ≡ false) cs c none there)
-  where
-    by : (b : Bool) → not b ≡ false → b ≡ true
-    by true e = refl
-    by false e = absurd cc
+all-done cs c there none = not-false c.done (All-contains (λ (x : HostCommand). is_open x ≡ false) cs c none there)
 
 module _ (base : Host) (p : Plan) (steps : List PutStep) (are : AreSteps base p steps) (well : GoesOn steps) (none : open_of p steps ≡ 0) where
   -- the command of a submission was answered

@@ -2,6 +2,7 @@
 use Rattle.std.proofs.Common.{ℕ, suc, ◌≡◌, ◌+◌, ◌*◌, ◌%◌, ◌<◌, ◌≤◌, ◌&&◌, true, false, nat_eq, nat_lt, List, [], ◌∷◌, ◌++◌, length, Option, refl, sym, ap, ◌∙◌, arith, inl, inr, append_assoc, append-nil, length-append}
 use Rattle.std.specs.Prelude.{◌≢◌, ◌⊎◌, IfErr, OnOk, Ok, Err, Result}
 use Rattle.std.proofs.lemmas.Bool.{and_parts, cases_Bool, cases_lt, eqb-true, lt-ltb, ltb-true}
+use Rattle.std.proofs.lemmas.List.{nil_from_length}
 use Rattle.aoe_initiator.proofs.MatchLemmas.{same-then}
 use Rattle.aoe_initiator.specs.declared.op.Op.TheVariants as op
 use Rattle.aoe_initiator.specs.Host.{Host}
@@ -46,10 +47,6 @@ went-then w v = record { steps' = v.steps'; on = go-on-then w.on v.on; stands = 
 -- no outcome came, so the copy still goes on
 pub goes-on : {c : Setting} {seen : PutSeen} {steps : List PutStep} {x : Putting} (w : Went c seen steps x) → GoesOn steps → GoesOn w.steps'
 goes-on w well = rw w.on.outcomes_are well
-
-no-bytes : (l : List ℕ) → length l ≡ 0 → l ≡ []
-no-bytes [] e = refl
-no-bytes (b ∷ l) e = absurd cc
 
 -- stages
 pub reading-is : (s : Stage) → is_reading s ≡ true → s ≡ stage.Reading
@@ -223,13 +220,13 @@ module _ {c : Setting} (seen : PutSeen) {left left' : Option (List ℕ)} {a a' :
 
   pub piece-lean : IsLean c.front (written steps ++ sectors) p.rest a'
   piece-lean = elim lean-so [
-    | inl empty ↦ inl (no-bytes a' empty, omega (arith, p.rest_is, p.less))
+    | inl empty ↦ inl (nil_from_length a' empty, omega (arith, p.rest_is, p.less))
     | inr front ↦ inr (omega (arith, length-append (written steps) sectors, p.rest_is, front))
   ]
 
   pub piece-lean-past : want ≤ 512 → IsLean c.front (written steps) (sectors ++ p.rest) a'
   piece-lean-past few = elim lean-so [
-    | inl empty ↦ inl (no-bytes a' empty, omega (arith, length-append sectors p.rest, p.rest_is, p.most, few))
+    | inl empty ↦ inl (nil_from_length a' empty, omega (arith, length-append sectors p.rest, p.rest_is, p.most, few))
     | inr front ↦ inr (omega (arith, length-append sectors p.rest, p.rest_is, front))
   ]
 
@@ -380,7 +377,7 @@ module _ {c : Setting} (seen : PutSeen) {left left' : Option (List ℕ)} {a : Li
   pub writes-more : want ≡ 512 * room_behind c.plan (pieces steps) → length sectors ≡ want → (w : Wrote c steps sectors y) → w.steps1 ≡ writes sectors ∷ steps
       → Went c (record seen { left = left' }) steps y
   writes-more want_is long w is =
-      let none : p.rest ≡ [] = no-bytes p.rest (omega (arith, p.rest_is, p.most, long)) in
+      let none : p.rest ≡ [] = nil_from_length p.rest (omega (arith, p.rest_is, p.most, long)) in
       let empty = nothing-behind seen s reads p in
       record {
         steps' = writes sectors ∷ steps;

@@ -4,7 +4,7 @@ use Rattle.aoe_base.specs.declared.counted.Ticket.{Ticket}
 use Rattle.std.proofs.Common.{ℕ, zero, suc, ◌≡◌, ◌+◌, ◌-◌, ◌*◌, ◌/◌, ◌<◌, Bool, true, false, List, [], ◌∷◌, ◌++◌, length, map, filter, replicate, reverse, Option, Some, None, refl, sym, ap, ◌∙◌, arith, inl, inr}
 use Rattle.std.specs.Prelude.{◌⊎◌, nat_eq, nat_lt, not, Result, Ok, All, Contains}
 use Rattle.std.proofs.lemmas.Bool.{and_parts, cases_Bool, cond_both, eqb-true, lt-ltb, not-true}
-use Rattle.std.proofs.lemmas.List.{append-nil, append_assoc, get_or-reverse, length-append, length-map, length-replicate, length-reverse, reverse-append}
+use Rattle.std.proofs.lemmas.List.{append-nil, append_assoc, get_or-reverse, length-append, length-map, length-replicate, length-reverse, reverse-append, nil_from_length}
 use Rattle.std.proofs.lemmas.List.Elements.{All-head, All-nil, All-tail, Contains-append_left, Contains-append_right, Contains-append_cases}
 use Rattle.aoe_block.proofs.LawLemmas.{op-hand, op-settle}
 use Rattle.aoe_block.specs.Calls.{are_ended, is_success, next_part, op_of, part_of, settle, took, took_as as took_by}
@@ -956,7 +956,7 @@ module _ {ask : Ask} {id : TargetId} {d : Device} {start c : Course} {before aft
     | inl e ↦
         let none = unasked-check (checks_of true (length bytes / 512)) at (length bytes / 512) d start.check fresh.check_is (e.not_ahead refl) in
         let zero : length bytes / 512 ≡ 0 = no-sectors (length bytes / 512) none.1 in
-        let nothing : bytes ≡ [] = length-0 bytes (omega (arith, zero, whole-bytes at d.max bytes start.block.parts fresh.cut)) in
+        let nothing : bytes ≡ [] = nil_from_length bytes (omega (arith, zero, whole-bytes at d.max bytes start.block.parts fresh.cut)) in
         rw x.gives (record {
           later = [];
           earlier = x.runs.rounds;
@@ -992,10 +992,6 @@ module _ {ask : Ask} {id : TargetId} {d : Device} {start c : Course} {before aft
       no-sectors : (n : ℕ) → checks_of true n ≡ false → n ≡ 0
       no-sectors zero e = refl
       no-sectors (suc n) e = absurd (let some : nat_lt 0 (suc n) ≡ true = lt-ltb 0 (suc n) (omega arith) in let not_so = rw some at e in cc)
-
-      length-0 : (l : List ℕ) → length l ≡ 0 → l ≡ []
-      length-0 [] e = refl
-      length-0 (b ∷ l) e = absurd (omega (arith, e))
 
       place : {parts : List Part} {rounds : List Round} → HasRun true at start.block.parts 0 rounds (submissions rounds) parts
           → length (submissions rounds) + 1 ≡ length parts + 2

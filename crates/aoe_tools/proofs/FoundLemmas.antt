@@ -1,14 +1,15 @@
 -- The list of devices, as the map keeps it.
-use Rattle.std.proofs.Common.{ℕ, zero, suc, ◌≡◌, true, List, [], ◌∷◌, map, Option, Some, None, refl, sym, ap, ◌∙◌, inl, inr}
-use Rattle.std.proofs.lemmas.Bool.{and_parts, cases_Bool, cond_both, eqb-true}
+use Rattle.std.proofs.Common.{ℕ, zero, suc, ◌≡◌, List, [], ◌∷◌, map, Option, Some, None, refl, sym, ap, ◌∙◌, inl, inr}
+use Rattle.std.proofs.lemmas.Bool.{cases_Bool, cond_both}
 use Rattle.std.proofs.lemmas.Option.{same_Some}
-use Rattle.std.specs.Prelude.{nat_eq, slice_get, slice_set}
+use Rattle.std.specs.Prelude.{slice_get, slice_set}
 use Rattle.std.specs.Map.{lookup}
 use Rattle.arrayvec.specs.ArrayVec.{ArrayVec}
 use Rattle.indexmap.specs.IndexMap.{insert_entry, set_value_at}
 use Rattle.aoe_base.specs.declared.address.Mac.{Mac}
 use Rattle.aoe_base.specs.declared.address.TargetId.{TargetId}
 use Rattle.aoe_initiator.specs.HostLaw.{same_id}
+use Rattle.aoe_initiator.proofs.NameLemmas.{same-id}
 use Rattle.aoe_tools.specs.Found.{AreNamed, noted, placed, ports_in, seen, with_port}
 use Rattle.aoe_tools.specs.declared.found.Seen.{Seen}
 
@@ -22,11 +23,6 @@ abbrev pub unless_there : Option Seen → List Mac
 unless_there None = []
 unless_there (Some s) = s.ports.items
 
-same-is : (a b : TargetId) → same_id a b ≡ true → a ≡ b
-same-is a b same =
-    let parts = and_parts (nat_eq a.major b.major) (nat_eq a.minor b.minor) same in
-    rw (eqb-true a.major b.major parts.0, eqb-true a.minor b.minor parts.1)
-
 inserted : (entries : List Entry) (d : Seen) → AreNamed entries → devices (insert_entry same_id entries d.id d) ≡ placed (devices entries) d
 inserted [] d named = refl
 inserted (e ∷ entries) d named = elim (cases_Bool (same_id d.id e.0)) [
@@ -37,7 +33,7 @@ inserted (e ∷ entries) d named = elim (cases_Bool (same_id d.id e.0)) [
 pub named-still : (entries : List Entry) (d : Seen) → AreNamed entries → AreNamed (insert_entry same_id entries d.id d)
 named-still [] d named = (refl, tt)
 named-still (e ∷ entries) d named = cond_both (same_id d.id e.0) ((e.0, d) ∷ entries) (e ∷ insert_entry same_id entries d.id d) AreNamed
-    (λ same. (sym (same-is d.id e.0 same), named.1))
+    (λ same. (sym (same-id d.id e.0 same), named.1))
     (λ other. (named.0, named-still entries d named.1))
 
 -- the ports that the map finds

@@ -1,8 +1,8 @@
 -- The first sector that came back with other bytes.
-use Rattle.std.proofs.Common.{ℕ, ◌≡◌, ◌≢◌, ◌+◌, ◌-◌, ◌*◌, ◌/◌, ◌%◌, ◌<◌, ◌≤◌, Bool, true, false, not, List, length, take, drop, refl, sym, ◌∙◌, arith}
+use Rattle.std.proofs.Common.{ℕ, ◌≡◌, ◌≢◌, ◌+◌, ◌-◌, ◌*◌, ◌/◌, ◌%◌, ◌<◌, ◌≤◌, true, false, not, List, length, take, drop, refl, sym, ◌∙◌, arith}
 use Rattle.std.specs.Str.{bytes_eq}
 use Rattle.std.proofs.Math.Seq.{take-add}
-use Rattle.std.proofs.lemmas.Bool.{not-true}
+use Rattle.std.proofs.lemmas.Bool.{not-true, not-false}
 use Rattle.std.proofs.lemmas.List.{take_all}
 use Rattle.std.proofs.lemmas.Slice.Eq.{bytes_eq-Decides}
 use Rattle.aoe_tools.specs.TransferCopies.{sector_at, IsFirstOther}
@@ -13,11 +13,7 @@ module _ (sent back : List ℕ) (k : ℕ) where
   AreSame = take (512 * k) back ≡ take (512 * k) sent
 
   pub same-one : not (bytes_eq (sector_at back k) (sector_at sent k)) ≡ false → sector_at back k ≡ sector_at sent k
-  same-one e = (bytes_eq-Decides (sector_at back k) (sector_at sent k)).0 (is-true (bytes_eq (sector_at back k) (sector_at sent k)) e)
-    where
-      is-true : (b : Bool) → not b ≡ false → b ≡ true
-      is-true true e = refl
-      is-true false e = absurd cc
+  same-one e = (bytes_eq-Decides (sector_at back k) (sector_at sent k)).0 (not-false (bytes_eq (sector_at back k) (sector_at sent k)) e)
 
   pub other-one : not (bytes_eq (sector_at back k) (sector_at sent k)) ≡ true → sector_at back k ≢ sector_at sent k
   other-one e = λ same.

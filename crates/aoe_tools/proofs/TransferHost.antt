@@ -1,5 +1,5 @@
 -- The host of a transfer: what never changes of it, and how many of its commands can still be sent or answered.
-use Rattle.std.proofs.Common.{ℕ, ◌≡◌, ◌≤◌, ◌<◌, ◌+◌, ◌*◌, ◌-◌, ◌^◌, ◌&&◌, cond, not, Bool, true, false, nat_eq, nat_le, List, [], ◌∷◌, ◌++◌, length, map, Option, Some, None, refl, sym, ap, ◌∙◌, arith, inl, inr}
+use Rattle.std.proofs.Common.{ℕ, ◌≡◌, ◌≤◌, ◌<◌, ◌+◌, ◌*◌, ◌-◌, ◌^◌, ◌&&◌, not, Bool, true, false, nat_eq, nat_le, List, [], ◌∷◌, ◌++◌, length, map, Option, Some, None, refl, sym, ap, ◌∙◌, arith, inl, inr}
 use Rattle.aoe_initiator.proofs.MatchLemmas.{stage-unsent, sent-from}
 use Rattle.std.specs.Prelude.{option_map, All, Contains}
 use Rattle.std.specs.List.{cons_option, count_by, list_any}
@@ -12,6 +12,7 @@ use Rattle.std.proofs.lemmas.Option.{same_Some}
 use Rattle.aoe_base.specs.declared.counted.PathNo.{PathNo}
 use Rattle.aoe_base.specs.declared.counted.Ticket.{Ticket}
 use Rattle.aoe_base.proofs.CountLemmas.{count-cons, count-no, count-yes, none-all}
+use Rattle.aoe_base.proofs.CommonLemmas.{one-at-most}
 use Rattle.aoe_flight.specs.declared.outstanding.Outstanding.{Outstanding}
 use Rattle.aoe_flight.specs.Outstanding.{is_due}
 use Rattle.aoe_hold.specs.Commands.{keeps_back, unsent}
@@ -28,13 +29,10 @@ pub same-self : (a : Host) → IsSame a a
 same-self a = record { ports = refl; life = refl; room = refl; dead = refl; devices = refl }
 
 -- how many pass a test after a change
-fewer-one : (a b : Bool) → (a ≡ true → b ≡ true) → cond a 1 0 ≤ cond b 1 0
-fewer-one true false more = absurd (let no = more refl in cc)
-fewer-one _ _ more = omega arith
-
 pub count-fewer : {A : Type 0} (p : A → Bool) (f : A → A) → ((x : A) → p (f x) ≡ true → p x ≡ true) → (xs : List A) → count_by p (map f xs) ≤ count_by p xs
 count-fewer p f fewer [] = omega arith
-count-fewer p f fewer (x ∷ xs) = omega (arith, count-cons p (f x) (map f xs), count-cons p x xs, fewer-one (p (f x)) (p x) (fewer x), count-fewer p f fewer xs)
+count-fewer p f fewer (x ∷ xs) =
+    omega (arith, count-cons p (f x) (map f xs), count-cons p x xs, one-at-most (p (f x)) (p x) (fewer x), count-fewer p f fewer xs)
 
 pub count-one-fewer : {A : Type 0} (p : A → Bool) (f : A → A) → ((x : A) → p (f x) ≡ true → p x ≡ true) → (xs : List A) (c : A) → Contains xs c → p c ≡ true
     → p (f c) ≡ false
@@ -43,7 +41,7 @@ count-one-fewer p f fewer [] c there passes fails = absurd (omega (arith, there.
 count-one-fewer p f fewer (x ∷ xs) c there passes fails = elim (Contains-cons_cases x c xs there) [
   | inl same ↦ omega (arith, count-yes p x xs (rw same passes), count-no p (f x) (map f xs) (rw same fails), count-fewer p f fewer xs)
   | inr behind ↦
-      omega (arith, count-cons p (f x) (map f xs), count-cons p x xs, fewer-one (p (f x)) (p x) (fewer x), count-one-fewer p f fewer xs c behind passes fails)
+      omega (arith, count-cons p (f x) (map f xs), count-cons p x xs, one-at-most (p (f x)) (p x) (fewer x), count-one-fewer p f fewer xs c behind passes fails)
 ]
 
 -- one more at the end
