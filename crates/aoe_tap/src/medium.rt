@@ -5,28 +5,33 @@ use crate::errors::{OpenRefusal, Trouble, given_of, trouble_of};
 use crate::read::{HEAD_LEN, PLAIN, Read, hand_over};
 use aoe_frame::{Frame, MAX_FRAME};
 use aoe_wire::{Given, Medium, Taken, time_of};
-use libc::EINTR;
-use libc::net::{POLLIN, POLLOUT, poll};
-use libc::types::pollfd;
+use mio::unix::SourceFd;
+use mio::{Events, Interest, Poll, Token};
 use std::alloc::Global;
 use std::fs::{File, OpenFile, OpenOptions};
 use std::io;
 use std::io::{ErrorKind, IoSlice, Read as _};
 use std::os::fd::AsRawFd;
 use std::os::unix::fs::FileTypeExt;
+use std::time::Duration;
 
 /// How long a call waits for a frame, in milliseconds.
-const SILENCE: i32 = 10;
+const SILENCE: u64 = 10;
 
 /// The room for a read: one byte more than the longest frame behind its header, so that a longer
 /// one is seen.
 const ROOM: usize = HEAD_LEN + MAX_FRAME + 1;
+
+/// The name of the file among what is waited for.
+const TAP: Token = Token(0);
 
 /// A tap file, each read of which brings a frame. Its peer is the wire.
 #[derive(Drop)]
 pub struct TapMedium {
     rt: HostRuntime,
     file: File,
+    poll: Poll,
+    events: Events,
     coming: Vec<u8>,
     offloaded: u64,
 }
@@ -41,22 +46,6 @@ fn read(file: &mut File, coming: &mut [u8]) -> Result<usize, Trouble>
     }
 }
 
-/// Waits until the file can be read or written, and says whether it can: not where a call has waited
-/// its time.
-fn wait(file: &File, events: i16) -> Result<bool, Trouble> {
-    let mut waited = [pollfd {
-        fd: file.as_raw_fd(),
-        events,
-        revents: 0,
-    }];
-    match poll(&mut waited, SILENCE) {
-        -1 if os::errno() == EINTR => Err(Trouble::Interrupted),
-        -1 => Err(Trouble::Fault),
-        0 => Ok(false),
-        _ => Ok(true),
-    }
-}
-
 impl TapMedium {
     /// Opens the file of this name, and locks it until it is dropped.
     pub fn open(rt: &HostRuntime, alloc: Global, name: &str) -> Result<TapMedium, OpenRefusal>
@@ -67,12 +56,18 @@ impl TapMedium {
             return Err(OpenRefusal::Kind);
         }
         file.try_lock()?;
-        if os::set_nonblocking(file.as_raw_fd(), true) != 0 {
+        let descriptor = file.as_raw_fd();
+        if os::set_nonblocking(descriptor, true) != 0 {
             return Err(OpenRefusal::Unopened(Some(os::errno())));
         }
+        let poll = Poll::new(rt)?;
+        poll.registry()
+            .register(&mut SourceFd(&descriptor), TAP, Interest::READABLE)?;
         Ok(TapMedium {
             rt: *rt,
             file,
+            poll,
+            events: Events::with_capacity(alloc, 1)?,
             coming: vec![in alloc; 0u8; ROOM]?,
             offloaded: 0,
         })
@@ -106,14 +101,28 @@ impl TapMedium {
             Err(Trouble::Empty) => {}
             answer => return answer,
         }
-        if !wait(&self.file, POLLIN)? {
-            return Err(Trouble::Empty);
+        let wait = Some(Duration::from_millis(SILENCE));
+        if self.poll.poll(&mut self.events, wait).is_err() {
+            return Err(Trouble::Fault);
         }
         match read(&mut self.file, self.coming.as_mut_slice()) {
             // What ended the wait is gone again.
-            Err(Trouble::Empty) => Err(Trouble::Interrupted),
+            Err(Trouble::Empty) if !self.events.is_empty() => Err(Trouble::Interrupted),
             answer => answer,
         }
+    }
+
+    /// Waits until the interface has room for a frame, but no longer than a call waits.
+    fn wait_for_room(&mut self) -> io::Result<()> {
+        let descriptor = self.file.as_raw_fd();
+        self.poll
+            .registry()
+            .reregister(&mut SourceFd(&descriptor), TAP, Interest::WRITABLE)?;
+        let wait = Some(Duration::from_millis(SILENCE));
+        self.poll.poll(&mut self.events, wait)?;
+        self.poll
+            .registry()
+            .reregister(&mut SourceFd(&descriptor), TAP, Interest::READABLE)
     }
 
     /// Writes a frame behind a header of zeros, by one call.
@@ -158,11 +167,8 @@ impl Medium for TapMedium {
         if error.kind() != ErrorKind::WouldBlock {
             return given_of(&error);
         }
-        // For room in the interface, but no longer than a call waits.
-        match wait(&self.file, POLLOUT) {
-            Ok(_) => {}
-            Err(Trouble::Interrupted) => return Given::Interrupted,
-            Err(Trouble::Empty | Trouble::Fault) => return Given::Fault,
+        if self.wait_for_room().is_err() {
+            return Given::Fault;
         }
         match self.write(frame) {
             Ok(_) => Given::Sent,
