@@ -6,6 +6,8 @@ use Rattle.aoe_audit.specs.declared.refusal.Kind.TheVariants as kind
 use Rattle.aoe_keep.specs.declared.refusal.MountRefusal.{MountRefusal}
 use Rattle.aoe_keep.specs.declared.refusal.MountRefusal.TheVariants as refusal
 use Rattle.aoe_mirror.specs.declared.refusal.MirrorRefusal.TheVariants as mirror
+use Rattle.aoe_net.specs.declared.refusal.NetLimit.{NetLimit}
+use Rattle.aoe_net.specs.declared.refusal.NetLimit.TheVariants as net
 use Rattle.aoe_serve.specs.declared.over_mirror.MirrorEnd.{MirrorEnd}
 use Rattle.aoe_serve.specs.declared.over_mirror.MirrorStop.{MirrorStop}
 use Rattle.aoe_serve.specs.declared.over_mirror.MirrorStop.TheVariants as stop
@@ -129,12 +131,16 @@ switched_as switch.SinkFault = status.SinkFault
 switched_as (switch.Stream offset) = status.Stream offset
 switched_as switch.Limit = status.Limit what.Frames
 
+-- the limit by which a network has no room
+abbrev pub net_excess : NetLimit → What
+net_excess net.Frames = what.Frames
+net_excess net.Bytes = what.FrameBytes
+
 -- the status of a replay that ended so
 abbrev pub excess_of : ReplayLimit → What
 excess_of limit.ScriptBytes = what.ScriptBytes
 excess_of limit.Events = what.Events
-excess_of limit.Frames = what.Frames
-excess_of limit.FrameBytes = what.FrameBytes
+excess_of (limit.Net l) = net_excess l
 
 abbrev pub replayed_as : ReplayEnd → Status
 replayed_as replay.Ended = status.Ok

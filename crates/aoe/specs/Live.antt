@@ -1,5 +1,5 @@
 -- What a run over two links is, and how it ends.
-use Rattle.std.specs.Prelude.{ℕ, ◌≡◌, Bool, true, false, List, [], ◌∷◌, None, Option, Result, Ok, Err, IfOk, nat_le, if◌then◌else◌}
+use Rattle.std.specs.Prelude.{ℕ, ◌≡◌, Bool, true, false, List, [], ◌∷◌, None, Option, Result, Ok, Err, IfOk}
 use Rattle.aoe_io.specs.Bytes.{Took, TookSome}
 use Rattle.aoe_io.specs.Link.{Turn}
 use Rattle.aoe_live.specs.Stations.{stations}
@@ -14,19 +14,15 @@ use Rattle.aoe_args.specs.declared.command.Live.{Live}
 use Rattle.aoe_base.specs.Faults.{Blamed}
 use Rattle.aoe.specs.declared.status.Status.{Status}
 use Rattle.aoe.specs.declared.status.Status.TheVariants as status
-use Rattle.aoe.specs.declared.status.What.{What}
+use Rattle.aoe.specs.Ending.{net_excess}
 use Rattle.aoe.specs.declared.status.What.TheVariants as what
-
--- the limit of a network with so many frames that has no room
-abbrev pub full : ℕ → What
-full frames = if nat_le 200000 frames then what.Frames else what.FrameBytes
 
 -- the status of a run that gave no script
 abbrev pub live_status : LiveRefusal → Status
 live_status refusal.NoMemory = status.NoMemory
 live_status (refusal.LinkFault link) = status.LinkFault link
 live_status (refusal.Unanswered turns) = status.Unanswered turns
-live_status (refusal.Full frames bytes) = status.Limit (full frames)
+live_status (refusal.Full limit frames bytes) = status.Limit (net_excess limit)
 live_status refusal.TooMany = status.Limit what.Events
 
 -- the statuses that it can end with

@@ -2,26 +2,15 @@
 ghost use Rattle.std.specs.Prelude.{◌≡◌, ◌≢◌, true};
 ghost use Rattle.aoe_args.specs.Words.{CanLive};
 ghost use Rattle.aoe_base.specs.Faults.{Blamed};
-ghost use Rattle.aoe.specs.Live.{AreBlamed, RunsLive, ends, full, is_live_status, live_status};
+ghost use Rattle.aoe.specs.Live.{AreBlamed, RunsLive, ends, is_live_status, live_status};
 
+use crate::plan::net_excess;
 use crate::status::{Status, What};
 use aoe_args::Live;
 use aoe_base::Failed;
 use aoe_io::{Clock, Link, Sink, give_all};
 use aoe_live::{LiveRefusal, live};
-use aoe_net::MAX_FRAMES;
 use std::alloc::Global;
-
-/// The limit of a network with so many frames that has no room.
-fn full(frames: u32) -> What
-    ensures { result ≡ full frames }
-{
-    if frames >= MAX_FRAMES {
-        What::Frames
-    } else {
-        What::FrameBytes
-    }
-}
 
 /// The status of a run that gave no script.
 fn live_status(refusal: LiveRefusal) -> Status
@@ -31,7 +20,7 @@ fn live_status(refusal: LiveRefusal) -> Status
         LiveRefusal::NoMemory => Status::NoMemory,
         LiveRefusal::LinkFault { link } => Status::LinkFault { link },
         LiveRefusal::Unanswered { turns } => Status::Unanswered { turns },
-        LiveRefusal::Full { frames, .. } => Status::Limit(full(frames)),
+        LiveRefusal::Full { limit, .. } => Status::Limit(net_excess(limit)),
         LiveRefusal::TooMany => Status::Limit(What::Events),
     }
 }

@@ -3,13 +3,14 @@ ghost use Rattle.std.specs.Prelude.{◌≡◌, ◌≤◌, ◌*◌, [], ◌∷◌
 ghost use Rattle.aoe_args.specs.Words.{CanAnswer, CanMirror, CanServe};
 ghost use Rattle.aoe_serve.specs.Exporting.{CanExport};
 ghost use Rattle.aoe.specs.Commands.{answer_plan, format_of, limit, mirror_options, serve_plan};
-ghost use Rattle.aoe.specs.Ending.{after_syncs, ended_by, excess_of, kept_out, mirrored_as, refused_as, replayed_as, status_of, stopped_by};
+ghost use Rattle.aoe.specs.Ending.{after_syncs, ended_by, excess_of, kept_out, mirrored_as, net_excess, refused_as, replayed_as, status_of, stopped_by};
 
 use crate::status::{Status, What};
 use aoe_args::{Answer, Mirror, Serve};
 use aoe_base::{Mac, Ports, TargetId};
 use aoe_keep::MountRefusal;
 use aoe_mirror::MirrorRefusal;
+use aoe_net::NetLimit;
 use aoe_serve::{
     AnswerEnd, ExportOptions, Exported, Format, MirrorEnd, MirrorStop, Plan, RunEnd, ServeEnd,
 };
@@ -173,6 +174,16 @@ fn ended_by(end: RunEnd) -> Status
     }
 }
 
+/// The limit by which a network has no room.
+pub(crate) fn net_excess(limit: NetLimit) -> What
+    ensures { result ≡ net_excess limit }
+{
+    match limit {
+        NetLimit::Frames => What::Frames,
+        NetLimit::Bytes => What::FrameBytes,
+    }
+}
+
 /// The limit that a replay exceeded.
 fn excess_of(limit: ReplayLimit) -> What
     ensures { result ≡ excess_of limit }
@@ -180,8 +191,7 @@ fn excess_of(limit: ReplayLimit) -> What
     match limit {
         ReplayLimit::ScriptBytes => What::ScriptBytes,
         ReplayLimit::Events => What::Events,
-        ReplayLimit::Frames => What::Frames,
-        ReplayLimit::FrameBytes => What::FrameBytes,
+        ReplayLimit::Net(limit) => net_excess(limit),
     }
 }
 

@@ -1,12 +1,13 @@
 -- A network without room.
 use Rattle.std.proofs.Common.{List}
+use Rattle.aoe_net.specs.declared.refusal.NetLimit.{NetLimit}
 use Rattle.aoe_history.specs.declared.entry.Entry.{Entry}
 use Rattle.aoe_history.specs.Setup.{Setup}
 use Rattle.aoe_history.specs.Run.{MeetsFull}
 
 -- the room that a part of an act lacks, the act lacks
-pub full-more : (s : Setup) (part whole : List Entry → Type 0) (h : List Entry) → ((m : List Entry) → part m → whole m)
-    → MeetsFull s part h → MeetsFull s whole h
+pub full-more : {limit : NetLimit} (s : Setup) (part whole : List Entry → Type 0) (h : List Entry) → ((m : List Entry) → part m → whole m)
+    → MeetsFull s part limit h → MeetsFull s whole limit h
 full-more s part whole h more full = record {
   entry = full.entry;
   called_for = more _ full.called_for;

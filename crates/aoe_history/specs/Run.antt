@@ -2,7 +2,8 @@
 use Rattle.std.specs.Prelude.{All, length, sum_by, ℕ, ◌≡◌, ◌≤◌, Bool, true, false, List, ◌∷◌}
 use Rattle.aoe_base.specs.declared.counted.Lifetimes.{Lifetimes}
 use Rattle.aoe_base.specs.Sizes.{longest_frame}
-use Rattle.aoe_net.specs.Network.{IsFull, Network, SentFrame}
+use Rattle.aoe_net.specs.declared.refusal.NetLimit.{NetLimit}
+use Rattle.aoe_net.specs.Network.{most_frame_bytes, most_frames, IsFullBy, Network, SentFrame}
 use Rattle.aoe_history.specs.declared.entry.Entry.{Entry}
 use Rattle.aoe_history.specs.declared.entry.Entry.TheVariants.{Sent, Injected, Arrived, Ticked}
 use Rattle.aoe_history.specs.declared.entry.Fate.TheVariants.{Replied}
@@ -37,8 +38,8 @@ IsShort frame = length frame.bytes ≤ longest_frame
 
 -- no more frames, and no more bytes of them, than a network has room for
 pub record IsWithin (frames : List SentFrame) : Type 0 where
-  pub few : length frames ≤ 200000
-  pub small : sum_by (λ frame. length frame.bytes) frames ≤ 536870912
+  pub few : length frames ≤ most_frames
+  pub small : sum_by (λ frame. length frame.bytes) frames ≤ most_frame_bytes
 
 -- a network has the frames of a history, none of them from a later time or too long
 pub record Carries (life : Lifetimes) (now : ℕ) (h : List Entry) (net : Network) : Type 0 where
@@ -49,12 +50,12 @@ pub record Carries (life : Lifetimes) (now : ℕ) (h : List Entry) (net : Networ
   pub time : now ≡ clock h
   pub within : IsWithin net.sent
 
--- No room: what has begun goes on by an entry that may come, and of which a frame comes that the network has no room for.
+-- No room: what has begun goes on by an entry that may come, and of which a frame comes that the network has no room for, by this limit.
 -- What has begun tells which entries are called for, so an entry of another act is no reason.
-pub record MeetsFull (s : Setup) (begins : List Entry → Type 0) (h : List Entry) : Type 0 where
+pub record MeetsFull (s : Setup) (begins : List Entry → Type 0) (limit : NetLimit) (h : List Entry) : Type 0 where
   pub entry : Entry
   pub called_for : begins (entry ∷ h)
   pub may_come : MayCome s h entry
   pub bytes : List ℕ
   pub brings : frames (entry ∷ h) ≡ record { bytes = bytes; birth = clock h } ∷ frames h
-  pub full : IsFull (network s.life h) bytes
+  pub full : IsFullBy limit (network s.life h) bytes

@@ -1,7 +1,7 @@
 //! The clock, the network and the history of a run.
 ghost use Rattle.std.specs.Prelude.{◌≡◌, ◌+◌, ◌<◌, ◌≤◌, ◌^◌, List, [], ◌∷◌, length, option_map, true, IfErr, IfOk, IfSome, IsOkUnless, OnErr, OnOk, Err};
 ghost use Rattle.aoe_base.specs.Sizes.{longest_frame};
-ghost use Rattle.aoe_net.specs.Network.{total_bytes, IsFull};
+ghost use Rattle.aoe_net.specs.Network.{most_frames, total_bytes, IsFull, IsFullBy};
 ghost use Rattle.aoe_history.specs.declared.entry.Entry.{Entry};
 ghost use Rattle.aoe_history.specs.declared.entry.Entry.TheVariants.{Sent, Injected, Arrived, Crashed, Ticked};
 ghost use Rattle.aoe_history.specs.declared.entry.Fate.TheVariants.{Replied};
@@ -12,7 +12,7 @@ use crate::{Boxed, Entry, Fate, History};
 use aoe_base::{FrameNo, Lifetimes, Millis, NoMemory, TargetId, Ticket};
 use aoe_disk::Loss;
 use aoe_lists::Lists;
-use aoe_net::{FrameBytes, Net, NetRefusal};
+use aoe_net::{FrameBytes, Net, NetLimit, NetRefusal};
 use aoe_script::Name;
 use aoe_target::Effect;
 use std::alloc::Global;
@@ -88,7 +88,7 @@ impl Run {
     /// How many frames came into the network: the number of the latest one.
     pub fn frames(&self) -> u32
         ensures count { result ≡ length (frames self.now.entries) }
-        ensures bound { result ≤ 200000 }
+        ensures bound { result ≤ most_frames }
     {
         self.net.count()
     }
@@ -141,13 +141,13 @@ impl Run {
     /// Refuses a frame that the network has no room for. It asks for no memory, and comes first.
     fn check_room(&self, frame: &[u8]) -> Result<(), NetRefusal>
         ensures room { OnOk result (¬ IsFull (network_of self.now) frame.now) }
-        ensures full { IfErr result (λ refusal. (refusal ≡ NetRefusal.Full)
-            × IsFull (network_of self.now) frame.now) }
+        ensures full { IfErr result (λ refusal. (limit : NetLimit)
+            × (refusal ≡ NetRefusal.Full limit) × IsFullBy limit (network_of self.now) frame.now) }
     {
-        if self.net.is_full(frame) {
-            return Err(NetRefusal::Full);
+        match self.net.full_by(frame) {
+            Some(limit) => Err(NetRefusal::Full(limit)),
+            None => Ok(()),
         }
-        Ok(())
     }
 
     /// Records an entry, and brings the frame that it sends into the network, which has room for it.
@@ -183,7 +183,8 @@ impl Run {
         ensures ok { OnOk result (self.new ≡ with_entry self.old
             (Sent host.now ticket.0 (next_number self.old.entries) frame.now)) }
         ensures room { OnOk result (¬ IsFull (network_of self.old) frame.now) }
-        ensures full { result ≡ Err NetRefusal.Full → IsFull (network_of self.old) frame.now }
+        ensures full { (limit : NetLimit) → result ≡ Err (NetRefusal.Full limit)
+            → IsFullBy limit (network_of self.old) frame.now }
         ensures memory { result ≡ Err NetRefusal.NoMemory
             → ¬ IsFull (network_of self.old) frame.now }
         ensures err { OnErr result (self.new ≡ self.old) }
@@ -208,7 +209,8 @@ impl Run {
         ensures ok { OnOk result (self.new ≡ with_entry self.old
             (Injected (next_number self.old.entries) frame.now)) }
         ensures room { OnOk result (¬ IsFull (network_of self.old) frame.now) }
-        ensures full { result ≡ Err NetRefusal.Full → IsFull (network_of self.old) frame.now }
+        ensures full { (limit : NetLimit) → result ≡ Err (NetRefusal.Full limit)
+            → IsFullBy limit (network_of self.old) frame.now }
         ensures memory { result ≡ Err NetRefusal.NoMemory
             → ¬ IsFull (network_of self.old) frame.now }
         ensures err { OnErr result (self.new ≡ self.old) }
@@ -234,7 +236,8 @@ impl Run {
         ensures ok { OnOk result (self.new ≡ with_entry self.old
             (Arrived dev number.0 (Replied effect (next_number self.old.entries) reply.now))) }
         ensures room { OnOk result (¬ IsFull (network_of self.old) reply.now) }
-        ensures full { result ≡ Err NetRefusal.Full → IsFull (network_of self.old) reply.now }
+        ensures full { (limit : NetLimit) → result ≡ Err (NetRefusal.Full limit)
+            → IsFullBy limit (network_of self.old) reply.now }
         ensures memory { result ≡ Err NetRefusal.NoMemory
             → ¬ IsFull (network_of self.old) reply.now }
         ensures err { OnErr result (self.new ≡ self.old) }

@@ -67,9 +67,9 @@ module _ (sectors : ℕ) (script : ScriptLines) (old : Stepped) (event : Event) 
       → Fails sectors (refusal_of refusal) script.events event old.entries k
   fails-at few NoMemory k lines same sound begins why = let T : List Line
       → Type 0 = λ l. IsSound (setup_of l) k in (few, inl (begun k begins), subst T (same ∙ f.lines) sound)
-  fails-at few (NetFull frames bytes) k lines same sound begins why =
-      let R : List Line → Type 0 = λ l. IsRefusedAt (setup_of l) (ComesSome (setup_of l) l event old.cursor old.entries) k (NetFull frames bytes) in
+  fails-at few (NetFull limit frames bytes) k lines same sound begins why =
+      let R : List Line → Type 0 = λ l. IsRefusedAt (setup_of l) (ComesSome (setup_of l) l event old.cursor old.entries) k (NetFull limit frames bytes) in
       let S : ℕ → Type 0 = λ c. IsRefusedAt (setup_of (stations sectors)) (ComesSome (setup_of (stations sectors)) (stations sectors) event c old.entries) k
-      (NetFull frames bytes) in
+      (NetFull limit frames bytes) in
       let T : List Line → Type 0 = λ l. IsSound (setup_of l) k in
       (begun k begins, subst S f.cursor (subst R f.lines why), subst T (same ∙ f.lines) sound)

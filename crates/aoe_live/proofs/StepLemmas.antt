@@ -114,7 +114,7 @@ link-why (live.LinkFault link) t = t
 link-why _ t = refl
 
 link-records : (r : LiveRefusal) → is_link r ≡ true → is_unrecorded r ≡ true → ⊥
-link-records (live.Full frames bytes) t u = absurd cc
+link-records (live.Full limit frames bytes) t u = absurd cc
 link-records _ t u = absurd cc
 
 -- which came, while its frames were sent

@@ -7,6 +7,7 @@ use Rattle.std.proofs.lemmas.List.Elements.{All-head, All-tail}
 use Rattle.std.proofs.lemmas.Nat.{mod_below}
 use Rattle.arrayvec.specs.ArrayVec.{ArrayVec}
 use Rattle.aoe_base.specs.Names.{device_text, pair_text}
+use Rattle.aoe_net.specs.Network.{most_frames}
 use Rattle.aoe_script.specs.declared.event.Event.{Event}
 use Rattle.aoe_script.specs.declared.event.Event.TheVariants.{Read, Write, Flush, Tick, Deliver}
 use Rattle.aoe_script.specs.declared.setup.Setup.{Setup}
@@ -47,7 +48,7 @@ tick-short ms most =
     let digits = number-short ms (omega (arith, most)) in
     omega (arith, all, digits)
 
-pub deliver-short : (frame : ℕ) (station : ArrayVec ℕ) → frame ≤ 200000 → length station.items ≤ 1 → IsShort (Deliver frame station)
+pub deliver-short : (frame : ℕ) (station : ArrayVec ℕ) → frame ≤ most_frames → length station.items ≤ 1 → IsShort (Deliver frame station)
 deliver-short frame station few one =
     let all = line-length (codes "deliver") (decimal frame ∷ station.items ∷ []) in
     let digits = number-short frame (omega (arith, few)) in

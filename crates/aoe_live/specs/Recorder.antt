@@ -51,9 +51,9 @@ is_link refusal = false
 -- the line that wasn't recorded: it stands where no line more does, or the network has no room for its next frame, or there was no memory
 -- for it, where one line more does stand; the history up to there is lawful and has the read law
 abbrev pub Fails : ℕ → LiveRefusal → List Event → Event → List Entry → List Entry → Type 0
-Fails sectors (live.Full frames bytes) events e h m =
+Fails sectors (live.Full limit frames bytes) events e h m =
     ComesSome (setup_of (stations sectors)) (stations sectors) e 1 h m
-    × IsRefusedAt (setup_of (stations sectors)) (ComesSome (setup_of (stations sectors)) (stations sectors) e 1 h) m (NetFull frames bytes)
+    × IsRefusedAt (setup_of (stations sectors)) (ComesSome (setup_of (stations sectors)) (stations sectors) e 1 h) m (NetFull limit frames bytes)
     × IsSound (setup_of (stations sectors)) m
 Fails sectors live.TooMany events e h m = (50000 ≤ length events) × (m ≡ h) × IsSound (setup_of (stations sectors)) m
 Fails sectors (live.Unanswered turns) events e h m = ⊥
@@ -65,11 +65,11 @@ Fails sectors live.NoMemory events e h m =
 
 abbrev pub refusal_of : WorldRefusal → LiveRefusal
 refusal_of world.NoMemory = live.NoMemory
-refusal_of (NetFull frames bytes) = live.Full frames bytes
+refusal_of (NetFull limit frames bytes) = live.Full limit frames bytes
 
 -- a line wasn't recorded, for want of room or of memory
 abbrev pub is_unrecorded : LiveRefusal → Bool
-is_unrecorded (live.Full frames bytes) = true
+is_unrecorded (live.Full limit frames bytes) = true
 is_unrecorded live.TooMany = true
 is_unrecorded live.NoMemory = true
 is_unrecorded refusal = false

@@ -167,7 +167,7 @@ pub record GivesUp (sectors ms : ℕ) (h k : List Entry) (one one' two two' : Wi
 -- how a turn ends that isn't finished
 abbrev pub TurnEnds : (sectors count turns ms : ℕ) → LiveRefusal → List Event → List Entry → List Entry → (one one' two two' : Wire) → Type 0
 TurnEnds sectors count turns ms (live.Unanswered t) before h k one one' two two' = (t ≡ turns) × GivesUp sectors ms h k one one' two two'
-TurnEnds sectors count turns ms (live.Full frames bytes) before h k one one' two two' = Stopped sectors (InTurn sectors count ms h) (live.Full frames bytes) before h k one one' two two'
+TurnEnds sectors count turns ms (live.Full limit frames bytes) before h k one one' two two' = Stopped sectors (InTurn sectors count ms h) (live.Full limit frames bytes) before h k one one' two two'
 TurnEnds sectors count turns ms live.TooMany before h k one one' two two' = Stopped sectors (InTurn sectors count ms h) live.TooMany before h k one one' two two'
 TurnEnds sectors count turns ms (live.LinkFault link) before h k one one' two two' = is_link (live.LinkFault link) ≡ true
 TurnEnds sectors count turns ms live.NoMemory before h k one one' two two' = Stopped sectors (InTurn sectors count ms h) live.NoMemory before h k one one' two two'

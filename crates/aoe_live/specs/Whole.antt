@@ -81,9 +81,9 @@ Lives sectors count turns (Err (live.Unanswered t)) old new =
     (t ≡ turns)
     × (Idle sectors count turns old new
     ⊎ Unfinished sectors count turns (λ rounds now events h k mid. GivesUp sectors (now - last_now rounds now) h k mid.one new.one mid.two new.two) old new)
-Lives sectors count turns (Err (live.Full frames bytes)) old new =
+Lives sectors count turns (Err (live.Full limit frames bytes)) old new =
     Unfinished sectors count turns
-    (λ rounds now events h k mid. Stopped sectors (InTurn sectors count (now - last_now rounds now) h) (live.Full frames bytes) events h k mid.one new.one mid.two new.two) old new
+    (λ rounds now events h k mid. Stopped sectors (InTurn sectors count (now - last_now rounds now) h) (live.Full limit frames bytes) events h k mid.one new.one mid.two new.two) old new
 Lives sectors count turns (Err live.TooMany) old new =
     Unfinished sectors count turns
     (λ rounds now events h k mid. Stopped sectors (InTurn sectors count (now - last_now rounds now) h) live.TooMany events h k mid.one new.one mid.two new.two) old new

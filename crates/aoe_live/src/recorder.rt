@@ -44,7 +44,15 @@ fn stopped(refusal: WorldRefusal) -> LiveRefusal
 {
     match refusal {
         WorldRefusal::NoMemory => LiveRefusal::NoMemory,
-        WorldRefusal::NetFull { frames, bytes } => LiveRefusal::Full { frames, bytes },
+        WorldRefusal::NetFull {
+            limit,
+            frames,
+            bytes,
+        } => LiveRefusal::Full {
+            limit,
+            frames,
+            bytes,
+        },
     }
 }
 

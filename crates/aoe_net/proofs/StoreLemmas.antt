@@ -7,7 +7,8 @@ use Rattle.std.proofs.lemmas.List.Sums.{sum_by-append, sum_by-cons}
 use Rattle.std.proofs.lemmas.Option.{slice_get-map, slice_get_past, slice_get_read}
 use Rattle.std.proofs.lemmas.Grind.{reverse_onto}
 use Rattle.aoe_net.specs.declared.net.Kept.{Kept}
-use Rattle.aoe_net.specs.Network.{Network, SentFrame, numbered, total_bytes, fresh_bytes, deliverable, lifetime, IsFull, IsNumberOf}
+use Rattle.aoe_net.specs.declared.refusal.NetLimit.TheVariants.{Frames, Bytes}
+use Rattle.aoe_net.specs.Network.{Network, SentFrame, most_frame_bytes, most_frames, numbered, total_bytes, fresh_bytes, deliverable, lifetime, IsFull, IsNumberOf}
 use Rattle.aoe_net.specs.Store.{frame_of, frames_of, IsStore}
 
 -- what a list with one more element at its end has at an index
@@ -68,16 +69,18 @@ measures total kept store = record {
 
 -- a network that isn't full has room for the bytes
 pub record HasRoom (net : Network) (more : List ℕ) : Type 0 where
-  pub frames : length net.sent < 200000
-  pub bytes : total_bytes net + length more ≤ 536870912
+  pub frames : length net.sent < most_frames
+  pub bytes : total_bytes net + length more ≤ most_frame_bytes
 
 pub room-left : (net : Network) (more : List ℕ) → (IsFull net more → ⊥) → HasRoom net more
-room-left net more never = record {
-  frames = elim (cases_lt (length net.sent) 200000) [ inl few ↦ few | inr many ↦ absurd (never (inl many)) ];
-  bytes = elim (cases_lt 536870912 (total_bytes net + length more)) [ inl big ↦ absurd (never (inr big)) | inr small ↦ small ];
-}
+room-left net more never =
+    let few : length net.sent < most_frames = elim (cases_lt (length net.sent) most_frames) [ inl few ↦ few | inr many ↦ absurd (never (Frames, many)) ] in
+    record {
+      frames = few;
+      bytes = elim (cases_lt most_frame_bytes (total_bytes net + length more)) [ inl big ↦ absurd (never (Bytes, (few, big))) | inr small ↦ small ];
+    }
 
-pub store-push : (total : ℕ) (kept : List Kept) (k : Kept) → IsStore total kept → length kept < 200000 → total + length k.bytes ≤ 536870912
+pub store-push : (total : ℕ) (kept : List Kept) (k : Kept) → IsStore total kept → length kept < most_frames → total + length k.bytes ≤ most_frame_bytes
     → IsStore (total + length k.bytes) (kept ++ k ∷ [])
 store-push total kept k store few small =
     let g : Kept → ℕ = λ x. length x.bytes in

@@ -1,7 +1,9 @@
 -- What a network is: its frames, and which of them it still hands over.
-use Rattle.std.specs.Prelude.{ℕ, suc, ◌≡◌, ◌+◌, ◌-◌, ◌<◌, ◌≤◌, ◌==◌, ◌⊎◌, List, [], ◌∷◌, length, sum_by, nat_le, Option, Some, None, option_and_then, IsSomeAnd, if◌then◌else◌}
+use Rattle.std.specs.Prelude.{ℕ, suc, ◌≡◌, ◌+◌, ◌-◌, ◌<◌, ◌≤◌, ◌==◌, List, [], ◌∷◌, length, sum_by, nat_le, Option, Some, None, option_and_then, IsSomeAnd, if◌then◌else◌}
 use Rattle.aoe_base.specs.declared.counted.Lifetimes.{Lifetimes}
 use Rattle.aoe_frame.specs.Header.{is_response}
+use Rattle.aoe_net.specs.declared.refusal.NetLimit.{NetLimit}
+use Rattle.aoe_net.specs.declared.refusal.NetLimit.TheVariants.{Frames, Bytes}
 
 -- a frame that was sent: its bytes, and the time of its sending
 pub record SentFrame : Type 0 where
@@ -26,9 +28,22 @@ with_frame net now bytes = record net { latest = now; sent = record { bytes = by
 abbrev pub total_bytes : Network → ℕ
 total_bytes net = sum_by (λ frame. length frame.bytes) net.sent
 
--- no room for these bytes: 200,000 frames stand there, or the bytes would be more than 536,870,912
+-- the most frames that a network keeps, a limit of this program
+abbrev pub most_frames : ℕ
+most_frames = 200000
+
+-- the most bytes that they have together: 512 MiB, a limit of this program
+abbrev pub most_frame_bytes : ℕ
+most_frame_bytes = 536870912
+
+-- the limit by which there is no room for these bytes: the most frames stand there; or fewer, and the bytes would be too many
+abbrev pub IsFullBy : NetLimit → Network → List ℕ → Type 0
+IsFullBy Frames net bytes = most_frames ≤ length net.sent
+IsFullBy Bytes net bytes = (length net.sent < most_frames) × (most_frame_bytes < total_bytes net + length bytes)
+
+-- no room for these bytes
 abbrev pub IsFull : Network → List ℕ → Type 0
-IsFull net bytes = (200000 ≤ length net.sent) ⊎ (536870912 < total_bytes net + length bytes)
+IsFull net bytes = (limit : NetLimit) × IsFullBy limit net bytes
 
 -- the frame with a number: they are numbered from 1 in the order of their sending
 abbrev pub numbered : List SentFrame → ℕ → Option SentFrame

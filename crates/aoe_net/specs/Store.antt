@@ -1,7 +1,7 @@
 -- How the frames of a network are kept.
 use Rattle.std.specs.Prelude.{ℕ, ◌≡◌, ◌≤◌, List, length, map, reverse, sum_by}
 use Rattle.aoe_net.specs.declared.net.Kept.{Kept}
-use Rattle.aoe_net.specs.Network.{SentFrame}
+use Rattle.aoe_net.specs.Network.{most_frame_bytes, most_frames, SentFrame}
 
 abbrev pub frame_of : Kept → SentFrame
 frame_of kept = record { bytes = kept.bytes; birth = kept.birth.0 }
@@ -13,5 +13,5 @@ frames_of kept = reverse (map frame_of kept)
 -- the frames have so many bytes together, and both are within the limits
 pub record IsStore (total : ℕ) (kept : List Kept) : Type 0 where
   pub whole : sum_by (λ k. length k.bytes) kept ≡ total
-  pub few : length kept ≤ 200000
-  pub small : total ≤ 536870912
+  pub few : length kept ≤ most_frames
+  pub small : total ≤ most_frame_bytes

@@ -1,9 +1,9 @@
 //! The frames of a network, each with the time of its sending.
-ghost use Rattle.std.specs.Prelude.{◌≡◌, ℕ, ◌+◌, ◌-◌, ◌≤◌, ◌↔◌, [], ◌∷◌, ◌++◌, length, nat_lt, option_map, IfNone, IfOk, IfSome, IsTrue, OnErr, OnOk};
+ghost use Rattle.std.specs.Prelude.{◌≡◌, ℕ, ◌+◌, ◌-◌, ◌≤◌, ◌↔◌, [], ◌∷◌, ◌++◌, length, nat_lt, option_map, IfNone, IfOk, IfSome, OnErr, OnOk};
 ghost use Rattle.aoe_base.specs.Sizes.{longest_frame};
-ghost use Rattle.aoe_net.specs.Network.{deliverable, empty_network, lifetime, total_bytes, with_frame, IsFull, IsNumberOf};
+ghost use Rattle.aoe_net.specs.Network.{deliverable, empty_network, lifetime, most_frame_bytes, most_frames, total_bytes, with_frame, IsFull, IsFullBy, IsNumberOf};
 
-use crate::{FrameBytes, NetRefusal};
+use crate::{FrameBytes, NetLimit, NetRefusal};
 use aoe_base::{FrameNo, Lifetimes, Millis, NoMemory};
 use aoe_frame::is_response;
 use std::alloc::Global;
@@ -64,11 +64,18 @@ impl Net {
         }
     }
 
-    /// Whether there is no room for a frame.
-    pub fn is_full(&self, frame: &[u8]) -> bool
-        ensures { IsTrue result ↔ IsFull self.now frame.now }
+    /// The limit by which there is no room for a frame, or `None` where there is room.
+    pub fn full_by(&self, frame: &[u8]) -> Option<NetLimit>
+        ensures full { IfSome result (λ limit. IsFullBy limit self.now frame.now) }
+        ensures room { IfNone result (¬ IsFull self.now frame.now) }
     {
-        self.count() >= MAX_FRAMES || self.total_bytes() + frame.len() as u64 > MAX_BYTES
+        if self.count() >= MAX_FRAMES {
+            return Some(NetLimit::Frames);
+        }
+        if self.total_bytes() + frame.len() as u64 > MAX_BYTES {
+            return Some(NetLimit::Bytes);
+        }
+        None
     }
 
     /// Sends a frame, and gives the number that it has from then on.
@@ -81,11 +88,12 @@ impl Net {
         ensures number { IfOk result (λ number. number.0 ≡ length self.new.sent) }
 
         // Memory is asked for last, so a full network is always reported as such.
-        ensures full { (result ≡ Err NetRefusal.Full) ↔ IsFull self.old frame.now }
+        ensures full { (limit : NetLimit) → (result ≡ Err (NetRefusal.Full limit))
+            ↔ IsFullBy limit self.old frame.now }
         ensures refused { OnErr result (self.new ≡ self.old) }
     {
-        if self.is_full(frame) {
-            return Err(NetRefusal::Full);
+        if let Some(limit) = self.full_by(frame) {
+            return Err(NetRefusal::Full(limit));
         }
         let bytes = FrameBytes::of(self.alloc, frame)?;
         Ok(self.keep(now, bytes)?)
@@ -142,7 +150,7 @@ impl Net {
     /// How many frames were sent: the number of the latest one.
     pub fn count(&self) -> u32
         ensures count { result ≡ length self.now.sent }
-        ensures bound { result ≤ 200000 }
+        ensures bound { result ≤ most_frames }
     {
         self.frames.len() as u32
     }
@@ -150,7 +158,7 @@ impl Net {
     /// How many bytes the frames have together.
     pub fn total_bytes(&self) -> u64
         ensures total { result ≡ total_bytes self.now }
-        ensures bound { result ≤ 536870912 }
+        ensures bound { result ≤ most_frame_bytes }
     {
         self.total
     }

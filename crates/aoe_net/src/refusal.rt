@@ -5,12 +5,21 @@ ghost use Rattle.aoe_net.specs.declared.refusal.NetRefusal.TheVariants.{NoMemory
 use aoe_base::NoMemory;
 use thiserror::Error;
 
+/// Which limit of a network is met.
+#[derive(Clone, Copy, Debug, PartialEq, Eq)]
+pub enum NetLimit {
+    /// It keeps 200,000 frames.
+    Frames,
+    /// It keeps fewer, and they would have more than 536,870,912 bytes together.
+    Bytes,
+}
+
 /// Why a frame wasn't sent.
 #[derive(Clone, Copy, Debug, PartialEq, Eq, Error)]
 pub enum NetRefusal {
-    /// The network keeps the most frames that it can, or the most bytes.
+    /// The network has no room for it, by this limit.
     #[error("the network is full")]
-    Full,
+    Full(NetLimit),
     /// An allocation was refused.
     #[error("no memory")]
     NoMemory,

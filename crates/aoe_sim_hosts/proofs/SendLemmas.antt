@@ -22,7 +22,8 @@ use Rattle.aoe_initiator.specs.HostLog.{commands, Event, HostCommand}
 use Rattle.aoe_initiator.specs.HostLog.Event.{Sends}
 use Rattle.aoe_initiator.specs.Request.{arguments, request, request_header}
 use Rattle.aoe_initiator.proofs.ListLemmas.{Contains-get}
-use Rattle.aoe_net.specs.Network.{IsFull}
+use Rattle.aoe_net.specs.declared.refusal.NetLimit.{NetLimit}
+use Rattle.aoe_net.specs.Network.{IsFullBy}
 use Rattle.aoe_paths.specs.PathTable.{new_paths, pair_at}
 use Rattle.aoe_paths.proofs.PairLemmas.{pair-split}
 use Rattle.aoe_history.specs.declared.entry.Entry.{Entry}
@@ -165,7 +166,7 @@ module _ {s : Setup} {host : HostSetup} {name : ArrayVec ℕ} {h m : List Entry}
       )
 
   -- there is no room for one frame more
-  pub sends-full : (life : Lifetimes) → IsFull (network life m) f → MeetsFull s (SendsSome name h) m
+  pub sends-full : {limit : NetLimit} (life : Lifetimes) → IsFullBy limit (network life m) f → MeetsFull s (SendsSome name h) limit m
   sends-full life full = record { entry = entry; called_for = sends; may_come = may-come; bytes = f; brings = refl; full = full }
 
 -- nothing more may be sent

@@ -11,6 +11,7 @@ use Rattle.aoe_sim_hosts.specs.Host.{Awaits, SimHost}
 use Rattle.aoe_sim_hosts.specs.Turns.{HasBegun, HasSent, HasTold}
 use Rattle.aoe_sim_hosts.proofs.Called.{is-called}
 use Rattle.aoe_history.specs.Run.{MeetsFull}
+use Rattle.aoe_net.specs.declared.refusal.NetLimit.{NetLimit}
 use Rattle.aoe_history.proofs.FullLemmas.{full-more}
 
 module _ {s : Setup} {host : HostSetup} {got : Option Got} {h mid : List Entry} {x : SimHost} (tells : HasTold s host got h mid x) where
@@ -34,7 +35,7 @@ module _ {s : Setup} {host : HostSetup} {got : Option Got} {h mid : List Entry} 
   turn-sends m sent = ((x.name, called, inr (inr (mid, tells.gives_up, tells.none_late, sent.sends))), sent.lawful)
 
   -- the room that is lacking is that for a frame of the turn
-  pub turn-full : (m : List Entry) → MeetsFull s (SendsSome x.name mid) m → MeetsFull s (TurnSome host got h) m
+  pub turn-full : {limit : NetLimit} (m : List Entry) → MeetsFull s (SendsSome x.name mid) limit m → MeetsFull s (TurnSome host got h) limit m
   turn-full m full =
       full-more s (SendsSome x.name mid) (TurnSome host got h) m (λ n sends. (x.name, called, inr (inr (mid, tells.gives_up, tells.none_late, sends)))) full
 

@@ -16,7 +16,7 @@ use aoe_base::{NoMemory, copy_of};
 use aoe_frame::Frame;
 use aoe_history::{Boxed, Entry, Run};
 use aoe_initiator::Done;
-use aoe_net::NetRefusal;
+use aoe_net::{NetLimit, NetRefusal};
 
 impl SimHost {
     /// Records the outcome of a command.
@@ -73,8 +73,8 @@ impl SimHost {
             → HasSent s self.old.name run.old.entries run.new.entries }
         ensures ok { OnOk result ((s : Setup) (host : HostSetup) → IsSettled s host run.old.entries self.old → IsLawful s run.old.entries
             → IsSettled s host run.new.entries self.new × IsQuiet (host_after s host run.new.entries) (commands_of host run.new.entries)) }
-        ensures full { result ≡ Err NetRefusal.Full → (s : Setup) (host : HostSetup) → IsSettled s host run.old.entries self.old
-            → IsLawful s run.old.entries → MeetsFull s (SendsSome self.old.name run.old.entries) run.new.entries }
+        ensures full { (limit : NetLimit) → result ≡ Err (NetRefusal.Full limit) → (s : Setup) (host : HostSetup) → IsSettled s host run.old.entries self.old
+            → IsLawful s run.old.entries → MeetsFull s (SendsSome self.old.name run.old.entries) limit run.new.entries }
     {
         'frames: while let Some(sent) = self.core.pull(out) {
             match run.send(&self.name, sent.ticket, out.as_slice()) {
@@ -96,8 +96,8 @@ impl SimHost {
             × IsLawful s run.new.entries × IsSettled s host run.new.entries self.new) }
         ensures err { OnErr result ((s : Setup) (host : HostSetup) (got : Option Got) → Awaits s host got run.old.entries self.old
             → IsLawful s run.old.entries → TurnSome host got run.old.entries run.new.entries × IsLawful s run.new.entries) }
-        ensures full { result ≡ Err NetRefusal.Full → (s : Setup) (host : HostSetup) (got : Option Got) → Awaits s host got run.old.entries self.old
-            → IsLawful s run.old.entries → MeetsFull s (TurnSome host got run.old.entries) run.new.entries }
+        ensures full { (limit : NetLimit) → result ≡ Err (NetRefusal.Full limit) → (s : Setup) (host : HostSetup) (got : Option Got) → Awaits s host got run.old.entries self.old
+            → IsLawful s run.old.entries → MeetsFull s (TurnSome host got run.old.entries) limit run.new.entries }
     {
         self.catch_up(run)?;
         self.send_all(run, out)

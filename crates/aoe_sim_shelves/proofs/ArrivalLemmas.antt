@@ -7,6 +7,7 @@ use Rattle.std.specs.Prelude.{slice_get, IsSomeAnd}
 use Rattle.aoe_base.specs.declared.address.TargetId.{TargetId}
 use Rattle.aoe_base.specs.declared.counted.Lifetimes.{Lifetimes}
 use Rattle.aoe_disk.specs.declared.loss.Loss.{Loss}
+use Rattle.aoe_net.specs.declared.refusal.NetLimit.{NetLimit}
 use Rattle.aoe_net.specs.Network.{fresh_bytes, numbered}
 use Rattle.aoe_shelf.specs.Slot.{ChangesAt}
 use Rattle.aoe_target.specs.declared.heard.Heard.{Heard}
@@ -130,8 +131,8 @@ module _ {i : ℕ} {f : List ℕ} {w : Heard} {out : List ℕ} {x y : SimShelf} 
     comes (Some how) is = is-cut how (sym is)
 
     -- or its reply is the next frame, for which there is no room
-    no-room : (life : Lifetimes) (o : Option Loss) (v : Heard) → o ≡ stop_at armed w → w ≡ v → IsReplyFull o v (network life h) out
-        → MeetsFull s (ArriveAtSome number f slots (drop i slots) h) h
+    no-room : {limit : NetLimit} (life : Lifetimes) (o : Option Loss) (v : Heard) → o ≡ stop_at armed w → w ≡ v → IsReplyFull o v limit (network life h) out
+        → MeetsFull s (ArriveAtSome number f slots (drop i slots) h) limit h
     no-room life None (heard.Replied e) is same full =
         let fate : Fate = Replied e (next_number h) out in
         record {
@@ -152,7 +153,8 @@ module _ {i : ℕ} {f : List ℕ} {w : Heard} {out : List ℕ} {x y : SimShelf} 
       let name : dev ≡ slot.0.station.id = rw (z.change.found, (served slot.0 slot.1).station) at z.name in
       rw (e, name) (comes slot.0 slot.1 stop z.is)
 
-  pub turn-full : (life : Lifetimes) → IsReplyFull stop w (network life h) out → MeetsFull s (ArriveAtSome number f slots (drop i slots) h) h
+  pub turn-full : {limit : NetLimit} (life : Lifetimes) → IsReplyFull stop w limit (network life h) out
+      → MeetsFull s (ArriveAtSome number f slots (drop i slots) h) limit h
   turn-full life full = let slot = slot-here in no-room slot.0 slot.1 life stop w z.is refl full
 
 -- ONE SLOT AFTER THE OTHER
@@ -175,7 +177,8 @@ module _ {s : Setup} {slots : List SlotSetup} {i number : ℕ} {f : List ℕ} {h
   passes-all le = p.each m (rw (drop_all i slots le) refl)
 
   -- no room for the reply of a slot
-  pub passes-full : (n : List Entry) → MeetsFull s (ArriveAtSome number f slots (drop i slots) m) n → MeetsFull s (ArriveAtSome number f slots slots h) n
+  pub passes-full : {limit : NetLimit} (n : List Entry) → MeetsFull s (ArriveAtSome number f slots (drop i slots) m) limit n
+      → MeetsFull s (ArriveAtSome number f slots slots h) limit n
   passes-full n full = full-more s (ArriveAtSome number f slots (drop i slots) m) (ArriveAtSome number f slots slots h) n p.some full
 
   pub passes-some : ArriveAtSome number f slots slots h m

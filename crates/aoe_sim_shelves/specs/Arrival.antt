@@ -1,7 +1,8 @@
 -- What becomes of a frame at a slot, and what it adds to a history.
 use Rattle.std.specs.Prelude.{ℕ, ◌≡◌, ◌≢◌, List, ◌∷◌, slice_get, Option, Some, None, if◌then◌else◌}
 use Rattle.aoe_disk.specs.declared.loss.Loss.{Loss}
-use Rattle.aoe_net.specs.Network.{IsFull, Network}
+use Rattle.aoe_net.specs.declared.refusal.NetLimit.{NetLimit}
+use Rattle.aoe_net.specs.Network.{IsFullBy, Network}
 use Rattle.aoe_target.specs.declared.heard.Heard.{Heard}
 use Rattle.aoe_target.specs.declared.heard.Heard.TheVariants as heard
 use Rattle.aoe_target.specs.Receive.{is_edit_fault, is_fault}
@@ -28,12 +29,12 @@ noted None heard.Ignored number out = Ignored
 noted None heard.Silent number out = Silent
 noted None (heard.Replied e) number out = Replied e number out
 
--- the reply is a frame that a network has no room for
-abbrev pub IsReplyFull : Option Loss → Heard → Network → List ℕ → Type 0
-IsReplyFull None (heard.Replied e) net out = IsFull net out
-IsReplyFull None heard.Ignored net out = ⊥
-IsReplyFull None heard.Silent net out = ⊥
-IsReplyFull (Some how) h net out = ⊥
+-- the reply is a frame that a network has no room for, by this limit
+abbrev pub IsReplyFull : Option Loss → Heard → NetLimit → Network → List ℕ → Type 0
+IsReplyFull None (heard.Replied e) limit net out = IsFullBy limit net out
+IsReplyFull None heard.Ignored limit net out = ⊥
+IsReplyFull None heard.Silent limit net out = ⊥
+IsReplyFull (Some how) h limit net out = ⊥
 
 -- a frame that can be handed over comes to a shelf
 pub record IsReached (s : Setup) (slots : List SlotSetup) (number : ℕ) (f : List ℕ) (h : List Entry) (x : SimShelf) : Type 0 where

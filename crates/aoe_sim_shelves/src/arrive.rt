@@ -14,7 +14,7 @@ use aoe_base::{FrameNo, NoMemory, TargetId};
 use aoe_disk::Loss;
 use aoe_frame::Frame;
 use aoe_history::{Entry, Fate, Run};
-use aoe_net::NetRefusal;
+use aoe_net::{NetLimit, NetRefusal};
 use aoe_target::{Effect, Heard};
 
 /// What the stop leaves in which a disk failed, where that is why the target replied so.
@@ -59,8 +59,8 @@ fn take_down(
     ensures ok { OnOk result (run.new ≡ with_entry run.old
         (Arrived dev number.0 (noted stop heard (next_number run.old.entries) out.now.items))) }
     ensures err { OnErr result (run.new ≡ run.old) }
-    ensures full { result ≡ Err NetRefusal.Full
-        → IsReplyFull stop heard (network_of run.old) out.now.items }
+    ensures full { (limit : NetLimit) → result ≡ Err (NetRefusal.Full limit)
+        → IsReplyFull stop heard limit (network_of run.old) out.now.items }
 {
     if stop.is_some() {
         return note(run, dev, number, Fate::Cut);
@@ -87,9 +87,9 @@ impl SimShelf {
         ensures comes { IfOk result (λ stop. (s : Setup) (slots : List SlotSetup) → IsReached s slots number.0 frame.now run.old.entries self.old
             → ComesToSlot s slots slot number.0 frame.now stop run.old.entries run.new.entries self.new) }
         ensures err { OnErr result (run.new ≡ run.old) }
-        ensures full { result ≡ Err NetRefusal.Full → (s : Setup) (slots : List SlotSetup)
+        ensures full { (limit : NetLimit) → result ≡ Err (NetRefusal.Full limit) → (s : Setup) (slots : List SlotSetup)
             → IsReached s slots number.0 frame.now run.old.entries self.old
-            → MeetsFull s (ArriveAtSome number.0 frame.now slots (drop slot slots) run.old.entries) run.new.entries }
+            → MeetsFull s (ArriveAtSome number.0 frame.now slots (drop slot slots) run.old.entries) limit run.new.entries }
         ensures count { length self.new.shelf.targets ≡ length self.old.shelf.targets }
         ensures major { self.new.shelf.major ≡ self.old.shelf.major }
         ensures stations { map (λ t. t.station) self.new.shelf.targets
@@ -122,10 +122,10 @@ impl SimShelf {
         ensures err { OnErr result ((s : Setup) (slots : List SlotSetup) → AreSlots s slots → Serves slots run.old.entries self.old
             → IsLawful s run.old.entries → arriving s.life run.old.entries number.0 ≡ Some frame.now
             → ArriveAtSome number.0 frame.now slots slots run.old.entries run.new.entries × IsLawful s run.new.entries) }
-        ensures full { result ≡ Err NetRefusal.Full → (s : Setup) (slots : List SlotSetup) → AreSlots s slots
+        ensures full { (limit : NetLimit) → result ≡ Err (NetRefusal.Full limit) → (s : Setup) (slots : List SlotSetup) → AreSlots s slots
             → Serves slots run.old.entries self.old → IsLawful s run.old.entries
             → arriving s.life run.old.entries number.0 ≡ Some frame.now
-            → MeetsFull s (ArriveAtSome number.0 frame.now slots slots run.old.entries) run.new.entries }
+            → MeetsFull s (ArriveAtSome number.0 frame.now slots slots run.old.entries) limit run.new.entries }
         ensures major { self.new.shelf.major ≡ self.old.shelf.major }
         ensures stations { map (λ t. t.station) self.new.shelf.targets
             ≡ map (λ t. t.station) self.old.shelf.targets }

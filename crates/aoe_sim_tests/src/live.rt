@@ -2,6 +2,7 @@ use crate::checks::holds;
 use aoe_base::Blob;
 use aoe_io::{JoinedLink, MemSink, MemSource, SetClock};
 use aoe_live::{LiveRefusal, live};
+use aoe_net::NetLimit;
 use aoe_world::{ReplayEnd, replay};
 use std::alloc::{AllocError, Global};
 use std::test::Fail;
@@ -61,6 +62,7 @@ fn is_told(alloc: Global, refusal: LiveRefusal, text: &str) -> Result<bool, Allo
 #[test]
 fn says_why_there_is_no_script(rt: HostRuntime) -> Result<(), Fail> {
     let full = LiveRefusal::Full {
+        limit: NetLimit::Frames,
         frames: 200_000,
         bytes: 7,
     };

@@ -3,7 +3,7 @@ ghost use Rattle.aoe_base.specs.Sizes.{longest_frame};
 
 use crate::checks::holds;
 use aoe_base::{FrameNo, Lifetimes, Millis};
-use aoe_net::{Net, NetRefusal};
+use aoe_net::{Net, NetLimit, NetRefusal};
 use std::test::Fail;
 
 /// Whether a frame that is sent at a time has this number.
@@ -54,7 +54,8 @@ fn hands_over_within_the_lifetimes(rt: HostRuntime) {
 #[test]
 fn says_why_a_frame_is_not_sent(rt: HostRuntime) -> Result<(), Fail> {
     let cases = [
-        (NetRefusal::Full, "the network is full"),
+        (NetRefusal::Full(NetLimit::Frames), "the network is full"),
+        (NetRefusal::Full(NetLimit::Bytes), "the network is full"),
         (NetRefusal::NoMemory, "no memory"),
     ];
     for (refusal, text) in &cases {

@@ -4,6 +4,7 @@ ghost use Rattle.std.specs.Prelude.{◌≡◌, ◌≤◌};
 
 use aoe_base::{Blob, NoMemory};
 use aoe_io::MemSink;
+use aoe_net::NetLimit;
 use aoe_script::{Script, ScriptRefusal, read_script};
 use aoe_transcript::print_run;
 use aoe_world::{ReplayEnd, World, WorldRefusal, soak};
@@ -74,6 +75,7 @@ fn is_told(alloc: Global, refusal: WorldRefusal, text: &str) -> Result<bool, All
 #[test]
 fn tells_why_it_stops(rt: HostRuntime) -> Result<(), Fail> {
     let full = WorldRefusal::NetFull {
+        limit: NetLimit::Frames,
         frames: 200_000,
         bytes: 7,
     };

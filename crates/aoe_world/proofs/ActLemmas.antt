@@ -21,9 +21,10 @@ use Rattle.arrayvec.specs.ArrayVec.{ArrayVec}
 use Rattle.aoe_sim_hosts.proofs.Apart.{awaits-settled, awaits-ticked}
 use Rattle.aoe_sim_hosts.proofs.Called.{is-called}
 use Rattle.aoe_sim_hosts.specs.Host.{is_apart as is_apart_of_host, Awaits, IsSettled, SimHost}
+use Rattle.aoe_net.specs.declared.refusal.NetLimit.{NetLimit}
 use Rattle.aoe_net.specs.declared.refusal.NetRefusal.{NetRefusal}
 use Rattle.aoe_net.specs.declared.refusal.NetRefusal.TheVariants.{Full, NoMemory}
-use Rattle.aoe_net.specs.Network.{IsFull}
+use Rattle.aoe_net.specs.Network.{IsFullBy}
 use Rattle.aoe_sim_shelves.specs.Shelf.{is_apart as is_apart_of_slots, SimShelf, Serves}
 use Rattle.aoe_history.specs.Run.{network_of, with_entry, MeetsFull}
 use Rattle.aoe_history.proofs.FullLemmas.{full-more}
@@ -39,7 +40,7 @@ use Rattle.aoe_initiator.proofs.ListLemmas.{get-there as there-is}
 -- what a refusal leaves of a part, it leaves of the whole
 pub left-more : {s : Setup} {part whole : List Entry → Type 0} {refusal : NetRefusal} {h : List Entry} → ((m : List Entry) → part m → whole m)
     → IsLeft s part refusal h → IsLeft s whole refusal h
-left-more more left = record { begun = more _ left.begun; lawful = left.lawful; full = λ e. full-more _ _ _ _ more (left.full e) }
+left-more more left = record { begun = more _ left.begun; lawful = left.lawful; full = λ limit e. full-more _ _ _ _ more (left.full limit e) }
 
 pub act-done : (result : Result (Unit {0}) NetRefusal) (s : Setup) (majors : List ℕ) (act : Act) (got : Option Got) (old mid new : Sim)
     → Enters s old.run.entries act got mid.run.entries → Settles result s majors got mid new → Does result s majors act old new
@@ -48,7 +49,7 @@ act-done (Err refusal) s majors act got old mid new enters left = left-more (λ 
 
 -- without memory a beginning that is lawful is left
 pub no-memory : {s : Setup} {begins : List Entry → Type 0} {h : List Entry} → begins h → IsLawful s h → IsLeft s begins NoMemory h
-no-memory begun lawful = record { begun = begun; lawful = lawful; full = λ e. absurd (cc) }
+no-memory begun lawful = record { begun = begun; lawful = lawful; full = λ limit e. absurd (cc) }
 
 -- where memory was short, what was begun is entered
 pub short-of-memory : (result : Result (Unit {0}) NetRefusal) (s : Setup) (majors : List ℕ) (act : Act) (old new : Sim)
@@ -167,7 +168,8 @@ lose-as-hand (Err refusal) s majors frame station old new gone left = left-more 
 -- a frame of no station came into the network, or there was no room for it
 pub injected-by : (r : Result (Unit {0}) NetRefusal) (s : Setup) (majors : List ℕ) (f : List ℕ) (old mid : Sim) → IsReady s majors old
     → is_port s (fields f).src ≡ false → mid.hosts ≡ old.hosts → mid.shelves ≡ old.shelves
-    → OnOk r (mid.run ≡ with_entry old.run (Injected (next_number old.run.entries) f)) → (r ≡ Err Full → IsFull (network_of old.run) f)
+    → OnOk r (mid.run ≡ with_entry old.run (Injected (next_number old.run.entries) f))
+    → ((limit : NetLimit) → r ≡ Err (Full limit) → IsFullBy limit (network_of old.run) f)
     → OnErr r (mid.run ≡ old.run) → IsEntered r s majors (Inject f) old mid
 injected-by (Ok u) s majors f old mid k foreign hosts shelves run full same = (
   None,
@@ -176,14 +178,14 @@ injected-by (Ok u) s majors f old mid k foreign hosts shelves run full same = (
 )
 injected-by (Err refusal) s majors f old mid k foreign hosts shelves run full same = rw same (record { begun = inl refl; lawful = k.lawful; full = meets })
   where
-    meets : refusal ≡ Full → MeetsFull s (IsBegun s old.run.entries (Inject f)) old.run.entries
-    meets e = record {
+    meets : (limit : NetLimit) → refusal ≡ Full limit → MeetsFull s (IsBegun s old.run.entries (Inject f)) limit old.run.entries
+    meets limit e = record {
       entry = Injected (next_number old.run.entries) f;
       called_for = inr (None, _, (refl, refl), no-turn s s.hosts None _ (hosts-called k.hosts_are));
       may_come = record { source = foreign; number_is = refl };
       bytes = f;
       brings = refl;
-      full = full (ap Err e);
+      full = full limit (ap Err e);
     }
 
 -- of what was before only the history counts

@@ -1,12 +1,10 @@
 -- Events that come one after the other.
-use Rattle.std.proofs.Common.{◌≡◌, ◌∙◌, ◌+◌, ◌≤◌, ◌<◌, if◌then◌else◌, nat_le, Bool, true, false, ℕ, zero, suc, List, [], ◌∷◌, take, Some, None, refl, add-one, arith}
+use Rattle.std.proofs.Common.{◌≡◌, ◌∙◌, ◌+◌, ℕ, zero, suc, List, [], ◌∷◌, take, Some, None, refl, add-one, arith}
 use Rattle.std.specs.Prelude.{slice_get}
-use Rattle.std.proofs.lemmas.Bool.Decides.{nat_tests}
 use Rattle.std.proofs.lemmas.Option.{same_Some}
 use Rattle.aoe_history.specs.declared.entry.Entry.{Entry}
 use Rattle.aoe_history.specs.Setup.{Setup}
 use Rattle.aoe_sim_setup.specs.Layout.{setup_of}
-use Rattle.aoe_history.specs.Run.{MeetsFull}
 use Rattle.aoe_script.specs.declared.event.Event.{Event}
 use Rattle.aoe_script.specs.declared.setup.Setup.{Setup as Line}
 use Rattle.aoe_script.specs.Lines.{ScriptLines}
@@ -15,9 +13,7 @@ use Rattle.aoe_world.specs.declared.refusal.WorldRefusal.{WorldRefusal}
 use Rattle.aoe_world.specs.declared.refusal.WorldRefusal.TheVariants as refused
 use Rattle.aoe_world.specs.declared.refusal.WorldRefusal.TheVariants.{NetFull}
 use Rattle.aoe_world.specs.World.{IsRefusedAt, Stepped}
-use Rattle.aoe_world.specs.declared.end.ReplayEnd.TheVariants.{Limit}
-use Rattle.aoe_world.specs.declared.end.ReplayLimit.TheVariants.{Frames, FrameBytes}
-use Rattle.aoe_world.specs.Replay.{end_of, Filled, IsSound, Plays, Stops}
+use Rattle.aoe_world.specs.Replay.{end_of, IsSound, Plays, Stops}
 
 module _ (s : Setup) (lines : List Line) where
   plays_on : (events : List Event) (i : ℕ) (event : Event) (cursor : ℕ) (h : List Entry) (middle : ℕ) (m : List Entry) (behind : ℕ) (later : List Entry)
@@ -55,8 +51,9 @@ module _ {script : ScriptLines} {i : ℕ} {old : Stepped} {event : Event} (new :
   abbrev begun : List Line → List Entry → Type 0
   begun l = ComesSome (setup_of l) l event old.cursor old.entries
 
-  abbrev filled : MeetsFull (setup_of old.lines) (begun old.lines) new.entries → Filled script
-  filled full = record {
+  pub stops : (refusal : WorldRefusal) → IsRefusedAt (setup_of old.lines) (begun old.lines) new.entries refusal → Stops (end_of refusal) script
+  stops refused.NoMemory at = tt
+  stops (NetFull limit frames bytes) (count, full) = record {
     count = i;
     event = event;
     is_next = is;
@@ -68,12 +65,3 @@ module _ {script : ScriptLines} {i : ℕ} {old : Stepped} {event : Event} (new :
     sound = rw (lines ∙ before.lines_are) at sound;
     full = rw before.lines_are at full;
   }
-
-  counted : (b : Bool) (frames bytes : ℕ) → nat_le 200000 frames ≡ b → IsRefusedAt (setup_of old.lines) (begun old.lines) new.entries (NetFull frames bytes)
-      → Stops (if b then Limit Frames else Limit FrameBytes) script
-  counted true frames bytes q (count, full) = let most : 200000 ≤ frames = grind (arith, nat_tests, q) in (filled full, omega (arith, count.0, most))
-  counted false frames bytes q (count, full) = let below : frames < 200000 = grind (arith, nat_tests, q) in (filled full, omega (arith, count.0, below))
-
-  pub stops : (refusal : WorldRefusal) → IsRefusedAt (setup_of old.lines) (begun old.lines) new.entries refusal → Stops (end_of refusal) script
-  stops refused.NoMemory at = tt
-  stops (NetFull frames bytes) at = counted (nat_le 200000 frames) frames bytes refl at

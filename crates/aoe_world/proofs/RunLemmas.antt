@@ -12,7 +12,7 @@ use Rattle.aoe_script.specs.Lines.{ScriptLines, refusal, script_of}
 use Rattle.aoe_world.specs.declared.part.Part.{Part}
 use Rattle.aoe_world.specs.declared.end.ReplayEnd.{ReplayEnd}
 use Rattle.aoe_world.specs.declared.end.ReplayEnd.TheVariants.{Ended, SourceFault, SinkFault, NoMemory, Script, Limit}
-use Rattle.aoe_world.specs.declared.end.ReplayLimit.TheVariants.{ScriptBytes, Events, Frames, FrameBytes}
+use Rattle.aoe_world.specs.declared.end.ReplayLimit.TheVariants.{ScriptBytes, Events, Net}
 use Rattle.aoe_world.specs.Replay.{GaveAll, IsFaultless, IsRead, IsRefusedAs, IsSound, HasRun, LeavesSink, Played, Plays, Refuses, Replayed, Runs, RunsTo, Spells, Stops, Unread, TakesText, part_text, text_of}
 use Rattle.aoe_world.proofs.TextLemmas.{short_none}
 
@@ -41,8 +41,7 @@ finished_in part end script held held' world count entries lines plays sound cou
 
 pub stopped : (part : Part) (end : ReplayEnd) (script : ScriptLines) (held : Option (List ℕ)) → Stops end script → RunsTo part end script held held
 stopped part NoMemory script held stops = refl
-stopped part (Limit Frames) script held stops = (stops, refl)
-stopped part (Limit FrameBytes) script held stops = (stops, refl)
+stopped part (Limit (Net limit)) script held stops = (stops, refl)
 stopped part Ended script held stops = absurd stops
 stopped part SinkFault script held stops = absurd stops
 stopped part _ script held stops = stops
@@ -76,8 +75,7 @@ module _ (left left' : Option (List ℕ)) (text : List ℕ) (read : IsRead left 
     ran_script : (end : ReplayEnd) → Runs end (script_of text) held held' → Replayed end left left' held held'
     ran_script Ended runs = spelled Ended runs
     ran_script SinkFault runs = spelled SinkFault runs
-    ran_script (Limit Frames) runs = spelled (Limit Frames) runs
-    ran_script (Limit FrameBytes) runs = spelled (Limit FrameBytes) runs
+    ran_script (Limit (Net limit)) runs = spelled (Limit (Net limit)) runs
     ran_script NoMemory runs = (inr (text, gave_all (short_none text good), inr good), runs)
     ran_script _ runs = absurd runs
 
@@ -94,8 +92,7 @@ pub comes_through : (part : Part) (end : ReplayEnd) (script : ScriptLines) (held
     → IsFaultless sinks sinks' → (end ≡ SinkFault → Rose sinks sinks') → HasRun end script
 comes_through part Ended script held held' sinks sinks' runs sink rose = inl refl
 comes_through part NoMemory script held held' sinks sinks' runs sink rose = inr tt
-comes_through part (Limit Frames) script held held' sinks sinks' runs sink rose = inr runs.0
-comes_through part (Limit FrameBytes) script held held' sinks sinks' runs sink rose = inr runs.0
+comes_through part (Limit (Net limit)) script held held' sinks sinks' runs sink rose = inr runs.0
 comes_through part SinkFault script held held' sinks sinks' runs sink rose = absurd (no_fault sinks sinks' sink (rose refl))
 comes_through part _ script held held' sinks sinks' runs sink rose = absurd runs
 
@@ -127,8 +124,7 @@ module _ (left left' held held' : Option (List ℕ)) (bytes : List ℕ) (sources
       → (end ≡ SinkFault → Rose sinks sinks') → HasRun end (script_of bytes)
   goes_through Ended r a b = inl refl
   goes_through NoMemory r a b = inr tt
-  goes_through (Limit Frames) r a b = inr (stops_of (Limit Frames) r.0 r.1 r.3.0)
-  goes_through (Limit FrameBytes) r a b = inr (stops_of (Limit FrameBytes) r.0 r.1 r.3.0)
+  goes_through (Limit (Net limit)) r a b = inr (stops_of (Limit (Net limit)) r.0 r.1 r.3.0)
   goes_through (Limit ScriptBytes) r a b = absurd (
       let more = r.0 in
       let f = front_of left left' bytes more.text is more.gave in

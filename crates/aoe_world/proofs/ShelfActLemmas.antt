@@ -14,6 +14,7 @@ use Rattle.aoe_history.specs.Groups.Station.{Shelf as ShelfStation}
 use Rattle.aoe_history.specs.Lawful.{IsLawful}
 use Rattle.aoe_history.specs.Run.{MeetsFull}
 use Rattle.aoe_history.specs.Setup.{shelf_of, AreSlots, HostSetup, Setup, SlotSetup}
+use Rattle.aoe_net.specs.declared.refusal.NetLimit.{NetLimit}
 use Rattle.aoe_net.specs.declared.refusal.NetRefusal.{NetRefusal}
 use Rattle.aoe_net.specs.declared.refusal.NetRefusal.TheVariants.{Full}
 use Rattle.aoe_sim_hosts.specs.Host.{is_apart as is_apart_of_host}
@@ -80,7 +81,8 @@ module _ {s : Setup} {majors : List ℕ} (i major : ℕ) (x y : SimShelf) (old n
       ArriveAtEach number f slots slots old.run.entries new.run.entries × IsLawful z new.run.entries × Serves slots new.run.entries y))
       → OnErr r (OfArrival number f x old.run.entries
       (λ z slots. ArriveAtSome number f slots slots old.run.entries new.run.entries × IsLawful z new.run.entries))
-      → (r ≡ Err Full → OfArrival number f x old.run.entries (λ z slots. MeetsFull z (ArriveAtSome number f slots slots old.run.entries) new.run.entries))
+      → ((limit : NetLimit) → r ≡ Err (Full limit)
+      → OfArrival number f x old.run.entries (λ z slots. MeetsFull z (ArriveAtSome number f slots slots old.run.entries) limit new.run.entries))
       → IsEntered r s majors (Hand number (ShelfStation major)) old new
   arrived-by (Ok u) number f fresh ok err full =
       let t = ok s (shelf_of s major) (net.slots i major em) (k.shelves_are.each i major x em ex) k.lawful fresh in
@@ -90,4 +92,4 @@ module _ {s : Setup} {majors : List ℕ} (i major : ℕ) (x y : SimShelf) (old n
       let serves = k.shelves_are.each i major x em ex in
       let t = err s slots (net.slots i major em) serves k.lawful fresh in
       left-more {part = ArriveAtSome number f slots slots old.run.entries} (λ m part. inl (rw fresh part))
-      (record { begun = t.0; lawful = t.1; full = λ e. full (ap Err e) s slots (net.slots i major em) serves k.lawful fresh })
+      (record { begun = t.0; lawful = t.1; full = λ limit e. full limit (ap Err e) s slots (net.slots i major em) serves k.lawful fresh })

@@ -10,6 +10,7 @@ use Rattle.aoe_history.specs.Lawful.{IsLawful}
 use Rattle.aoe_history.specs.Setup.{is_called, shelf_of, HostSetup, Setup, SlotSetup}
 use Rattle.aoe_sim_hosts.proofs.Apart.{awaits-apart, settled-apart}
 use Rattle.aoe_sim_hosts.specs.Host.{is_apart as is_apart_of_host, Awaits, IsSettled, SimHost}
+use Rattle.aoe_net.specs.declared.refusal.NetLimit.{NetLimit}
 use Rattle.aoe_net.specs.declared.refusal.NetRefusal.{NetRefusal}
 use Rattle.aoe_net.specs.declared.refusal.NetRefusal.TheVariants.{Full}
 use Rattle.aoe_sim_shelves.proofs.Apart.{serves-apart}
@@ -130,7 +131,8 @@ module _ {old now : Sim} {i end : ℕ} (x : SimHost) (g : Going old now i end) (
 
   -- the turn of a host came in part
   pub going-broken : (m : List Entry) (refusal : NetRefusal) → OfTurn now x (λ s host got. TurnSome host got now.run.entries m × IsLawful s m)
-      → (refusal ≡ Full → OfTurn now x (λ s host got. MeetsFull s (TurnSome host got now.run.entries) m)) → (s : Setup) (majors : List ℕ) (got : Option Got)
+      → ((limit : NetLimit) → refusal ≡ Full limit → OfTurn now x (λ s host got. MeetsFull s (TurnSome host got now.run.entries) limit m))
+      → (s : Setup) (majors : List ℕ) (got : Option Got)
       → IsNetwork s majors → IsTurning s majors got 0 old → IsLeft s (TurnsSome s s.hosts got old.run.entries) refusal m
   going-broken m refusal turn full s majors got net begun =
       let gone = g.turns s majors got net begun in
@@ -138,7 +140,7 @@ module _ {old now : Sim} {i end : ℕ} (x : SimHost) (g : Going old now i end) (
       let t = turn s at.0 got at.2 gone.1.lawful in
       let some = λ (n : List Entry) (part : TurnSome at.0 got now.run.entries n).
       turns-some s s.hosts i at.0 got old.run.entries now.run.entries n at.1 gone.0 part in
-      record { begun = some m t.0; lawful = t.1; full = λ e. full-more s _ _ m some (full e s at.0 got at.2 gone.1.lawful) }
+      record { begun = some m t.0; lawful = t.1; full = λ limit e. full-more s _ _ m some (full limit e s at.0 got at.2 gone.1.lawful) }
 
 -- all had their turn
 pub going-done : {old now : Sim} {i end : ℕ} → Going old now i end → end ≤ i → (s : Setup) (majors : List ℕ) (got : Option Got) → IsNetwork s majors

@@ -164,11 +164,11 @@ where-none (Some refusal) y = tt
 pub refused-at : {s : Setup} {begins : List Entry → Type 0} (run : Recorded) (refusal : NetRefusal) (answer : WorldRefusal) → answer ≡ refused_with run refusal
     → IsLeft s begins refusal run.entries → IsRefusedAt s begins run.entries answer
 refused-at run net.NoMemory answer is left = rw is tt
-refused-at run Full answer is left = rw is ((refl, refl), left.full refl)
+refused-at run (Full limit) answer is left = rw is ((refl, refl), left.full limit refl)
 
 pub counted-at : (s : Setup) (run : Recorded) (refusal : NetRefusal) → IsCounted s run.entries (refused_with run refusal)
 counted-at s run net.NoMemory = tt
-counted-at s run Full = (refl, refl)
+counted-at s run (Full limit) = (refl, refl)
 
 -- before any event
 pub new-world : {script : ScriptLines} {places : List Place} {sim : Sim} {cursor : ℕ} → IsStaged script places sim cursor

@@ -1,7 +1,8 @@
 -- What a replay takes, gives and leaves, by how it ended.
-use Rattle.std.specs.Prelude.{ℕ, ◌+◌, ◌-◌, ◌^◌, ◌<◌, ◌≤◌, ◌≡◌, ◌⊎◌, if◌then◌else◌, nat_le, List, [], ◌∷◌, length, take, slice_get, Option, Some, None}
+use Rattle.std.specs.Prelude.{ℕ, ◌+◌, ◌-◌, ◌^◌, ◌<◌, ◌≤◌, ◌≡◌, ◌⊎◌, List, [], ◌∷◌, length, take, slice_get, Option, Some, None}
 use Rattle.aoe_io.specs.Bytes.{Gave, GaveSome, Took, TookSome, IsEnded}
 use Rattle.aoe_io.specs.Input.{input_piece, IsReadInPart, IsReadUpTo}
+use Rattle.aoe_net.specs.declared.refusal.NetLimit.{NetLimit}
 use Rattle.aoe_history.specs.declared.entry.Entry.{Entry}
 use Rattle.aoe_history.specs.Frames.{frames}
 use Rattle.aoe_history.specs.Lawful.{IsLawful}
@@ -24,7 +25,7 @@ use Rattle.aoe_world.specs.declared.refusal.WorldRefusal.TheVariants as refused
 use Rattle.aoe_world.specs.Schedule.{Comes, ComesSome}
 use Rattle.aoe_world.specs.declared.end.ReplayEnd.{ReplayEnd}
 use Rattle.aoe_world.specs.declared.end.ReplayEnd.TheVariants.{Ended, SourceFault, SinkFault, NoMemory, Script, Limit}
-use Rattle.aoe_world.specs.declared.end.ReplayLimit.TheVariants.{ScriptBytes, Events, Frames, FrameBytes}
+use Rattle.aoe_world.specs.declared.end.ReplayLimit.TheVariants.{ScriptBytes, Events, Net}
 
 -- ---- events
 
@@ -47,8 +48,8 @@ pub record Played (script : ScriptLines) : Type 0 where
   pub plays : Plays (setup_of script.setups) script.setups script.events 1 [] cursor entries
   pub sound : IsSound (setup_of script.setups) entries
 
--- the first so many came and of the next a part, and there was no room for the frame that this one calls for next
-pub record Filled (script : ScriptLines) : Type 0 where
+-- the first so many came and of the next a part, and there was no room, by this limit, for the frame that this one calls for next
+pub record Filled (limit : NetLimit) (script : ScriptLines) : Type 0 where
   pub count : ℕ
   pub event : Event
   pub is_next : slice_get script.events count ≡ Some event
@@ -58,13 +59,12 @@ pub record Filled (script : ScriptLines) : Type 0 where
   pub entries : List Entry
   pub begins : ComesSome (setup_of script.setups) script.setups event cursor before entries
   pub sound : IsSound (setup_of script.setups) entries
-  pub full : MeetsFull (setup_of script.setups) (ComesSome (setup_of script.setups) script.setups event cursor before) entries
+  pub full : MeetsFull (setup_of script.setups) (ComesSome (setup_of script.setups) script.setups event cursor before) limit entries
 
 -- how a script ends whose events didn't all come: there was no memory, or no room for a frame that it calls for
 abbrev pub Stops : ReplayEnd → ScriptLines → Type 0
 Stops NoMemory script = Unit {0}
-Stops (Limit Frames) script = (run : Filled script) × (200000 ≤ length (frames run.entries))
-Stops (Limit FrameBytes) script = (run : Filled script) × (length (frames run.entries) < 200000)
+Stops (Limit (Net limit)) script = Filled limit script
 Stops (Limit ScriptBytes) script = ⊥
 Stops (Limit Events) script = ⊥
 Stops (Script line why) script = ⊥
@@ -87,8 +87,7 @@ abbrev pub RunsTo : Part → ReplayEnd → ScriptLines → Option (List ℕ) →
 RunsTo part Ended script held held' = (run : Played script) × Took held held' (text_of part script run)
 RunsTo part SinkFault script held held' = (run : Played script) × TookSome held held' (text_of part script run)
 RunsTo part NoMemory script held held' = held' ≡ held
-RunsTo part (Limit Frames) script held held' = Stops (Limit Frames) script × (held' ≡ held)
-RunsTo part (Limit FrameBytes) script held held' = Stops (Limit FrameBytes) script × (held' ≡ held)
+RunsTo part (Limit (Net limit)) script held held' = Stops (Limit (Net limit)) script × (held' ≡ held)
 RunsTo part (Limit ScriptBytes) script held held' = ⊥
 RunsTo part (Limit Events) script held held' = ⊥
 RunsTo part (Script line why) script held held' = ⊥
@@ -135,8 +134,7 @@ Wants left left' = IsReadInPart most_script_bytes left left' ⊎ ((text : List �
 abbrev pub Replayed : ReplayEnd → Option (List ℕ) → Option (List ℕ) → Option (List ℕ) → Option (List ℕ) → Type 0
 Replayed Ended left left' held held' = Spells Ended left left' held held'
 Replayed SinkFault left left' held held' = Spells SinkFault left left' held held'
-Replayed (Limit Frames) left left' held held' = Spells (Limit Frames) left left' held held'
-Replayed (Limit FrameBytes) left left' held held' = Spells (Limit FrameBytes) left left' held held'
+Replayed (Limit (Net limit)) left left' held held' = Spells (Limit (Net limit)) left left' held held'
 Replayed (Limit ScriptBytes) left left' held held' = GaveMore left left' × (held' ≡ held)
 Replayed (Limit Events) left left' held held' = Refuses left left' TooMany × (held' ≡ held)
 Replayed (Script line why) left left' held held' = Refuses left left' (BadLine line why) × (held' ≡ held)
@@ -190,8 +188,7 @@ IsRefusedAs NoMemory text = IsWanting text
 IsRefusedAs (Script line why) text = (length text ≤ most_script_bytes) × (refusal text ≡ Some (BadLine line why))
 IsRefusedAs (Limit Events) text = (length text ≤ most_script_bytes) × (refusal text ≡ Some TooMany)
 IsRefusedAs (Limit ScriptBytes) text = most_script_bytes < length text
-IsRefusedAs (Limit Frames) text = ⊥
-IsRefusedAs (Limit FrameBytes) text = ⊥
+IsRefusedAs (Limit (Net limit)) text = ⊥
 IsRefusedAs Ended text = ⊥
 IsRefusedAs SourceFault text = ⊥
 IsRefusedAs SinkFault text = ⊥
@@ -208,4 +205,4 @@ TakesText SourceFault held held' text = ⊥
 -- how a replay ends whose world goes no further
 abbrev pub end_of : WorldRefusal → ReplayEnd
 end_of refused.NoMemory = NoMemory
-end_of (refused.NetFull frames bytes) = if nat_le 200000 frames then Limit Frames else Limit FrameBytes
+end_of (refused.NetFull limit frames bytes) = Limit (Net limit)

@@ -10,6 +10,7 @@ use Rattle.aoe_history.specs.Setup.{host_called, is_called, shelf_of, AreSlots, 
 use Rattle.aoe_sim_hosts.specs.Host.{Awaits, IsSettled, SimHost}
 use Rattle.aoe_sim_setup.specs.Layout.{Placed}
 use Rattle.aoe_sim_shelves.specs.Shelf.{SimShelf, Serves}
+use Rattle.aoe_net.specs.declared.refusal.NetLimit.{NetLimit}
 use Rattle.aoe_net.specs.declared.refusal.NetRefusal.{NetRefusal}
 use Rattle.aoe_net.specs.declared.refusal.NetRefusal.TheVariants.{Full}
 use Rattle.aoe_history.specs.Run.{MeetsFull}
@@ -60,11 +61,12 @@ pub record IsTurning (s : Setup) (majors : List ℕ) (got : Option Got) (k : ℕ
   pub hosts_are : HadTurns s got sim.run.entries k sim.hosts.items
   pub shelves_are : AllServe s majors sim.run.entries sim.shelves.items
 
--- What a refusal leaves: a beginning that is lawful, and where the network was full, no room for the next frame that it calls for.
+-- What a refusal leaves: a beginning that is lawful, and where the network was full, no room by that limit for the next frame that it
+-- calls for.
 pub record IsLeft (s : Setup) (begins : List Entry → Type 0) (refusal : NetRefusal) (h : List Entry) : Type 0 where
   pub begun : begins h
   pub lawful : IsLawful s h
-  pub full : refusal ≡ Full → MeetsFull s begins h
+  pub full : (limit : NetLimit) → refusal ≡ Full limit → MeetsFull s begins limit h
 
 -- each host had its turn, or as many as could
 abbrev pub Settles : {T : Type 0} → Result T NetRefusal → Setup → List ℕ → Option Got → Sim → Sim → Type 0

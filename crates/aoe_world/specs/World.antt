@@ -33,17 +33,17 @@ pub record Stepped : Type 0 where
 -- a network that is full has so many frames and bytes
 abbrev pub IsCounted : Setup → List Entry → WorldRefusal → Type 0
 IsCounted s h NoMemory = Unit {0}
-IsCounted s h (NetFull count bytes) = (count ≡ length (frames h)) × (bytes ≡ total_bytes (network s.life h))
+IsCounted s h (NetFull limit count bytes) = (count ≡ length (frames h)) × (bytes ≡ total_bytes (network s.life h))
 
 -- why a world goes no further whose run was refused a frame, or memory
 abbrev pub refused_with : Recorded → NetRefusal → WorldRefusal
 refused_with run net.NoMemory = NoMemory
-refused_with run net.Full = NetFull (length (frames run.entries)) (total_bytes (network_of run))
+refused_with run (net.Full limit) = NetFull limit (length (frames run.entries)) (total_bytes (network_of run))
 
--- what has begun is refused for a frame that it calls for next, and for which the network has no room; or there was no memory
+-- what has begun is refused for a frame that it calls for next, and for which the network has no room by this limit; or there was no memory
 abbrev pub IsRefusedAt : Setup → (List Entry → Type 0) → List Entry → WorldRefusal → Type 0
 IsRefusedAt s begins h NoMemory = Unit {0}
-IsRefusedAt s begins h (NetFull count bytes) = IsCounted s h (NetFull count bytes) × MeetsFull s begins h
+IsRefusedAt s begins h (NetFull limit count bytes) = IsCounted s h (NetFull limit count bytes) × MeetsFull s begins limit h
 
 -- the stations of a script's setup lines, and a cursor on the frames so far or just behind them
 pub record IsStaged (script : ScriptLines) (places : List Place) (sim : Sim) (cursor : ℕ) : Type 0 where

@@ -1,4 +1,5 @@
 //! How a replay ends.
+use aoe_net::NetLimit;
 use aoe_script::Why;
 
 /// Which limit was exceeded.
@@ -10,11 +11,8 @@ pub enum ReplayLimit {
     /// The script has more than 50,000 events.
     Events,
 
-    /// 200,000 frames were sent, and there would be one more.
-    Frames,
-
-    /// The frames that were sent would have more than 536,870,912 bytes together.
-    FrameBytes,
+    /// The network has no room for the next frame.
+    Net(NetLimit),
 }
 
 /// How a replay ends.

@@ -6,7 +6,6 @@ ghost use Rattle.aoe_world.specs.Replay.{end_of, Plays, Stops};
 use crate::end::{ReplayEnd, ReplayLimit};
 use crate::refusal::WorldRefusal;
 use crate::world::World;
-use aoe_net::MAX_FRAMES;
 use aoe_script::Script;
 
 /// How a replay ends whose world goes no further.
@@ -15,10 +14,7 @@ fn end_of(refusal: WorldRefusal) -> ReplayEnd
 {
     match refusal {
         WorldRefusal::NoMemory => ReplayEnd::NoMemory,
-        WorldRefusal::NetFull { frames, .. } if frames >= MAX_FRAMES => {
-            ReplayEnd::Limit(ReplayLimit::Frames)
-        }
-        WorldRefusal::NetFull { .. } => ReplayEnd::Limit(ReplayLimit::FrameBytes),
+        WorldRefusal::NetFull { limit, .. } => ReplayEnd::Limit(ReplayLimit::Net(limit)),
     }
 }
 

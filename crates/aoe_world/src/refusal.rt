@@ -1,4 +1,5 @@
 //! Why a world goes no further.
+use aoe_net::NetLimit;
 use thiserror::Error;
 
 /// Why a world goes no further.
@@ -8,7 +9,12 @@ pub enum WorldRefusal {
     #[error("out of memory")]
     NoMemory,
 
-    /// The network has no room for the next frame: it has `frames` frames, of `bytes` bytes together.
+    /// The network has no room for the next frame, by this limit: it has `frames` frames, of `bytes`
+    /// bytes together.
     #[error("the network is full: {frames} frames, {bytes} bytes")]
-    NetFull { frames: u32, bytes: u64 },
+    NetFull {
+        limit: NetLimit,
+        frames: u32,
+        bytes: u64,
+    },
 }

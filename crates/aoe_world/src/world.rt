@@ -34,7 +34,8 @@ fn refusal_of(run: &Run, refusal: NetRefusal) -> WorldRefusal
 {
     match refusal {
         NetRefusal::NoMemory => WorldRefusal::NoMemory,
-        NetRefusal::Full => WorldRefusal::NetFull {
+        NetRefusal::Full(limit) => WorldRefusal::NetFull {
+            limit,
             frames: run.frames(),
             bytes: run.total_bytes(),
         },

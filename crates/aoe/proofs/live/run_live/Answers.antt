@@ -28,7 +28,7 @@ unwritten : (sectors : ℕ) (r : LiveRefusal) (held : Option (List ℕ)) → Wri
 unwritten sectors refusal.NoMemory held = (refl, refl)
 unwritten sectors (refusal.LinkFault link) held = (refl, refl)
 unwritten sectors (refusal.Unanswered turns) held = (refl, refl)
-unwritten sectors (refusal.Full frames bytes) held = (refl, refl)
+unwritten sectors (refusal.Full limit frames bytes) held = (refl, refl)
 unwritten sectors refusal.TooMany held = (refl, refl)
 
 -- the status tells of a link what the refusal told

@@ -1,4 +1,5 @@
 use Rattle.std.proofs.Common.{◌≡◌, ◌-◌, length}
+use Rattle.aoe_net.specs.Network.{most_frames}
 use Rattle.aoe_history.specs.Frames.{frames}
 use Rattle.aoe_history.specs.Lawful.{IsLawful}
 use Rattle.aoe_history.specs.Setup.{HostSetup, Setup}
@@ -19,4 +20,4 @@ invariant-frames l = record {
 }
 
 abbrev pub decreases-frames : goal.decreases-frames
-decreases-frames l = 200000 - length (frames l.run.entries)
+decreases-frames l = most_frames - length (frames l.run.entries)

@@ -15,9 +15,9 @@ returns-clause-err c = at-err c.send_all.result (λ s host got waits lawful.
     turn-sends tells c.send_all.new.run.entries (c.send_all.ensures.some s host tells.settled tells.lawful))
 
 pub returns-clause-full : goal.returns-clause-full
-returns-clause-full c = λ full s host got waits lawful.
+returns-clause-full c = λ limit full s host got waits lawful.
     let tells = c.in_ok-catch_up.ensures.ok s host got waits lawful in
-    turn-full tells c.send_all.new.run.entries (c.send_all.ensures.full full s host tells.settled tells.lawful)
+    turn-full tells c.send_all.new.run.entries (c.send_all.ensures.full limit full s host tells.settled tells.lawful)
 
 pub returns-in_err-catch_up-clause-err : goal.returns-in_err-catch_up-clause-err
 returns-in_err-catch_up-clause-err c = at-err c.from_residual.result (λ s host got waits lawful.

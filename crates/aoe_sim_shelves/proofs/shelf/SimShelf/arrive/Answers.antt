@@ -19,9 +19,9 @@ returns-in_err-how-clause-err c = on-err c.from_residual.result _ (λ s slots sh
     rw c.in_err-how.ensures.err (passes-some p, p.reached.lawful))
 
 pub returns-in_err-how-clause-full : goal.returns-in_err-how-clause-full
-returns-in_err-how-clause-full c full s slots shelf serves lawful fresh =
+returns-in_err-how-clause-full c limit full s slots shelf serves lawful fresh =
     let p = c.slots.invariant.passes s slots (record { shelf = shelf; serves = serves; lawful = lawful; fresh = fresh }) in
-    passes-full p _ (c.in_err-how.ensures.full (ap Err (sym (rw full at c.from_residual.ensures.1))) s slots p.reached)
+    passes-full p _ (c.in_err-how.ensures.full limit (ap Err (sym (rw full at c.from_residual.ensures.1))) s slots p.reached)
 
 pub returns-in-Ok-clause-ok : goal.returns-in-Ok-clause-ok
 returns-in-Ok-clause-ok c s slots shelf serves lawful fresh =

@@ -18,7 +18,7 @@ invariant_of-self-2 c =
     shelf-kept c.self.invariant.targets r.receives r.rest (receives-same r.receives.change) _ c.self.invariant refl
 
 pub returns-in-Err-clause-full : goal.returns-in-Err-clause-full
-returns-in-Err-clause-full c full s slots reached =
+returns-in-Err-clause-full c limit full s slots reached =
     let before : SimShelf = record { shelf = c.self.inside.shelf; stops = c.self.inside.stops.items } in
     let turn : IsTurn _ _ _ _ before (record before { shelf = c.receive_slot-heard.new.self }) _ _ _ = record {
       change = both-changes c.receive_slot-heard.ensures.receives c.receive_slot-heard.ensures.under;
@@ -27,9 +27,9 @@ returns-in-Err-clause-full c full s slots reached =
       count = c.self.invariant.count;
       is = rw c.deref.ensures.0 at c.stop_at-stop.ensures;
     } in
-    let is : c.in-Err.refusal ≡ Full = cc in
+    let is : c.in-Err.refusal ≡ Full limit = cc in
     rw c.in-Err.ensures.err
-    (turn-full turn (rw (← c.self.view_is) at reached) c.args.run.now.life (c.take_down.ensures.full (c.in-Err.is ∙ ap Err is)))
+    (turn-full turn (rw (← c.self.view_is) at reached) c.args.run.now.life (c.take_down.ensures.full limit (c.in-Err.is ∙ ap Err is)))
 
 pub returns-clause-comes : goal.returns-clause-comes
 returns-clause-comes c s slots reached =
