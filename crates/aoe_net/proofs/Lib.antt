@@ -1,1 +1,1 @@
-mod StoreLemmas
+pub mod StoreLemmas

@@ -7,7 +7,6 @@ use Rattle.std.proofs.lemmas.List.Sums.{sum_by-append, sum_by-cons}
 use Rattle.std.proofs.lemmas.Option.{slice_get-map, slice_get_past, slice_get_read}
 use Rattle.std.proofs.lemmas.Grind.{reverse_onto}
 use Rattle.aoe_net.specs.declared.net.Kept.{Kept}
-use Rattle.aoe_net.specs.declared.refusal.NetLimit.TheVariants.{Frames, Bytes}
 use Rattle.aoe_net.specs.Network.{Network, SentFrame, most_frame_bytes, most_frames, numbered, total_bytes, fresh_bytes, deliverable, lifetime, IsFull, IsNumberOf}
 use Rattle.aoe_net.specs.Store.{frame_of, frames_of, IsStore}
 
@@ -74,10 +73,10 @@ pub record HasRoom (net : Network) (more : List ℕ) : Type 0 where
 
 pub room-left : (net : Network) (more : List ℕ) → (IsFull net more → ⊥) → HasRoom net more
 room-left net more never =
-    let few : length net.sent < most_frames = elim (cases_lt (length net.sent) most_frames) [ inl few ↦ few | inr many ↦ absurd (never (Frames, many)) ] in
+    let few : length net.sent < most_frames = elim (cases_lt (length net.sent) most_frames) [ inl few ↦ few | inr many ↦ absurd (never (inl many)) ] in
     record {
       frames = few;
-      bytes = elim (cases_lt most_frame_bytes (total_bytes net + length more)) [ inl big ↦ absurd (never (Bytes, (few, big))) | inr small ↦ small ];
+      bytes = elim (cases_lt most_frame_bytes (total_bytes net + length more)) [ inl big ↦ absurd (never (inr (few, big))) | inr small ↦ small ];
     }
 
 pub store-push : (total : ℕ) (kept : List Kept) (k : Kept) → IsStore total kept → length kept < most_frames → total + length k.bytes ≤ most_frame_bytes

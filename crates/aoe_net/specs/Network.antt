@@ -1,5 +1,5 @@
 -- What a network is: its frames, and which of them it still hands over.
-use Rattle.std.specs.Prelude.{ℕ, suc, ◌≡◌, ◌+◌, ◌-◌, ◌<◌, ◌≤◌, ◌==◌, List, [], ◌∷◌, length, sum_by, nat_le, Option, Some, None, option_and_then, IsSomeAnd, if◌then◌else◌}
+use Rattle.std.specs.Prelude.{ℕ, suc, ◌≡◌, ◌+◌, ◌-◌, ◌<◌, ◌≤◌, ◌==◌, ◌⊎◌, List, [], ◌∷◌, length, sum_by, nat_le, Option, Some, None, option_and_then, IsSomeAnd, if◌then◌else◌}
 use Rattle.aoe_base.specs.declared.counted.Lifetimes.{Lifetimes}
 use Rattle.aoe_frame.specs.Header.{is_response}
 use Rattle.aoe_net.specs.declared.refusal.NetLimit.{NetLimit}
@@ -43,7 +43,7 @@ IsFullBy Bytes net bytes = (length net.sent < most_frames) × (most_frame_bytes 
 
 -- no room for these bytes
 abbrev pub IsFull : Network → List ℕ → Type 0
-IsFull net bytes = (limit : NetLimit) × IsFullBy limit net bytes
+IsFull net bytes = IsFullBy Frames net bytes ⊎ IsFullBy Bytes net bytes
 
 -- the frame with a number: they are numbered from 1 in the order of their sending
 abbrev pub numbered : List SentFrame → ℕ → Option SentFrame

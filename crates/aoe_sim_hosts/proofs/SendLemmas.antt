@@ -43,6 +43,7 @@ use Rattle.aoe_sim_hosts.proofs.Called.{is-called}
 use Rattle.aoe_sim_hosts.proofs.Commands.{about-kept, submitted-of}
 use Rattle.aoe_sim_hosts.proofs.Same.{settled-same, Stays}
 use Rattle.aoe_history.specs.Run.{MeetsFull}
+use Rattle.aoe_history.proofs.FullLemmas.{full-by}
 use Rattle.aoe_history.proofs.LogicLemmas.{some-mapped, some-then}
 
 -- HEADERS
@@ -167,7 +168,7 @@ module _ {s : Setup} {host : HostSetup} {name : ArrayVec ℕ} {h m : List Entry}
 
   -- there is no room for one frame more
   pub sends-full : {limit : NetLimit} (life : Lifetimes) → IsFullBy limit (network life m) f → MeetsFull s (SendsSome name h) limit m
-  sends-full life full = record { entry = entry; called_for = sends; may_come = may-come; bytes = f; brings = refl; full = full }
+  sends-full {limit} life full = record { entry = entry; called_for = sends; may_come = may-come; bytes = f; brings = refl; full = full-by limit life s.life m f full }
 
 -- nothing more may be sent
 pub settled-quiet : (s : Setup) (host : HostSetup) (h : List Entry) (x : SimHost) (new : Host) → IsSettled s host h x

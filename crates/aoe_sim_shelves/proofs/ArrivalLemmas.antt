@@ -23,7 +23,7 @@ use Rattle.aoe_history.specs.Setup.{Setup, SlotSetup}
 use Rattle.aoe_history.specs.ShelfLaw.{KeepsArming, KeepsShelfLaw}
 use Rattle.aoe_history.specs.Run.{MeetsFull}
 use Rattle.aoe_history.proofs.FrameLemmas.{bytes-arriving, numbered-later}
-use Rattle.aoe_history.proofs.FullLemmas.{full-more}
+use Rattle.aoe_history.proofs.FullLemmas.{full-by, full-more}
 use Rattle.aoe_history.proofs.LogicLemmas.{some-then}
 use Rattle.aoe_sim_shelves.specs.declared.shelf.Stops.{Stops}
 use Rattle.aoe_sim_shelves.specs.Arrival.{noted, stop_at, ComesToSlot, GoesOn, IsCut, IsReached, IsReplyFull}
@@ -133,7 +133,7 @@ module _ {i : ℕ} {f : List ℕ} {w : Heard} {out : List ℕ} {x y : SimShelf} 
     -- or its reply is the next frame, for which there is no room
     no-room : {limit : NetLimit} (life : Lifetimes) (o : Option Loss) (v : Heard) → o ≡ stop_at armed w → w ≡ v → IsReplyFull o v limit (network life h) out
         → MeetsFull s (ArriveAtSome number f slots (drop i slots) h) limit h
-    no-room life None (heard.Replied e) is same full =
+    no-room {limit} life None (heard.Replied e) is same full =
         let fate : Fate = Replied e (next_number h) out in
         record {
           entry = Arrived slot.station.id number fate;
@@ -142,7 +142,7 @@ module _ {i : ℕ} {f : List ℕ} {w : Heard} {out : List ℕ} {x y : SimShelf} 
           may_come = rw same at (goes-on (sym is)).reached.lawful.0;
           bytes = out;
           brings = refl;
-          full = full;
+          full = full-by limit life s.life h out full;
         }
     no-room life _ _ is same full = absurd full
 

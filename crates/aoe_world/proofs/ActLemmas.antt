@@ -27,7 +27,7 @@ use Rattle.aoe_net.specs.declared.refusal.NetRefusal.TheVariants.{Full, NoMemory
 use Rattle.aoe_net.specs.Network.{IsFullBy}
 use Rattle.aoe_sim_shelves.specs.Shelf.{is_apart as is_apart_of_slots, SimShelf, Serves}
 use Rattle.aoe_history.specs.Run.{network_of, with_entry, MeetsFull}
-use Rattle.aoe_history.proofs.FullLemmas.{full-more}
+use Rattle.aoe_history.proofs.FullLemmas.{full-by, full-more}
 use Rattle.aoe_world.proofs.AddsLemmas.{adds-entry, Adds, SpeaksOf}
 use Rattle.aoe_world.proofs.ListLemmas.{filter-at, set-each}
 use Rattle.aoe_world.proofs.TurnLemmas.{serves-adds, settled-adds, shelves-after}
@@ -185,7 +185,7 @@ injected-by (Err refusal) s majors f old mid k foreign hosts shelves run full sa
       may_come = record { source = foreign; number_is = refl };
       bytes = f;
       brings = refl;
-      full = full limit (ap Err e);
+      full = full-by limit old.run.life s.life old.run.entries f (full limit (ap Err e));
     }
 
 -- of what was before only the history counts
