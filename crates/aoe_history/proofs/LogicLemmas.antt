@@ -1,5 +1,5 @@
 -- Facts of truth values, options, results and lists.
-use Rattle.std.proofs.Common.{if◌then◌else◌, not, nat_eq, ◌&&◌, ◌||◌, ℕ, suc, ◌≤◌, ◌≡◌, Bool, true, false, List, [], ◌∷◌, ◌++◌, map, Option, Some, None, refl, ap, arith}
+use Rattle.std.proofs.Common.{if◌then◌else◌, nat_eq, ◌&&◌, ◌||◌, ℕ, suc, ◌≤◌, ◌≡◌, Bool, true, false, List, [], ◌∷◌, ◌++◌, map, Option, Some, None, refl, ap, arith}
 use Rattle.std.specs.Prelude.{Result, Ok, Err, IsSomeAnd, OnErr, OnOk, option_and_then, option_map}
 use Rattle.std.proofs.lemmas.Bool as bool
 use Rattle.std.proofs.lemmas.Bool.Decides.{nat_tests}
@@ -15,12 +15,6 @@ and-false b c e = rw e
 
 pub or-right : (b c : Bool) → c ≡ true → (b || c) ≡ true
 or-right = bool.or_right
-
-pub not-true : (b : Bool) → not b ≡ true → b ≡ false
-not-true = bool.not-true
-
-pub not-both : (b : Bool) → b ≡ true → b ≡ false → ⊥
-not-both b p q = cc
 
 pub untrue : (b : Bool) → (b ≡ true → ⊥) → b ≡ false
 untrue = bool.false_from_ne_true

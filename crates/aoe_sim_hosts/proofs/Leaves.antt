@@ -1,5 +1,6 @@
 -- An entry that says nothing of a host leaves what the history says of it.
 use Rattle.std.proofs.Common.{ℕ, ◌≡◌, true, List, ◌∷◌, Some, refl}
+use Rattle.std.proofs.lemmas.Bool.{not-true}
 use Rattle.aoe_base.specs.declared.counted.Lifetimes.{Lifetimes}
 use Rattle.aoe_net.specs.Network.{fresh_bytes, numbered, SentFrame}
 use Rattle.aoe_history.specs.declared.entry.Entry.{Entry}
@@ -12,7 +13,7 @@ use Rattle.aoe_history.proofs.FrameLemmas.{numbered-later}
 use Rattle.aoe_sim_hosts.specs.Host.{is_apart}
 use Rattle.aoe_initiator.specs.declared.outcome.Outcome.{Outcome}
 use Rattle.aoe_initiator.specs.declared.outcome.Outcome.TheVariants.{GaveUp}
-use Rattle.aoe_history.proofs.LogicLemmas.{not-true, some-then}
+use Rattle.aoe_history.proofs.LogicLemmas.{some-then}
 
 pub record Leaves (host : HostSetup) (h n : List Entry) : Type 0 where
   pub count : tickets host n ≡ tickets host h

@@ -1,6 +1,5 @@
 -- A host's turn, of its two parts.
 use Rattle.std.proofs.Common.{◌≡◌, inl, inr, true, List, Option}
-use Rattle.std.specs.Prelude.{Result, Ok, Err, OnErr}
 use Rattle.aoe_initiator.specs.HostLaw.{IsQuiet}
 use Rattle.aoe_history.specs.declared.entry.Entry.{Entry}
 use Rattle.aoe_history.specs.Commands.{commands_of, host_after}
@@ -53,7 +52,3 @@ turn-tells {s} {host} {x = x} waits tells = (
   ),
   tells.lawful,
 )
-
-pub at-err : {T E Q : Type 0} (r : Result T E) → Q → OnErr r Q
-at-err (Ok x) q = tt
-at-err (Err e) q = q

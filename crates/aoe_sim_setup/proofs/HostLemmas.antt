@@ -7,6 +7,7 @@ use Rattle.std.proofs.lemmas.Option.{none-some, same_Some}
 use Rattle.std.proofs.lemmas.Slice.Eq.{bytes_eq-Decides}
 use Rattle.arrayvec.specs.ArrayVec.{ArrayVec}
 use Rattle.aoe_base.specs.declared.address.Mac.{Mac}
+use Rattle.aoe_base.proofs.CommonLemmas.{bytes-apart}
 use Rattle.aoe_initiator.specs.declared.device.Attached.{Attached}
 use Rattle.aoe_initiator.specs.HostLaw.{same_id}
 use Rattle.aoe_history.specs.Setup.{host_called, is_called, HostSetup}
@@ -112,9 +113,6 @@ module _ (lines : List Line) (good : AreGood lines) where
   found-host i host name e called = rw (← (bytes_eq-Decides host.name name.items).0 called)
       (find-by (λ (a b : HostSetup). bytes_eq a.name b.name) (setup_of lines).hosts i host hosts-apart e ((bytes_eq-Decides host.name host.name).1 refl))
 
-  turn : (a b : List ℕ) → bytes_eq a b ≡ false → bytes_eq b a ≡ false
-  turn a b e = false_from_ne_true _ (λ is. both_ways _ e ((bytes_eq-Decides a b).1 (sym ((bytes_eq-Decides b a).0 is))))
-
   pub host-called : (k : ℕ) (name : ArrayVec ℕ) (ports : ArrayVec Mac) (room dead : Option ℕ) → slice_get lines k ≡ Some (Host name ports room dead)
       → host_called (setup_of lines) name ≡ Some (host_of lines name ports.items room dead)
   host-called k name ports room dead e =
@@ -126,5 +124,5 @@ module _ (lines : List Line) (good : AreGood lines) where
     line_called = host-called;
     called = found-host;
     names = λ i j a b name p q ne called. rw (← (bytes_eq-Decides a.name name.items).0 called)
-        (apart-by (λ (x y : HostSetup). bytes_eq x.name y.name) _ (λ x y s. turn x.name y.name s) hosts-apart j i b a q p (λ s. ne (sym s)));
+        (apart-by (λ (x y : HostSetup). bytes_eq x.name y.name) _ (λ x y s. bytes-apart x.name y.name s) hosts-apart j i b a q p (λ s. ne (sym s)));
   }

@@ -1,5 +1,5 @@
 -- The slots that good lines declare.
-use Rattle.std.proofs.Common.{Contains, ◌≢◌, ℕ, ◌≤◌, ◌≡◌, ◌∙◌, true, false, ◌==◌, List, length, Option, Some, nat_eq, refl, sym, ap, arith}
+use Rattle.std.proofs.Common.{Contains, ◌≢◌, ℕ, ◌≤◌, ◌≡◌, ◌∙◌, false, ◌==◌, List, length, Option, Some, nat_eq, refl, sym, ap, arith}
 use Rattle.std.specs.Prelude.{slice_get}
 use Rattle.std.specs.List.{filter_map}
 use Rattle.std.proofs.lemmas.Bool.{and_from, and_left, and_parts, and_right, both_ways, eq-eqb, eqb-true, false_from_ne_true, ne_eqb}
@@ -9,6 +9,7 @@ use Rattle.aoe_base.specs.declared.address.Mac.{Mac}
 use Rattle.aoe_base.specs.declared.address.TargetId.{TargetId}
 use Rattle.aoe_initiator.specs.HostLaw.{same_id}
 use Rattle.aoe_initiator.proofs.ListLemmas.{Contains-filter}
+use Rattle.aoe_initiator.proofs.NameLemmas.{same_id-refl}
 use Rattle.aoe_history.specs.Setup.{is_slot, shelf_of, slot_of, AreSlots, SlotSetup}
 use Rattle.aoe_script.specs.declared.setup.Setup.{Setup as Line}
 use Rattle.aoe_script.specs.declared.setup.Setup.TheVariants.{Shelf, Slot}
@@ -51,9 +52,6 @@ pub record SlotFrom (lines : List Line) (slot : SlotSetup) : Type 0 where
   pub minor : ℕ
   pub line : SlotLine lines name minor
   pub slot_is : slot_in line ≡ slot
-
-pub same-same : (id : TargetId) → same_id id id ≡ true
-same-same id = and_from _ _ (eq-eqb id.major id.major refl) (eq-eqb id.minor id.minor refl)
 
 pub same-turn : (a b : TargetId) → same_id a b ≡ false → same_id b a ≡ false
 same-turn a b e = false_from_ne_true _ (λ is.
@@ -105,7 +103,7 @@ module _ (lines : List Line) (good : AreGood lines) where
       each _ = λ i j a b lt p q. absurd (none-some a p)
 
   pub slot-found : (slot : SlotSetup) → Place (setup_of lines).slots slot → slot_of (setup_of lines) slot.station.id ≡ Some slot
-  slot-found slot p = find-by (λ a b. is_slot a b.station.id) (setup_of lines).slots p.at slot slots-apart p.there (same-same slot.station.id)
+  slot-found slot p = find-by (λ a b. is_slot a b.station.id) (setup_of lines).slots p.at slot slots-apart p.there (same_id-refl slot.station.id)
 
   -- ---- shelves
 

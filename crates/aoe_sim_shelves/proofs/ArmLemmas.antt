@@ -29,10 +29,10 @@ use Rattle.aoe_sim_shelves.specs.Arming.{arm_of, with_stop, ArmsDisk}
 use Rattle.aoe_sim_shelves.specs.Shelf.{IsDue, IsSimShelf, IsServing, IsStoreDue, Serves}
 use Rattle.aoe_sim_shelves.proofs.Apart.{says-armed, serves-on}
 use Rattle.aoe_sim_shelves.proofs.ShelfLemmas.{shelf-kept, IsSameTarget}
-use Rattle.aoe_sim_shelves.proofs.SlotLemmas.{same-self}
 use Rattle.aoe_sim_shelves.proofs.UnderLemmas.{armed-under, settled-self, under-wrote}
 use Rattle.aoe_sim_shelves.proofs.Words.{Shelf, Target}
 use Rattle.aoe_initiator.proofs.ListLemmas.{get-there as there}
+use Rattle.aoe_initiator.proofs.NameLemmas.{same_id-refl}
 
 -- the stretch of a disk that was just armed
 abbrev pub begun : ℕ → Option Loss → Stretch
@@ -53,7 +53,7 @@ still-finds o p k e finds = rw e finds
 armed : (which : Which) (slot : SlotSetup) (h : List Entry) (k : ℕ) (mode : Option Loss) {t u : Target} {stops : Stops} → 0 < k → IsServing slot h t stops
     → ArmsDisk which (arm_of k mode) t u → IsServing slot (Armed slot.station.id which k mode ∷ h) u (with_stop which mode stops)
 armed Store slot h k mode {t} {u} {stops} first s a =
-    let mine : is_slot slot slot.station.id ≡ true = same-self slot.station.id in
+    let mine : is_slot slot slot.station.id ≡ true = same_id-refl slot.station.id in
     rw a.0.rest (record {
       station = s.station;
       under = under-wrote slot.station.sectors slot.cache (slot_after slot h) (slot_after slot h) _ _ 0
@@ -66,7 +66,7 @@ armed Store slot h k mode {t} {u} {stops} first s a =
       keep_stop = rw mine s.keep_stop;
     })
 armed Keep slot h k mode {t} {u} {stops} first s a =
-    let mine : is_slot slot slot.station.id ≡ true = same-self slot.station.id in
+    let mine : is_slot slot slot.station.id ≡ true = same_id-refl slot.station.id in
     rw a.rest (record {
       station = s.station;
       under = s.under;

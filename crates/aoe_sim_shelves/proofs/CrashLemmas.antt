@@ -1,7 +1,6 @@
 -- A target that lost its power and was mounted again, and what is known of it.
-use Rattle.std.proofs.Common.{◌≡◌, ◌<◌, ◌-◌, ◌/◌, inl, ℕ, zero, suc, Bool, true, false, not, if◌then◌else◌, List, length, replicate, Option, Some, None, refl, sym, ◌∙◌, arith}
+use Rattle.std.proofs.Common.{◌≡◌, ◌<◌, ◌-◌, ◌/◌, inl, ℕ, Bool, true, false, if◌then◌else◌, List, length, replicate, Option, Some, None, refl, sym, ◌∙◌, arith}
 use Rattle.std.specs.Bool.{OnTrue}
-use Rattle.std.specs.List.{list_all}
 use Rattle.std.specs.Prelude.{IfSome}
 use Rattle.std.proofs.lemmas.Bool.{OnTrue_at, OnTrue_from}
 use Rattle.std.specs.Option.{option_map}
@@ -13,6 +12,7 @@ use Rattle.aoe_cache.specs.Held.{laid_over}
 use Rattle.aoe_cache.specs.declared.any.AnyStore.{AnyStore}
 use Rattle.aoe_cache.specs.declared.any.AnyStore.TheVariants.{Direct, Cached}
 use Rattle.aoe_base.specs.declared.address.Mac.{Mac}
+use Rattle.aoe_base.proofs.CommonLemmas.{none-set}
 use Rattle.aoe_disk.specs.Arming.{number_of}
 use Rattle.aoe_disk.specs.Memory.{contents_of, state_of, Memory}
 use Rattle.aoe_disk.specs.State.{is_loose, sector, BothTell, Contents}
@@ -65,13 +65,9 @@ module _ {how : Loss} {a b : Memory} (l : Loses how a b) (u : Unsettled) (n : �
 firm : (places left : ℕ) (c : Contents) (s : ℕ) → free_of places (Some c) ≡ Some left → is_loose c.loose s ≡ false
 firm places left c s e = grind (arith, common_steps)
 
-all_settled_marks : (n : ℕ) → list_all not (replicate n false) ≡ true
-all_settled_marks zero = refl
-all_settled_marks (suc n) = all_settled_marks n
-
 -- a disk just opened has all its room
 pub opened_free : (places : ℕ) (m : Memory) (n : ℕ) → m.loose ≡ replicate n false → free_of places (Some (contents_of m)) ≡ Some places
-opened_free places m n is = rw (is, all_settled_marks n)
+opened_free places m n is = rw (is, none-set n)
 
 -- a sector after a crash, by what the disk had there and what the store showed
 cached_sector : (new old shown : List ℕ) (marked whole : Bool) (known settled : Option (List ℕ)) → (marked ≡ false → (new ≡ old) × (old ≡ shown))

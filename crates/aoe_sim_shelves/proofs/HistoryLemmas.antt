@@ -23,9 +23,9 @@ use Rattle.aoe_sim_shelves.specs.Shelf.{IsServing, SimShelf, Serves, Stands}
 use Rattle.aoe_sim_shelves.proofs.Apart.{says-crashed, SaysSame}
 use Rattle.aoe_sim_shelves.proofs.CrashLemmas.{keep_unarmed, restarted, restarted_lists, store_unarmed}
 use Rattle.aoe_sim_shelves.proofs.FrontLemmas.{get_replicate, get_take, was}
-use Rattle.aoe_sim_shelves.proofs.SlotLemmas.{same-self}
 use Rattle.aoe_sim_shelves.proofs.Words.{Target}
 use Rattle.aoe_initiator.proofs.ListLemmas.{get-there as there}
+use Rattle.aoe_initiator.proofs.NameLemmas.{same_id-refl}
 
 -- ONE SLOT
 
@@ -123,7 +123,7 @@ module _ {slots : List SlotSetup} {h : List Entry} {how : Loss} {x : SimShelf} {
 
   module _ (apart : AreApart slots) (i : ℕ) (slot : SlotSetup) (t : Target) (a : slice_get slots i ≡ Some slot) (b : slice_get ys i ≡ Some t) where
     crashed : CrashesTo slot t.keep.lists how h (with_crashes how ys h)
-    crashed = struck slot how ys i t h b (rw (may_restart.each i slot t a b).0 (same-self slot.station.id)) (λ j u. other_name apart i j slot u a)
+    crashed = struck slot how ys i t h b (rw (may_restart.each i slot t a b).0 (same_id-refl slot.station.id)) (λ j u. other_name apart i j slot u a)
 
     serving : (stops : Stops) → stops ≡ record { store = None; keep = None } → IsServing slot (with_crashes how ys h) t stops
     serving stops is =

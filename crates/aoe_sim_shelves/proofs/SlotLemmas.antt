@@ -1,15 +1,14 @@
 -- A frame that comes to a slot: its fate is lawful, and the disks of the slot are afterwards what the history says.
 use Rattle.std.proofs.Common.{◌||◌, ◌≡◌, Bool, true, false, if◌then◌else◌, ℕ, List, ◌∷◌, Option, Some, None, inl, inr, is_none, is_some, refl, sym, ap, ◌∙◌, arith}
-use Rattle.std.proofs.lemmas.Bool.Decides.{nat_tests}
 use Rattle.std.proofs.lemmas.Bool.{cases_Bool, OnTrue_at, OnTrue_from}
 use Rattle.std.specs.Option.{option_map}
 use Rattle.aoe_cache.specs.Any.{any_state, any_under}
-use Rattle.aoe_base.specs.declared.address.TargetId.{TargetId}
+use Rattle.aoe_base.proofs.CommonLemmas.{not-both}
 use Rattle.aoe_disk.specs.Calls.{IsRun}
 use Rattle.aoe_disk.specs.Memory.{schedule_of, state_of}
 use Rattle.aoe_disk.specs.State.{BothTell, Contents}
 use Rattle.aoe_disk.specs.declared.loss.Loss.{Loss}
-use Rattle.aoe_initiator.specs.HostLaw.{same_id}
+use Rattle.aoe_initiator.proofs.NameLemmas.{same_id-refl}
 use Rattle.aoe_store.specs.Under.{CallsUnder, Under}
 use Rattle.aoe_target.specs.declared.heard.Heard.{Heard}
 use Rattle.aoe_target.specs.declared.verdict.Verdict.{Verdict}
@@ -36,12 +35,8 @@ use Rattle.aoe_sim_shelves.proofs.FateLemmas.{called-kept, edited-done, faulty-c
 use Rattle.aoe_sim_shelves.proofs.StepLemmas.{held, known_in, stepped, StepsWithin}
 use Rattle.aoe_sim_shelves.proofs.UnderLemmas.{moves-calls, under-failed, under-idle, under-noted}
 use Rattle.aoe_sim_shelves.proofs.Words.{device, Target}
-use Rattle.aoe_history.proofs.LogicLemmas.{not-both}
 
 -- A SLOT AFTER AN ARRIVAL
-
-pub same-self : (id : TargetId) → same_id id id ≡ true
-same-self id = grind (arith, nat_tests)
 
 -- the stretch of a disk after a frame
 abbrev pub stretch_then : Which → SlotSetup → List Entry → List ℕ → Fate → Option Stretch
@@ -54,7 +49,7 @@ pub record Follows (slot : SlotSetup) (h : List Entry) (f : List ℕ) (fate : Fa
 pub follows : (slot : SlotSetup) (h : List Entry) (number : ℕ) (f : List ℕ) (fate : Fate) → bytes_of h number ≡ f
     → Follows slot h f fate (Arrived slot.station.id number fate ∷ h)
 follows slot h number f fate bytes =
-    let mine : is_slot slot slot.station.id ≡ true = same-self slot.station.id in
+    let mine : is_slot slot slot.station.id ≡ true = same_id-refl slot.station.id in
     record { known = rw (mine, bytes); stretches = λ which. rw (mine, bytes) }
 
 -- WHAT A TARGET DID, in the words of a history

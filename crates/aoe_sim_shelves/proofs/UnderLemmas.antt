@@ -4,6 +4,7 @@ use Rattle.std.proofs.lemmas.Bool.Decides.{nat_tests}
 use Rattle.std.proofs.lemmas.Bool.{cases_Bool}
 use Rattle.std.specs.Prelude.{IfSome}
 use Rattle.std.specs.Option.{option_map}
+use Rattle.aoe_base.proofs.CommonLemmas.{not-both}
 use Rattle.aoe_disk.specs.State.{BothTell, Contents}
 use Rattle.aoe_disk.specs.declared.armed.Arm.{Arm}
 use Rattle.aoe_store.specs.Under.{bytes_under, ArmsUnder, CallsUnder, FreesUnder, ReadsUnder, StaysUnder, Under}
@@ -30,7 +31,6 @@ use Rattle.aoe_history.specs.Setup.{SlotSetup}
 use Rattle.aoe_history.specs.Slots.{after_call, after_frame, fate_at, is_cached_whole, is_struck, Slot, Unsettled}
 use Rattle.aoe_sim_shelves.specs.Arrival.{noted}
 use Rattle.aoe_sim_shelves.specs.Shelf.{AgreesWithin, IsBelow, HasCache}
-use Rattle.aoe_history.proofs.LogicLemmas.{not-both}
 use Rattle.aoe_sim_shelves.proofs.StepLemmas.{step_sectors}
 
 -- PLUMBING

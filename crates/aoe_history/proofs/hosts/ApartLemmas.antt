@@ -5,6 +5,7 @@ use Rattle.std.proofs.lemmas.Bool.Decides.{nat_tests}
 use Rattle.aoe_base.specs.declared.sectors.Span.{Span}
 use Rattle.aoe_base.specs.Spans.{overlap}
 use Rattle.aoe_base.specs.declared.counted.Lifetimes.{Lifetimes}
+use Rattle.aoe_base.proofs.CommonLemmas.{not-both}
 use Rattle.aoe_frame.specs.Header.{is_response}
 use Rattle.aoe_hold.specs.declared.command.Command.{Command}
 use Rattle.aoe_hold.specs.declared.command.Stage.TheVariants.{Unsent}
@@ -13,6 +14,7 @@ use Rattle.aoe_initiator.specs.declared.op.Op.{Op}
 use Rattle.aoe_initiator.specs.declared.op.Op.TheVariants.{Read, Write, Flush}
 use Rattle.aoe_initiator.specs.HostLog.{Sending}
 use Rattle.aoe_initiator.specs.Op.{kind_of, span_of}
+use Rattle.aoe_initiator.proofs.NameLemmas.{same-id}
 use Rattle.aoe_net.specs.Network.{numbered, SentFrame}
 use Rattle.aoe_target.specs.Sectors.{in_span, value_in}
 use Rattle.aoe_history.specs.declared.entry.Entry.{Entry}
@@ -23,8 +25,6 @@ use Rattle.aoe_history.specs.Setup.{device_no, HostSetup, SlotSetup}
 use Rattle.aoe_history.proofs.hosts.BaseLemmas.{Base}
 use Rattle.aoe_history.proofs.FrameLemmas.{birth_of, arrives, request-life}
 use Rattle.aoe_history.proofs.hosts.GoneLemmas.{AreGone}
-use Rattle.aoe_history.proofs.hosts.SentLemmas.{ids-same}
-use Rattle.aoe_history.proofs.LogicLemmas.{not-both}
 
 pub record WritesTo (slot : SlotSetup) (o : Option Submission) (s : ℕ) (v : List ℕ) : Type 0 where
   pub at : ℕ
@@ -51,7 +51,7 @@ op_clash x y = conflict (entered x) (entered y)
 conflicts : (host : HostSetup) {slot : SlotSetup} (h : List Entry) (d c : ℕ) {a b : Op} → AsksAt slot (submission host h d) a
     → AsksAt slot (submission host h c) b → op_clash a b ≡ true → in_conflict host h d c ≡ true
 conflicts host {slot} h d c p q e =
-    grind (arith, ids-same slot.station.id p.dev p.slot_is, ids-same slot.station.id q.dev q.slot_is, eq-eqb (device_no host q.dev).0 _ refl)
+    grind (arith, same-id slot.station.id p.dev p.slot_is, same-id slot.station.id q.dev q.slot_is, eq-eqb (device_no host q.dev).0 _ refl)
 
 -- UNDER WAY
 

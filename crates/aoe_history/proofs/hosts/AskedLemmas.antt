@@ -33,14 +33,11 @@ use Rattle.aoe_history.proofs.hosts.CommandLemmas.{IsNamed}
 use Rattle.aoe_history.proofs.hosts.EntryLemmas.{named}
 use Rattle.aoe_history.proofs.replies.RequestLemmas.{comes-of, request-asks, request-head, request-writes}
 use Rattle.aoe_history.proofs.hosts.SentLemmas.{about-at, found, host-there, request-fits}
-use Rattle.aoe_history.proofs.hosts.SentLemmas as sent
 use Rattle.aoe_history.proofs.LogicLemmas.{some-and, some-mapped}
 use Rattle.aoe_initiator.proofs.ListLemmas.{get-there, placed, placed-inside, Contains-get}
+use Rattle.aoe_initiator.proofs.NameLemmas.{same-id}
 
 -- DEVICES
-
-pub ids-same : (a b : TargetId) → same_id a b ≡ true → a ≡ b
-ids-same = sent.ids-same
 
 askable-op : (about : Attached) (op : Op) → about.max ≤ 17 → about.total ≤ 281474976710656
     → CanSubmit op → op_refusal about op ≡ None → CanSpell op × HasSectors op
@@ -62,7 +59,7 @@ module _ (s : Setup) (host : HostSetup) (mine : IsNamed s host) (ok : IsSetup s)
         sectors = both.1;
         about = a.0;
         place = rw x.attached a.1;
-        id = ids-same a.0.id dev (placed _ host.devices x.device a.0 x.attached a.1);
+        id = same-id a.0.id dev (placed _ host.devices x.device a.0 x.attached a.1);
       }
 
   pub asked : (h : List Entry) → IsLawful s h → (c : ℕ) (x : Submission) → submission host h c ≡ Some x → IsAskable host x
@@ -121,7 +118,7 @@ module _ (s : Setup) (host : HostSetup) (h : List Entry) (run : HasHost s host h
       let c = comes-of _ _ _ _ d (request-head _ _ _ _ _ fits) w in
       let at : IsAttachedTo s r.about = run.setup.attached host r.about mine (Contains-get _ _ r.about r.there) in
       let its = found _ s.slots at.slot at.there in
-      let eq = ids-same at.slot.station.id r.about.id its.1 in
+      let eq = same-id at.slot.station.id r.about.id its.1 in
       let header = request_header x.op r.about.id r.remote r.local sent.sending.tag in
       let heard = heard-at slot.station header c.heard (rw eq at (run.setup.majors at.slot its.0)) (rw eq at (run.setup.minors at.slot its.0)) in
       record {

@@ -2,6 +2,7 @@
 use Rattle.std.proofs.Common.{ℕ, inl, inr, List, [], ◌∷◌, IsSomeAnd, ap, arith, Contains}
 use Rattle.std.proofs.lemmas.Bool.{cases_Bool}
 use Rattle.arrayvec.specs.ArrayVec.{ArrayVec}
+use Rattle.aoe_base.proofs.CommonLemmas.{not-both}
 use Rattle.aoe_frame.specs.declared.header.Header.{Header}
 use Rattle.aoe_history.specs.declared.entry.Entry.{Entry}
 use Rattle.aoe_history.specs.declared.entry.Entry.TheVariants.{Submitted, Sent, Injected, Arrived, Done}
@@ -17,7 +18,7 @@ use Rattle.aoe_history.proofs.hosts.GoneLemmas.{keeps-gone, sent-gone, AreGone}
 use Rattle.aoe_history.proofs.hosts.ReadyLemmas.{ready}
 use Rattle.aoe_history.proofs.hosts.SentLemmas.{found, host-there, request-header}
 use Rattle.aoe_history.proofs.hosts.SourceLemmas.{foreign-source, replied-source, request-source, some-such}
-use Rattle.aoe_history.proofs.LogicLemmas.{not-both, some-and}
+use Rattle.aoe_history.proofs.LogicLemmas.{some-and}
 
 pub record Holds (s : Setup) (host : HostSetup) (h : List Entry) : Type 0 where
   pub base : Base s.life host h

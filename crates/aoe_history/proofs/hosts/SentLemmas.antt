@@ -3,28 +3,28 @@ use Rattle.std.proofs.Common.{ℕ, zero, suc, ◌+◌, ◌<◌, ◌≡◌, inl, 
 use Rattle.std.specs.Prelude.{slice_get}
 use Rattle.std.specs.List.{find}
 use Rattle.std.specs.Option.{option_map}
-use Rattle.std.proofs.lemmas.Bool.{and_parts, cases_Bool, eqb-true}
+use Rattle.std.proofs.lemmas.Bool.{cases_Bool}
 use Rattle.arrayvec.specs.ArrayVec.{ArrayVec}
 use Rattle.aoe_base.specs.declared.address.Mac.{Mac}
-use Rattle.aoe_base.specs.declared.address.TargetId.{TargetId}
 use Rattle.aoe_base.specs.declared.counted.DeviceNo.{DeviceNo}
 use Rattle.aoe_base.specs.declared.counted.PathNo.{PathNo}
 use Rattle.aoe_base.specs.Addresses.{holds}
 use Rattle.aoe_base.proofs.AddressLemmas.{holds-at}
-use Rattle.aoe_frame.proofs.HeaderLemmas.{kind-read}
+use Rattle.aoe_frame.proofs.HeaderLemmas.{kind-read, head-fields}
 use Rattle.aoe_frame.specs.Header.{fields, head, is_response, Fits}
 use Rattle.aoe_initiator.specs.declared.device.Attached.{Attached}
 use Rattle.aoe_initiator.specs.declared.device.Device.{Device}
 use Rattle.aoe_initiator.specs.declared.op.Op.{Op}
-use Rattle.aoe_initiator.specs.HostLaw.{same_id, spelled_for}
+use Rattle.aoe_initiator.specs.HostLaw.{spelled_for}
 use Rattle.aoe_initiator.specs.HostLog.{HostCommand}
 use Rattle.aoe_initiator.specs.Request.{request_header}
 use Rattle.aoe_history.specs.declared.entry.Entry.{Entry}
 use Rattle.aoe_history.specs.Commands.{devices_of, host_after}
 use Rattle.aoe_history.specs.CommandView.{IsRequest}
 use Rattle.aoe_history.specs.Setup.{host_called, is_called, HostSetup, IsAttachedTo, IsSetup, Setup}
-use Rattle.aoe_history.proofs.replies.RequestLemmas.{fields-are, request-head}
+use Rattle.aoe_history.proofs.replies.RequestLemmas.{request-head}
 use Rattle.aoe_initiator.proofs.ListLemmas.{Contains-cons, Contains-get}
+use Rattle.aoe_initiator.proofs.NameLemmas.{same-id}
 
 -- LISTS
 
@@ -60,9 +60,6 @@ spelled-request s host h op device path tag f small e = grind (arith, device-at,
 
 -- HEADERS
 
-pub ids-same : (a b : TargetId) → same_id a b ≡ true → a ≡ b
-ids-same a b e = let p = and_parts _ _ e in λ i. record { major = eqb-true a.major b.major p.0 i; minor = eqb-true a.minor b.minor p.1 i }
-
 -- a request's header fits, and is read in it
 module _ (s : Setup) (host : HostSetup) (device : DeviceNo) (op : Op) (tag : ℕ) (f : List ℕ) (ok : IsSetup s) (mine : Contains s.hosts host)
     (r : IsRequest host device op tag f) where
@@ -71,7 +68,7 @@ module _ (s : Setup) (host : HostSetup) (device : DeviceNo) (op : Op) (tag : ℕ
       let a : IsAttachedTo s r.about = ok.attached host r.about mine (Contains-get host.devices device.0 r.about r.there) in
       let there = found _ s.slots a.slot a.there in
       let port : holds a.slot.station.ports.items r.remote ≡ true = rw a.remotes at r.other in
-      let major = rw (ids-same a.slot.station.id r.about.id there.1) at (ok.majors a.slot there.0) in
+      let major = rw (same-id a.slot.station.id r.about.id there.1) at (ok.majors a.slot there.0) in
       record {
         dst = ok.shelf_addresses a.slot r.remote there.0 port;
         src = ok.host_addresses host r.local mine r.own;
@@ -85,4 +82,4 @@ module _ (s : Setup) (host : HostSetup) (device : DeviceNo) (op : Op) (tag : ℕ
   request-kind = kind-read f _ (ap head r.is ∙ request-head _ _ _ _ _ request-fits)
 
   pub request-header : fields f ≡ request_header op r.about.id r.remote r.local tag
-  request-header = ap fields r.is ∙ fields-are _ _ (request-head _ _ _ _ _ request-fits)
+  request-header = ap fields r.is ∙ head-fields _ _ (request-head _ _ _ _ _ request-fits)

@@ -1,7 +1,5 @@
 -- Where the frames in the network come from, by the address of their source.
-use Rattle.std.proofs.Common.{is_some, slice_range, ℕ, ◌<◌, ◌≤◌, ◌≡◌, Bool, true, false, List, ◌++◌, length, Option, Some, None, IsSomeAnd, refl, ap, arith, Contains, append_assoc}
-use Rattle.std.proofs.lemmas.Bool.Decides.{nat_tests}
-use Rattle.std.specs.List.{list_any}
+use Rattle.std.proofs.Common.{is_some, slice_range, ℕ, ◌<◌, ◌≤◌, ◌≡◌, true, List, ◌++◌, length, Option, Some, None, IsSomeAnd, refl, ap, arith, Contains, append_assoc}
 use Rattle.std.proofs.lemmas.Bool.{both_ways, or_parts}
 use Rattle.std.proofs.lemmas.List.{drop_at, length-drop, length-take, take_at}
 use Rattle.aoe_frame.specs.declared.header.Header.{Header}
@@ -9,6 +7,7 @@ use Rattle.aoe_base.specs.declared.refusal.AoeError.{AoeError}
 use Rattle.aoe_base.specs.Addresses.{holds}
 use Rattle.aoe_base.proofs.AddressLemmas.{holds-each}
 use Rattle.aoe_frame.specs.Header.{fields, head, header_bytes, padded}
+use Rattle.aoe_frame.proofs.HeaderLemmas.{head-long}
 use Rattle.aoe_target.specs.declared.heard.Effect.{Effect}
 use Rattle.aoe_target.specs.declared.station.Station.{Station}
 use Rattle.aoe_target.specs.declared.verdict.Verdict.{Verdict}
@@ -45,9 +44,6 @@ pub has-head : (station : Station) (k : State) (f r : List ℕ) (e : Effect)
 unfolding verdict
 has-head station k f r e x = grind arith
 
-pub is-long : (f : List ℕ) → is_some (head f) ≡ true → 24 ≤ length f
-is-long f e = grind (arith, nat_tests)
-
 pub source-length : (f : List ℕ) → 24 ≤ length f → length (fields f).src.0 ≡ 6
 source-length f le = simp (length-take, length-drop) (omega arith)
 
@@ -68,10 +64,6 @@ pub some-such : {X : Type 0} (P : X → Type 0) (o : Option X) → IsSomeAnd o P
 some-such P None a = absurd a
 some-such P (Some x) a = (x, refl, a)
 
--- what none of a list is
-pub none-there : {X : Type 0} (p : X → Bool) (xs : List X) (x : X) → list_any p xs ≡ false → Contains xs x → p x ≡ false
-none-there = none-of
-
 module _ (s : Setup) (host : HostSetup) (ok : IsSetup s) (mine : Contains s.hosts host) (h : List Entry) (number : ℕ) (f : List ℕ) where
   -- a frame that comes from elsewhere
   pub foreign-source : IsForeign s h number f → is_from host f ≡ true → ⊥
@@ -84,7 +76,7 @@ module _ (s : Setup) (host : HostSetup) (ok : IsSetup s) (mine : Contains s.host
   replied-source slot r e there law from =
       let reply = replies slot.station (state_after slot h) f r e (verdict_after slot h f) law in
       let port = port-holds slot.station (fields f) (ok.some_port slot there) in
-      let long = is-long f (has-head slot.station (state_after slot h) f r e law) in
+      let long = head-long f (has-head slot.station (state_after slot h) f r e law) in
       let source = source-is (replying slot.station (fields f) reply.error) reply.args (source-length f long) (ok.shelf_addresses slot _ there port) in
       ok.shelf_ports host slot (fields r).src mine there from (rw (reply.is, source) port)
 

@@ -1,6 +1,7 @@
 -- What holds of a sector of a slot for a host after a command of a host has its outcome.
 use Rattle.std.proofs.Common.{ℕ, ◌≡◌, inl, inr, Bool, true, false, not, ◌&&◌, List, ◌∷◌, Option, Some, None, IsSomeAnd, refl, arith, Contains}
 use Rattle.arrayvec.specs.ArrayVec.{ArrayVec}
+use Rattle.std.proofs.lemmas.Bool.{not-true}
 use Rattle.aoe_frame.specs.declared.header.Header.{Header}
 use Rattle.aoe_initiator.specs.declared.op.Op.{Op}
 use Rattle.aoe_initiator.specs.declared.op.Op.TheVariants.{Flush}
@@ -18,7 +19,7 @@ use Rattle.aoe_history.specs.Lawful.{HasHost}
 use Rattle.aoe_history.specs.Reading.{alone, is_at, spoiled}
 use Rattle.aoe_history.specs.Setup.{host_called, is_called, HostSetup, Setup, SlotSetup}
 use Rattle.aoe_history.specs.Slots.{marked_after}
-use Rattle.aoe_history.proofs.LogicLemmas.{not-true, some-and}
+use Rattle.aoe_history.proofs.LogicLemmas.{some-and}
 use Rattle.aoe_history.proofs.hosts.ApartLemmas.{none-beside-flush, none-beside-read, one-write, writes-to}
 use Rattle.aoe_history.proofs.hosts.BaseLemmas.{Keeps}
 use Rattle.aoe_history.proofs.hosts.EntryLemmas.{done-flies, done-keeps, named}

@@ -7,7 +7,7 @@ use Rattle.aoe_base.specs.declared.address.Mac.{Mac}
 use Rattle.aoe_base.specs.Addresses.{holds}
 use Rattle.aoe_frame.specs.declared.header.Header.{Header}
 use Rattle.aoe_frame.specs.Header.{fields, head, is_response}
-use Rattle.aoe_frame.proofs.HeaderLemmas.{kind-read}
+use Rattle.aoe_frame.proofs.HeaderLemmas.{kind-read, head-fields}
 use Rattle.aoe_initiator.specs.declared.device.Attached.{Attached}
 use Rattle.aoe_initiator.specs.declared.device.Device.{Device}
 use Rattle.aoe_initiator.specs.declared.op.Op.{Op}
@@ -18,6 +18,7 @@ use Rattle.aoe_initiator.specs.HostLaw.{answer_to}
 use Rattle.aoe_initiator.specs.HostLog.{HostCommand, Sending}
 use Rattle.aoe_initiator.specs.Response.{answer, has_flag, outcome_of}
 use Rattle.aoe_initiator.proofs.ListLemmas.{Contains-get}
+use Rattle.aoe_initiator.proofs.NameLemmas.{same-id}
 use Rattle.aoe_history.specs.declared.entry.Entry.{Entry}
 use Rattle.aoe_history.specs.Commands.{commands_of, host_after, submission}
 use Rattle.aoe_history.specs.CommandView.{is_live, was_done, AsksAt}
@@ -27,12 +28,11 @@ use Rattle.aoe_history.specs.Lawful.{HasHost}
 use Rattle.aoe_history.specs.Setup.{HostSetup, Setup, SlotSetup}
 use Rattle.aoe_history.proofs.FrameLemmas.{arrives, response-life}
 use Rattle.aoe_history.proofs.LogicLemmas.{some-then}
-use Rattle.aoe_history.proofs.hosts.AskedLemmas.{asked-of, ids-same}
+use Rattle.aoe_history.proofs.hosts.AskedLemmas.{asked-of}
 use Rattle.aoe_history.proofs.hosts.CommandLemmas.{viewed}
 use Rattle.aoe_history.proofs.hosts.HostLemmas.{holds-of, known-of}
 use Rattle.aoe_history.proofs.hosts.SentLemmas.{device-at, host-there}
 use Rattle.aoe_history.proofs.reads.TrueLemmas.{AreTrue, IsReplyTo, SaysOf}
-use Rattle.aoe_history.proofs.replies.RequestLemmas.{fields-are}
 use Rattle.aoe_history.proofs.sectors.ArriveLemmas.{named-slot}
 
 -- what a response to a command is
@@ -51,8 +51,8 @@ record IsAnswerTo (host : Host) (c : HostCommand) (h : Header) (args : List ℕ)
 answers : (host : Host) (c : HostCommand) (f : List ℕ) (a : Answer) → answer_to host c f ≡ Some a → IsAnswerTo host c (fields f) (drop 24 f) a
 answers host c f a e =
     let x = some-then _ (head f) a e in
-    let y : IsAnswerTo host c x.0 (drop 24 f) a = grind (arith, nat_tests, ids-same) in
-    rw (fields-are f x.0 x.1) y
+    let y : IsAnswerTo host c x.0 (drop 24 f) a = grind (arith, nat_tests, same-id) in
+    rw (head-fields f x.0 x.1) y
 
 -- the command that has an outcome by a response, and what that says
 pub record Truth (host : HostSetup) (slot : SlotSetup) (h : List Entry) (s c : ℕ) (op : Op) (outcome : Outcome) : Type 0 where

@@ -26,9 +26,9 @@ use Rattle.aoe_history.proofs.hosts.BaseLemmas.{Base, Keeps}
 use Rattle.aoe_history.proofs.hosts.EntryLemmas.{named, sent-keeps, submitted-keeps}
 use Rattle.aoe_history.proofs.hosts.HostLemmas.{holds-of, known-of}
 use Rattle.aoe_history.proofs.hosts.ReadyLemmas.{ready}
-use Rattle.aoe_history.proofs.hosts.SendLemmas.{or-parts}
+use Rattle.aoe_history.proofs.hosts.SendLemmas.{or-parts, none-of}
 use Rattle.aoe_history.proofs.hosts.SentLemmas.{host-there, request-header, spelled-request}
-use Rattle.aoe_history.proofs.hosts.SourceLemmas.{none-there, some-such}
+use Rattle.aoe_history.proofs.hosts.SourceLemmas.{some-such}
 use Rattle.aoe_history.proofs.reads.DoneLemmas.{ended, ended-at, flushed, written}
 use Rattle.aoe_history.proofs.reads.EndLemmas.{response-true}
 use Rattle.aoe_history.proofs.reads.PassLemmas.{arrived-passes, crashed-at, crashed-passes, sent-passes}
@@ -51,7 +51,7 @@ foreign-no-reply : (s : Setup) (host : HostSetup) (slot : SlotSetup) (h : List E
     → IsReplyTo host slot f → ⊥
 foreign-no-reply s host slot h number f there x to =
     let no : holds slot.station.ports.items (fields f).src ≡ false =
-    none-there (λ (z : SlotSetup). holds z.station.ports.items (fields f).src) s.slots slot (or-parts _ _ x.source).1 there in
+    none-of (λ (z : SlotSetup). holds z.station.ports.items (fields f).src) s.slots slot (or-parts _ _ x.source).1 there in
     cc (no, to.src)
 
 module _ (s : Setup) (host : HostSetup) (slot : SlotSetup) (ok : IsSetup s) (own_name : ArrayVec ℕ) (called : host_called s own_name ≡ Some host)

@@ -9,12 +9,14 @@ use Rattle.aoe_base.specs.declared.counted.Lifetimes.{Lifetimes}
 use Rattle.aoe_base.specs.declared.sectors.Span.{Span}
 use Rattle.aoe_frame.specs.declared.header.Header.{Header}
 use Rattle.aoe_frame.specs.Header.{fields, header_bytes, padded}
+use Rattle.aoe_frame.proofs.HeaderLemmas.{head-long}
 use Rattle.aoe_initiator.specs.declared.op.Op.{Op}
 use Rattle.aoe_initiator.specs.declared.op.Op.TheVariants.{Read, Write, Flush}
 use Rattle.aoe_initiator.specs.declared.response.Answer.{Answer}
 use Rattle.aoe_initiator.specs.declared.response.Answer.TheVariants.{Data, Written, Flushed}
 use Rattle.aoe_initiator.specs.Op.{command_of}
 use Rattle.aoe_initiator.specs.Response.{answer}
+use Rattle.aoe_initiator.proofs.NameLemmas.{same-id}
 use Rattle.aoe_target.specs.declared.heard.Effect.{Effect}
 use Rattle.aoe_target.specs.declared.heard.Effect.TheVariants as effect
 use Rattle.aoe_target.specs.declared.station.Station.{Station}
@@ -34,10 +36,10 @@ use Rattle.aoe_history.specs.Reading.{allowed, alone, IsAllowed}
 use Rattle.aoe_history.specs.Setup.{is_slot, slot_of, HostSetup, Setup, SlotSetup}
 use Rattle.aoe_history.specs.Slots.{marked_in, state_after, verdict_after}
 use Rattle.aoe_history.proofs.FrameLemmas.{arrives, request-life}
-use Rattle.aoe_history.proofs.hosts.AskedLemmas.{asked-of, ids-same}
+use Rattle.aoe_history.proofs.hosts.AskedLemmas.{asked-of}
 use Rattle.aoe_history.proofs.hosts.HostLemmas.{holds-of}
 use Rattle.aoe_history.proofs.hosts.SentLemmas.{found, host-there, request-fits, request-header, request-kind}
-use Rattle.aoe_history.proofs.hosts.SourceLemmas.{has-head, is-long, port-holds, replies, some-such, source-length, IsReply}
+use Rattle.aoe_history.proofs.hosts.SourceLemmas.{has-head, port-holds, replies, some-such, source-length, IsReply}
 use Rattle.aoe_history.proofs.reads.PassLemmas.{allowed-unless, was-alone}
 use Rattle.aoe_history.proofs.reads.TrueLemmas.{IsReplyTo, IsTrue, SaysOf}
 use Rattle.aoe_history.proofs.replies.ConversationLemmas.{response-tells}
@@ -119,7 +121,7 @@ module _ {s : Setup} {host : HostSetup} {h : List Entry} (run : HasHost s host h
       let its = found (λ z. is_slot z dev) s.slots other o.1 in
       let f = o.2.bytes in
       let reply = replies other.station (state_after other h) f r e (verdict_after other h f) o.2.law in
-      let long = is-long f (has-head other.station (state_after other h) f r e o.2.law) in
+      let long = head-long f (has-head other.station (state_after other h) f r e o.2.law) in
       let frame = arrives s.life h k f o.2.fresh in
       let from = subst (λ z. holds host.ports z ≡ true) (reply-destination other.station f r reply (source-length f long)) to.dst in
       let sent = (holds-of s host h run).frames k _ frame.is from in
@@ -129,7 +131,7 @@ module _ {s : Setup} {host : HostSetup} {h : List Entry} (run : HasHost s host h
       let fits = rw (← hd) at (request-fits s host _ _ sent.sending.tag f run.setup mine sent.request) in
       let head_is : fields r ≡ replying other.station (fields f) reply.error =
       (reply-read reply.error fits (can-reply other its.0 (fields f)) reply.is).head_is in
-      let id : slot.station.id ≡ other.station.id = ids-same slot.station.id (fields r).id to.id ∙ ap (λ (z : Header). z.id) head_is in
+      let id : slot.station.id ≡ other.station.id = same-id slot.station.id (fields r).id to.id ∙ ap (λ (z : Header). z.id) head_is in
       let is : is_slot slot dev ≡ true = rw (← id) at its.1 in
       let same : other ≡ slot = cc (o.1, named-slot s slot dev run.setup there is) in
       let here : Allows slot.station (state_after slot h) f (verdict_after slot h f) (replied e r) = rw same at o.2.law in

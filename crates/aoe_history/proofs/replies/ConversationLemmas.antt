@@ -15,6 +15,7 @@ use Rattle.aoe_ata.specs.declared.reply.AtaOutcome.{AtaOutcome}
 use Rattle.aoe_ata.specs.declared.reply.AtaOutcome.TheVariants as outcome
 use Rattle.aoe_frame.specs.declared.header.Header.{Header}
 use Rattle.aoe_frame.specs.Header.{fields, head, Fits}
+use Rattle.aoe_frame.proofs.HeaderLemmas.{head-fields}
 use Rattle.aoe_initiator.specs.declared.op.Op.{Op}
 use Rattle.aoe_initiator.specs.declared.op.Op.TheVariants.{Read, Write, Flush}
 use Rattle.aoe_initiator.specs.declared.response.Answer.{Answer}
@@ -32,12 +33,10 @@ use Rattle.aoe_target.specs.Law.{replied, Allows, AllowsAta}
 use Rattle.aoe_target.specs.Reply.{ata_reply, data_of, data_reply, spelled}
 use Rattle.aoe_target.specs.Sectors.{Tells}
 use Rattle.aoe_target.specs.Verdict.{as_marked, verdict}
+use Rattle.aoe_target.proofs.OneReply.{same-reply}
 use Rattle.aoe_history.specs.Conversation.{asked_for, CanReply, HasSectors, TellsTruly}
 use Rattle.aoe_history.proofs.replies.ReplyLemmas.{error-tells, failure-tells, flush-tells, reply-read, replying, says-ata, says-error, write-tells}
-use Rattle.aoe_history.proofs.replies.RequestLemmas.{fields-are, no-list-step, request-asks, request-head, unmarked}
-
-same-reply : (e e2 : Effect) (r r2 : List ℕ) → replied e r ≡ replied e2 r2 → r ≡ r2
-same-reply e e2 r r2 p = cc
+use Rattle.aoe_history.proofs.replies.RequestLemmas.{no-list-step, request-asks, request-head, unmarked}
 
 -- what a reply to a request with this header says
 record IsHeard (op : Op) (station : Station) (h : Header) (reply : List ℕ) (a : Answer) : Type 0 where
@@ -133,7 +132,7 @@ response-tells op id remote local tag station k e reply a ata spell some fits ca
     its-head = request-head op id remote local tag fits
 
     is : fields (request op id remote local tag) ≡ request_header op id remote local tag
-    is = fields-are _ _ its-head
+    is = head-fields _ _ its-head
 
     x : IsHeard op station (request_header op id remote local tag) reply a
     x = record { fits = fits; can = can; says = says }

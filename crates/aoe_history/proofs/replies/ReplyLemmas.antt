@@ -9,6 +9,7 @@ use Rattle.aoe_ata.specs.declared.reply.AtaOutcome.{AtaOutcome}
 use Rattle.aoe_frame.specs.declared.header.Header.{Header}
 use Rattle.aoe_base.specs.declared.refusal.AoeError.{AoeError}
 use Rattle.aoe_frame.specs.Header.{fields, header_bytes, padded, reply_header, Fits}
+use Rattle.aoe_frame.proofs.HeaderLemmas.{head-fields}
 use Rattle.aoe_base.specs.Refusal.{code_of_error}
 use Rattle.aoe_initiator.specs.declared.op.Op.{Op}
 use Rattle.aoe_initiator.specs.declared.op.Op.TheVariants.{Write, Flush}
@@ -23,7 +24,7 @@ use Rattle.aoe_target.specs.declared.heard.Effect.TheVariants.{Wrote, Synced}
 use Rattle.aoe_target.specs.Device.{State}
 use Rattle.aoe_initiator.specs.Op.{span_of}
 use Rattle.aoe_history.specs.Conversation.{CanReply, TellsTruly}
-use Rattle.aoe_history.proofs.replies.RequestLemmas.{fields-are, padded-head, padded-rest, zeros_behind}
+use Rattle.aoe_history.proofs.replies.RequestLemmas.{padded-head, padded-rest, zeros_behind}
 
 -- the header of a reply
 abbrev pub replying : Station → Header → Option AoeError → Header
@@ -63,7 +64,7 @@ reply-read {station} {h} {args} error fits can is =
     let new = replying station h error in
     let new_fits = reply-fits station h error fits can in
     rw is (record {
-      head_is = fields-are (padded (header_bytes new ++ args)) new (padded-head new args new_fits);
+      head_is = head-fields (padded (header_bytes new ++ args)) new (padded-head new args new_fits);
       zeros = zeros_behind (header_bytes new ++ args);
       rest = padded-rest new args new_fits;
     })

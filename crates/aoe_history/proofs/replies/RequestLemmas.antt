@@ -25,7 +25,7 @@ use Rattle.aoe_ata.specs.declared.args.AtaArgs.{AtaArgs}
 use Rattle.aoe_base.specs.declared.address.Mac.{Mac}
 use Rattle.aoe_base.specs.declared.address.TargetId.{TargetId}
 use Rattle.aoe_frame.specs.declared.header.Header.{Header}
-use Rattle.aoe_frame.specs.Header.{fields, head, header_bytes, padded, Fits}
+use Rattle.aoe_frame.specs.Header.{head, header_bytes, padded, Fits}
 use Rattle.aoe_frame.proofs.HeaderLemmas.{head-header_bytes}
 use Rattle.aoe_initiator.specs.declared.op.Op.{Op}
 use Rattle.aoe_initiator.specs.declared.op.Op.TheVariants.{Read, Write, Flush, Identify}
@@ -130,9 +130,6 @@ no-list-step station lists f h c is ata e =
     (rw ata at (judged-by station lists f h (Lists c) is e))
 
 -- A REQUEST AT A TARGET
-
-pub fields-are : (f : List ℕ) (h : Header) → head f ≡ Some h → fields f ≡ h
-fields-are f h e = (cond_some _ _ _ e).1
 
 pub request-head : (op : Op) (id : TargetId) (remote local : Mac) (tag : ℕ) → Fits (request_header op id remote local tag)
     → head (request op id remote local tag) ≡ Some (request_header op id remote local tag)

@@ -10,6 +10,7 @@ use Rattle.aoe_ata.specs.declared.decision.AtaAnswer.TheVariants as ata
 use Rattle.aoe_initiator.specs.declared.op.Op.{Op}
 use Rattle.aoe_initiator.specs.declared.op.Op.TheVariants.{Write}
 use Rattle.aoe_initiator.specs.Op.{span_of}
+use Rattle.aoe_initiator.proofs.NameLemmas.{same-id}
 use Rattle.aoe_target.specs.declared.station.Station.{Station}
 use Rattle.aoe_target.specs.declared.verdict.Verdict.{Verdict}
 use Rattle.aoe_target.specs.declared.verdict.Verdict.TheVariants.{Lists, Ata}
@@ -31,7 +32,7 @@ use Rattle.aoe_history.proofs.replies.RequestLemmas.{unmarked}
 use Rattle.aoe_history.proofs.FrameLemmas.{arrives, bytes-arriving}
 use Rattle.aoe_history.proofs.LogicLemmas.{if-true, some-and}
 use Rattle.aoe_history.proofs.hosts.ApartLemmas.{arriving-active, one-write}
-use Rattle.aoe_history.proofs.hosts.AskedLemmas.{ids-same, there-of, understood}
+use Rattle.aoe_history.proofs.hosts.AskedLemmas.{there-of, understood}
 use Rattle.aoe_history.proofs.hosts.HostLemmas.{holds-of}
 use Rattle.aoe_history.proofs.hosts.SentLemmas.{host-there, request-kind}
 use Rattle.aoe_history.proofs.sectors.AtLemmas.{flying-active, wr, At, IsUnderWay}
@@ -40,7 +41,7 @@ use Rattle.aoe_history.proofs.sectors.SectorLemmas.{breaks_it, landing, learns, 
 
 -- the slot that a device's name names
 pub named-slot : (s : Setup) (slot : SlotSetup) (dev : TargetId) → IsSetup s → Contains s.slots slot → is_slot slot dev ≡ true → slot_of s dev ≡ Some slot
-named-slot s slot dev ok there is = subst (λ (z : TargetId). slot_of s z ≡ Some slot) (ids-same slot.station.id dev is) (ok.slot_names slot there)
+named-slot s slot dev ok there is = subst (λ (z : TargetId). slot_of s z ≡ Some slot) (same-id slot.station.id dev is) (ok.slot_names slot there)
 
 -- WRITES
 

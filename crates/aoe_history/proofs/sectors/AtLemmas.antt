@@ -1,6 +1,6 @@
 -- What holds of a sector of a slot for a host, after each entry but an arrival.
 use Rattle.std.proofs.Common.{ℕ, ◌≡◌, ◌⊎◌, inl, inr, if◌then◌else◌, Bool, true, false, not, ◌&&◌, ◌||◌, List, [], ◌∷◌, Option, Some, None, is_some, refl, sym, ◌∙◌, arith}
-use Rattle.std.proofs.lemmas.Bool.{not-false}
+use Rattle.std.proofs.lemmas.Bool.{not-false, not-true}
 use Rattle.arrayvec.specs.ArrayVec.{ArrayVec}
 use Rattle.aoe_base.specs.declared.counted.Lifetimes.{Lifetimes}
 use Rattle.aoe_frame.specs.Header.{fields}
@@ -20,7 +20,7 @@ use Rattle.aoe_history.proofs.hosts.GoneLemmas.{AreGone}
 use Rattle.aoe_history.proofs.hosts.ReadyLemmas.{MayBeSent}
 use Rattle.aoe_history.proofs.hosts.SendLemmas.{and-parts}
 use Rattle.aoe_history.proofs.sectors.SectorLemmas.{begins, weaken, Sector}
-use Rattle.aoe_history.proofs.LogicLemmas.{not-true, or-right, untrue}
+use Rattle.aoe_history.proofs.LogicLemmas.{or-right, untrue}
 
 -- a command flies; it is under way
 abbrev pub IsFlying : HostSetup → List Entry → ℕ → Type 0

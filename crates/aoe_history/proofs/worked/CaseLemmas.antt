@@ -1,7 +1,7 @@
 -- The entries of worked histories, each by tests that compute.
 use Rattle.std.proofs.Common.{inl, inr, is_none, IfSome, MatchBool, ℕ, suc, ◌+◌, ◌≡◌, ◌≤◌, Bool, true, false, not, ◌&&◌, ◌||◌, nat_lt, nat_le, List, ◌∷◌, length, drop, Option, Some, None, refl, arith, slice_index_or, All, Contains}
 use Rattle.std.specs.List.{list_all}
-use Rattle.std.proofs.lemmas.Bool.{and_parts, leb-true, ltb-true, OnTrue_from}
+use Rattle.std.proofs.lemmas.Bool.{and_parts, leb-true, ltb-true, OnTrue_from, not-true}
 use Rattle.std.proofs.lemmas.List.Elements.{Contains-get_or}
 use Rattle.std.proofs.lemmas.List.Sums.{AllPass-from_list_all}
 use Rattle.aoe_flight.specs.declared.outstanding.Outstanding.{Outstanding}
@@ -34,7 +34,6 @@ use Rattle.aoe_history.specs.Lawful.{IsArrival, IsNumbered, IsTaking}
 use Rattle.aoe_history.specs.Setup.{device_place, is_called, HostSetup, Setup, SlotSetup}
 use Rattle.aoe_history.specs.ShelfLaw.{calls, stretch, IsStruckBy, KeepsArming, KeepsShelfLaw}
 use Rattle.aoe_history.specs.Slots.{is_struck, state_after}
-use Rattle.aoe_history.proofs.LogicLemmas.{not-true}
 
 abbrev nobody : HostCommand
 nobody = submitted (record { 0 = 0 }) (record { 0 = 0 }) Flush

@@ -1,4 +1,5 @@
-use Rattle.aoe_sim_hosts.proofs.TurnLemmas.{at-err, turn-full, turn-over, turn-sends, turn-tells}
+use Rattle.aoe_base.proofs.CommonLemmas.{on-err}
+use Rattle.aoe_sim_hosts.proofs.TurnLemmas.{turn-full, turn-over, turn-sends, turn-tells}
 use Rattle.aoe_sim_hosts.proofs.host.SimHost.turn.Goals as goal
 use Rattle.aoe_history.proofs.LogicLemmas.{on-ok}
 
@@ -10,7 +11,7 @@ returns-clause-ok c = on-ok c.send_all.result c.send_all.ensures.ok (λ over s h
     (turn-over tells c.send_all.new.run.entries sent rest.1, sent.lawful, rest.0))
 
 pub returns-clause-err : goal.returns-clause-err
-returns-clause-err c = at-err c.send_all.result (λ s host got waits lawful.
+returns-clause-err c = on-err c.send_all.result (λ s host got waits lawful.
     let tells = c.in_ok-catch_up.ensures.ok s host got waits lawful in
     turn-sends tells c.send_all.new.run.entries (c.send_all.ensures.some s host tells.settled tells.lawful))
 
@@ -20,5 +21,5 @@ returns-clause-full c = λ limit full s host got waits lawful.
     turn-full tells c.send_all.new.run.entries (c.send_all.ensures.full limit full s host tells.settled tells.lawful)
 
 pub returns-in_err-catch_up-clause-err : goal.returns-in_err-catch_up-clause-err
-returns-in_err-catch_up-clause-err c = at-err c.from_residual.result (λ s host got waits lawful.
+returns-in_err-catch_up-clause-err c = on-err c.from_residual.result (λ s host got waits lawful.
     turn-tells waits (c.in_err-catch_up.ensures.err s host got waits lawful))
