@@ -6,6 +6,7 @@ use Rattle.std.specs.Option.{option_to_list}
 use Rattle.std.proofs.lemmas.Option.{slice_get_within}
 use Rattle.std.proofs.lemmas.List.{map-append, take_all}
 use Rattle.arrayvec.specs.ArrayVec.{ArrayVec}
+use Rattle.std.proofs.Math.Bool.{and-true}
 use Rattle.aoe_base.specs.declared.address.Mac.{Mac}
 use Rattle.aoe_history.specs.Setup.{shelf_of, SlotSetup}
 use Rattle.aoe_sim_setup.specs.Layout.{is_marked, setup_of, slot_of_shelf, slot_with}
@@ -41,10 +42,6 @@ pub record ShelfSoFar (lines : List Line) (name : ArrayVec ℕ) (major : ℕ) (p
 -- the slot that a line declares, as one of this shelf
 abbrev pub slot-given : SimShelf → Option NewSlot → Option SlotSetup
 slot-given x slot = option_map (λ (z : NewSlot). slot_with x.shelf.major x.shelf.ports x.shelf.mtu z.minor z.sectors z.room z.read_only) slot
-
-and-true : (b : Bool) → (b && true) ≡ b
-and-true true = refl
-and-true false = refl
 
 and-false : (b : Bool) → (b && false) ≡ false
 and-false true = refl

@@ -12,7 +12,7 @@ mod ListLemmas
 mod PassLemmas
 mod PlaceLemmas
 mod PlanLemmas
-mod RunLemmas
+pub mod RunLemmas
 pub mod ScheduleKeeps
 mod ScheduleLemmas
 mod ShelfActLemmas

@@ -84,7 +84,7 @@ module _ (left left' : Option (List ℕ)) (text : List ℕ) (read : IsRead left 
 
 -- ---- a script of no text
 
-no_fault : (before after : ℕ) → IsFaultless before after → Rose before after → ⊥
+pub no_fault : (before after : ℕ) → IsFaultless before after → Rose before after → ⊥
 no_fault before after f rose = omega (arith, f.same, rose f.room)
 
 -- where the sink doesn't fail its run comes to its end, or stops

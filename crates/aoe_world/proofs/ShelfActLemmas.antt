@@ -44,18 +44,26 @@ slot-at {slots} {x = x} serves j t e =
     let stops = there x.stops j (omega (arith, w, serves.count, serves.stops)) in
     (slot.0, slot.1, (serves.each j slot.0 t stops.0 slot.1 e stops.1).station)
 
--- a shelf before and after something came of it
-module _ {s : Setup} {majors : List ℕ} (i major : ℕ) (x y : SimShelf) (old new : Sim) (net : IsNetwork s majors) (k : IsReady s majors old)
-    (em : slice_get majors i ≡ Some major) (ex : slice_get old.shelves.items i ≡ Some x) (life : new.run.life ≡ old.run.life) (hosts : new.hosts ≡ old.hosts)
-    (shelves : new.shelves.items ≡ slice_set old.shelves.items i y) (same : y.shelf.major ≡ x.shelf.major) where
+-- a shelf before and after something came of it, and nothing else moved
+pub record ShelfMoves (s : Setup) (majors : List ℕ) (i major : ℕ) (x y : SimShelf) (old new : Sim) : Type 0 where
+  pub net : IsNetwork s majors
+  pub ready : IsReady s majors old
+  pub number : slice_get majors i ≡ Some major
+  pub there : slice_get old.shelves.items i ≡ Some x
+  pub life : new.run.life ≡ old.run.life
+  pub hosts : new.hosts ≡ old.hosts
+  pub shelves : new.shelves.items ≡ slice_set old.shelves.items i y
+  pub same : y.shelf.major ≡ x.shelf.major
+
+module _ {s : Setup} {majors : List ℕ} {i major : ℕ} {x y : SimShelf} {old new : Sim} (m : ShelfMoves s majors i major x y old new) where
   turning-shelf : IsLawful s new.run.entries → Serves (shelf_of s major) new.run.entries y
       → ((host : HostSetup) → Adds (is_apart_of_host host) old.run.entries new.run.entries)
       → ((other : ℕ) → other ≢ major → Adds (is_apart_of_slots (shelf_of s other)) old.run.entries new.run.entries) → IsTurning s majors None 0 new
   turning-shelf lawful serves of-hosts of-slots = record {
-    life = life ∙ k.life;
+    life = m.life ∙ m.ready.life;
     lawful = lawful;
-    hosts_are = rw hosts (hosts-after of-hosts k.hosts_are);
-    shelves_are = rw shelves (one-shelf i major x y old.shelves.items net em ex of-slots serves same k.shelves_are);
+    hosts_are = rw m.hosts (hosts-after of-hosts m.ready.hosts_are);
+    shelves_are = rw m.shelves (one-shelf i major x y old.shelves.items m.net m.number m.there of-slots serves m.same m.ready.shelves_are);
   }
 
   -- entries that speak of its slots
@@ -85,11 +93,11 @@ module _ {s : Setup} {majors : List ℕ} (i major : ℕ) (x y : SimShelf) (old n
       → OfArrival number f x old.run.entries (λ z slots. MeetsFull z (ArriveAtSome number f slots slots old.run.entries) limit new.run.entries))
       → IsEntered r s majors (Hand number (ShelfStation major)) old new
   arrived-by (Ok u) number f fresh ok err full =
-      let t = ok s (shelf_of s major) (net.slots i major em) (k.shelves_are.each i major x em ex) k.lawful fresh in
+      let t = ok s (shelf_of s major) (m.net.slots i major m.number) (m.ready.shelves_are.each i major x m.number m.there) m.ready.lawful fresh in
       (None, rw fresh (refl, t.0), has-come t.1 t.2 (λ p speaks. arrive-adds number f (shelf_of s major) speaks speaks t.0))
   arrived-by (Err refusal) number f fresh ok err full =
       let slots = shelf_of s major in
-      let serves = k.shelves_are.each i major x em ex in
-      let t = err s slots (net.slots i major em) serves k.lawful fresh in
-      left-more {part = ArriveAtSome number f slots slots old.run.entries} (λ m part. inl (rw fresh part))
-      (record { begun = t.0; lawful = t.1; full = λ limit e. full limit (ap Err e) s slots (net.slots i major em) serves k.lawful fresh })
+      let serves = m.ready.shelves_are.each i major x m.number m.there in
+      let t = err s slots (m.net.slots i major m.number) serves m.ready.lawful fresh in
+      left-more {part = ArriveAtSome number f slots slots old.run.entries} (λ h part. inl (rw fresh part))
+      (record { begun = t.0; lawful = t.1; full = λ limit e. full limit (ap Err e) s slots (m.net.slots i major m.number) serves m.ready.lawful fresh })

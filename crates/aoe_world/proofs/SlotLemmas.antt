@@ -4,9 +4,9 @@ use Rattle.std.specs.Prelude.{nat_eq, position, slice_get, Contains, IfSome}
 use Rattle.std.proofs.lemmas.Bool.{eq-eqb, eqb-true}
 use Rattle.std.proofs.lemmas.Option.{slice_get_within}
 use Rattle.aoe_base.specs.declared.address.TargetId.{TargetId}
+use Rattle.aoe_base.proofs.CommonLemmas.{not-both}
 use Rattle.aoe_history.specs.declared.entry.Entry.{Entry}
 use Rattle.aoe_history.specs.Setup.{shelf_of, Setup, SlotSetup}
-use Rattle.aoe_history.proofs.LogicLemmas.{not-both}
 use Rattle.aoe_sim_setup.proofs.ListLemmas.{place-of}
 use Rattle.aoe_script.specs.declared.setup.Setup.{Setup as Line}
 use Rattle.aoe_sim_shelves.specs.Shelf.{SimShelf, Serves}

@@ -21,7 +21,17 @@ returns c s majors net k =
     rw (there, t.1) (
       None,
       (refl, ap (λ q. q.entries) run),
-      has-armed c.args.shelf major.0 x c.arm.new.self old _ net k major.1 there (ap (λ q. q.life) run) refl refl c.in_ok-arm.ensures.major
+      has-armed {x = x} {y = c.arm.new.self}
+          (record {
+            net = net;
+            ready = k;
+            number = major.1;
+            there = there;
+            life = ap (λ q. q.life) run;
+            hosts = refl;
+            shelves = refl;
+            same = c.in_ok-arm.ensures.major;
+          })
           (rw run (tt, k.lawful)) after serves c.args.slot t.0 c.args.which c.args.k c.args.mode t.1 (ap (λ q. q.entries) run),
     )
 

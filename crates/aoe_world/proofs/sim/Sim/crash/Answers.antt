@@ -17,7 +17,17 @@ returns c s majors major net k em =
     let t = c.in_ok-crash.ensures.ok s (shelf_of s major) (net.slots c.args.shelf major em) stands k.lawful in (
       None,
       (refl, t.0),
-      has-come c.args.shelf major x c.crash.new.self old _ net k em ex c.in_ok-crash.ensures.life refl refl c.in_ok-crash.ensures.major t.1 t.2
+      has-come {x = x} {y = c.crash.new.self}
+          (record {
+            net = net;
+            ready = k;
+            number = em;
+            there = ex;
+            life = c.in_ok-crash.ensures.life;
+            hosts = refl;
+            shelves = refl;
+            same = c.in_ok-crash.ensures.major;
+          }) t.1 t.2
           (λ p speaks. crash-adds c.args.how (shelf_of s major) speaks t.0),
     )
 

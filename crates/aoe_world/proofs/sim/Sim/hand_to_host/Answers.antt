@@ -11,7 +11,8 @@ returns c s majors name net k (host, at, called) fresh =
     let old = c.args.self.now in
     let there = read-at old.hosts.items c.args.i c.requires c.index_mut.ensures.value in
     let came = rw (k.life, ← c.deref.ensures.0) at fresh in
-    has-taken name c.args.i c.index_mut.result.now c.take.new.self old _ net k at called there c.in_ok-take.ensures.life refl refl
+    has-taken {x = c.index_mut.result.now} {y = c.take.new.self}
+    (record { net = net; ready = k; listed = at; called = called; there = there; life = c.in_ok-take.ensures.life; hosts = refl; shelves = refl })
     c.args.number.0 c.deref.result.now came c.in_ok-take.ensures.ok
 
 pub returns-in_err-take : goal.returns-in_err-take

@@ -8,5 +8,6 @@ returns c s majors major net k em fresh =
     let old = c.args.self.now in
     let ex = read-at old.shelves.items c.args.i c.requires c.index_mut.ensures.value in
     let came = rw (k.life, ← c.deref.ensures.0) at fresh in
-    arrived-by c.args.i major c.index_mut.result.now c.arrive.new.self old _ net k em ex c.arrive.ensures.life refl refl c.arrive.ensures.major
+    arrived-by {x = c.index_mut.result.now} {y = c.arrive.new.self}
+    (record { net = net; ready = k; number = em; there = ex; life = c.arrive.ensures.life; hosts = refl; shelves = refl; same = c.arrive.ensures.major })
     c.arrive.result c.args.number.0 c.deref.result.now came c.arrive.ensures.ok c.arrive.ensures.err c.arrive.ensures.full

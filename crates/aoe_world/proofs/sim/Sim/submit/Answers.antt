@@ -9,7 +9,8 @@ pub returns : goal.returns
 returns c s majors name net k (host, at, called) =
     let old = c.args.self.now in
     let there = read-at old.hosts.items c.args.host c.requires.there c.index_mut.ensures.value in
-    has-submitted name c.args.host c.index_mut.result.now c.submit.new.self old _ net k at called there c.submit.ensures.life refl refl
+    has-submitted {x = c.index_mut.result.now} {y = c.submit.new.self}
+    (record { net = net; ready = k; listed = at; called = called; there = there; life = c.submit.ensures.life; hosts = refl; shelves = refl })
     c.args.dev c.args.op c.in_ok-submit.ensures.ok
 
 pub returns-in_err-submit : goal.returns-in_err-submit
