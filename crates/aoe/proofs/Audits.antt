@@ -2,9 +2,9 @@
 use Rattle.std.proofs.Common.{◌≡◌, ◌≢◌, ◌≤◌, ◌+◌, ℕ, List, [], ◌∷◌, Option, Some, None, IfSome, Result, Ok, Err, refl, sym, ap, ◌∙◌, arith, inl, inr}
 use Rattle.std.specs.Prelude.{◌↔◌, ◌⊎◌, IfErr}
 use Rattle.aoe_base.specs.Faults.{Blamed, Rose}
-use Rattle.aoe_disk.specs.State.{BothTell, Contents, DiskState}
-use Rattle.aoe_disk.specs.Calls.{Settles}
+use Rattle.aoe_disk.specs.State.{Contents, DiskState}
 use Rattle.aoe_keep.specs.Found.{AlwaysFinds, found}
+use Rattle.aoe_keep.proofs.MountLemmas.{room-for-slots, told-found}
 use Rattle.aoe_keep.specs.Keep.{IsRefused, Mounts}
 use Rattle.aoe_keep.specs.declared.refusal.MountRefusal.{MountRefusal}
 use Rattle.aoe_keep.specs.declared.refusal.MountRefusal.TheVariants as refusal
@@ -129,14 +129,6 @@ unblamed not n = record { cause = λ p. absurd (not p); no_fault = λ untold. re
 
 -- When a keep is refused.
 
-told-found : (r : Result Settings ℕ) (a b : Option Contents) → BothTell (λ x y. (found x.bytes ≡ r) × Settles x y) a b → IfSome a (λ c. found c.bytes ≡ r)
-told-found r None b told = tt
-told-found r (Some x) None told = absurd told
-told-found r (Some x) (Some y) told = told.0
-
-enough : (before after : DiskState) (lists : Settings) → Mounts before after lists → 16 ≤ before.sectors
-enough before after lists m = omega (arith, m.room, m.run.run.sectors)
-
 -- of a status that tells of no bad slot
 not-bad : (s : Status) (P : Type 0) (slot : ℕ) (a : Option Contents) → s ≢ status.KeepBad 0 slot
     → IfSome a (λ c. P → found c.bytes ≡ Err slot → s ≢ status.DiskFault 0 → ⊥)
@@ -160,7 +152,7 @@ module _ {D : Type 0} (state : D → DiskState) (asked : Audit) (s : Status) (le
       let other : IsNotOfKeep s = rw is (audited-no-keep r) in
       record {
         judges = inl (record { lists = lists; mounted = record { mounts = mounts; finds = finds }; ended = r; audits = audits; ends = is });
-        small = λ sectors. (λ e. absurd (other.0 sectors e), λ x. absurd (omega (arith, x.0, x.1, enough (state given) (state back) lists mounts)));
+        small = λ sectors. (λ e. absurd (other.0 sectors e), λ x. absurd (omega (arith, x.0, x.1, room-for-slots (state given) (state back) lists mounts)));
         bad = λ slot. not-bad s (16 ≤ (state given).sectors) slot (state given).contents (other.1 slot)
             (no-bad s lists slot (16 ≤ (state given).sectors) (state given).contents
             (told-found (Ok lists) (state given).contents (state back).contents mounts.stands));

@@ -1,6 +1,5 @@
 -- A stream of frames is answered to its end, and a link is served.
-use Rattle.std.proofs.Common.{◌≡◌, ◌≢◌, ◌≤◌, ◌<◌, ℕ, List, [], ◌∷◌, ◌++◌, length, length-append, drop, Option, Some, None, refl, sym, ap, subst, ◌∙◌, append-nil, append_assoc, arith, add-one}
-use Rattle.std.proofs.lemmas.Grind.{flat_map-append}
+use Rattle.std.proofs.Common.{◌≡◌, ◌≢◌, ◌≤◌, ◌<◌, ℕ, List, [], ◌∷◌, ◌++◌, length, length-append, drop, Option, Some, None, refl, sym, ap, subst, ◌∙◌, append_assoc, arith, add-one}
 use Rattle.std.specs.Prelude.{All, IfSome, ◌↔◌}
 use Rattle.std.proofs.lemmas.List.{length-drop, drop-drop, get_or_append_left, get_or_at}
 use Rattle.std.proofs.lemmas.List.Elements.{All-drop}
@@ -9,6 +8,7 @@ use Rattle.aoe_disk.specs.State.{DiskState}
 use Rattle.aoe_io.proofs.StreamLemmas.{First, first-frame, stream-whole}
 use Rattle.aoe_io.specs.Bytes.{Gave}
 use Rattle.aoe_io.specs.Stream.{framed, stream, IsFrame, IsBroken}
+use Rattle.aoe_io.proofs.StreamFrames.{stream-frame}
 use Rattle.aoe_serve.specs.Arrivals.{Arrived, frames}
 use Rattle.aoe_serve.specs.Answering.{Answered}
 use Rattle.aoe_serve.specs.Slots.{Slot}
@@ -24,16 +24,13 @@ use Rattle.aoe_args.specs.declared.command.Answer.{Answer as Answers}
 use Rattle.aoe_args.specs.declared.command.Serve.{Serve as Serves}
 use Rattle.aoe_args.specs.declared.command.Command.TheVariants.{Answer, Serve}
 use Rattle.aoe_world.specs.Replay.{IsFaultless}
+use Rattle.aoe_world.proofs.RunLemmas.{no_fault}
 use Rattle.aoe.specs.Commands.{format_of, limit}
 use Rattle.aoe.specs.Ending.{after_syncs, ended_by}
 use Rattle.aoe.specs.Run.{OnSlot, Ran}
 use Rattle.aoe.specs.declared.status.Status.{Status}
 use Rattle.aoe.specs.declared.status.Status.TheVariants as status
 use Rattle.aoe.proofs.Exits.{all-synced}
-
--- one frame more on a stream
-stream-frame : (fs : List (List ℕ)) (f : List ℕ) → stream (fs ++ f ∷ []) ≡ stream fs ++ framed f
-stream-frame fs f = flat_map-append framed fs (f ∷ []) ∙ ap (λ (t : List ℕ). stream fs ++ t) (append-nil (framed f))
 
 -- the first frames are frames, and the last is
 all-front : (fs : List (List ℕ)) (f : List ℕ) → All IsFrame (fs ++ f ∷ []) → All IsFrame fs
@@ -112,9 +109,6 @@ all-synced-same (status.Script line cause) None e = refl
 all-synced-same (status.MirrorSides first second) None e = refl
 all-synced-same status.MirrorMark None e = refl
 
-pub no-fault : (before after : ℕ) → IsFaultless before after → Rose before after → ⊥
-no-fault before after fine rose = let more = rose fine.room in omega (arith, fine.same, more)
-
 module _ {D S K L : Type 0} (state : D → DiskState) (t : Tells S K L) (s : Status) (a b : Outside S K L) (disks disks' : List (Option D))
     (fine : (slot : ℕ) → OnSlot (λ file file' _ _. IsFaultless (state file).faults (state file').faults) slot disks disks') where
   answers-by : (format : Format) (e : RunEnd) (old new : List Slot) (fs : List (List ℕ)) → HasRun t (plan.Answer format) e a b old new → s ≡ ended_by e
@@ -151,7 +145,7 @@ pub link-fine : {L : Type 0} (faults : L → ℕ) (links links' : List L) → At
     → AtFirst (λ a b. Rose (faults a) (faults b)) links links' → 0 < length links → ⊥
 link-fine faults [] links' fine rose some = omega (arith, some)
 link-fine faults (l ∷ links) [] fine rose some = fine
-link-fine faults (l ∷ links) (l' ∷ links') fine rose some = no-fault (faults l) (faults l') fine.0 rose.0
+link-fine faults (l ∷ links) (l' ∷ links') fine rose some = no_fault (faults l) (faults l') fine.0 rose.0
 
 -- a fault is told just where it ended the frames, whatever the last syncs did
 module _ {s : Status} (x : RunEnd) (unsynced : Option ℕ) (is : s ≡ after_syncs (ended_by x) unsynced) where

@@ -262,21 +262,25 @@ all-four d (suc (suc zero)) x below = refl
 all-four d (suc (suc (suc zero))) x below = refl
 all-four d (suc (suc (suc (suc k)))) x below = absurd (omega (arith, below))
 
-stopped-same : {S K L : Type 0} (P : MirrorStop → Type 0) (a b : Outside S K L) (r : Result MirrorEnd MirrorStop) → IfErr r P
-    → OnErr r (b.source ≡ a.source) → OnErr r (b.sink ≡ a.sink) → OnErr r (b.links ≡ a.links)
-    → IfErr r (λ why. P why × (b.source ≡ a.source) × (b.sink ≡ a.sink) × (b.links ≡ a.links))
-stopped-same P a b (Ok e) p source sink links = tt
-stopped-same P a b (Err why) p source sink links = (p, source, sink, links)
+-- where it stopped, nothing outside its disks moved
+pub record StaysOutside {S K L : Type 0} (r : Result MirrorEnd MirrorStop) (a b : Outside S K L) : Type 0 where
+  pub source : OnErr r (b.source ≡ a.source)
+  pub sink : OnErr r (b.sink ≡ a.sink)
+  pub links : OnErr r (b.links ≡ a.links)
 
-pub runs-mirror : {D S K L : Type 0} (state : D → DiskState) (asked : Mirror) (t : Tells S K L) (a b : Outside S K L) (s : Status)
-    (r : Result MirrorEnd MirrorStop) (given back : MirrorDisks D) (disks disks' : List (Option D)) → s ≡ mirrored_as r → disks ≡ four_of given
-    → disks' ≡ four_of back → IfOk r (λ e. IsMirrored state (target_of (mirror_options asked) asked.id.minor) t (plan.Answer format.Replies) e a b given back)
-    → IfErr r (λ why. Stops state why given back)
-    → OnErr r (b.source ≡ a.source) → OnErr r (b.sink ≡ a.sink) → OnErr r (b.links ≡ a.links) → RunsMirror state asked t s a b disks disks'
-runs-mirror state asked t a b s r given back disks disks' is were are ran stopped source sink links =
+stopped-same : {S K L : Type 0} (P : MirrorStop → Type 0) (a b : Outside S K L) (r : Result MirrorEnd MirrorStop) → IfErr r P → StaysOutside r a b
+    → IfErr r (λ why. P why × (b.source ≡ a.source) × (b.sink ≡ a.sink) × (b.links ≡ a.links))
+stopped-same P a b (Ok e) p stays = tt
+stopped-same P a b (Err why) p stays = (p, stays.source, stays.sink, stays.links)
+
+pub runs-mirror : {D S K L : Type 0} (state : D → DiskState) (asked : Mirror) (t : Tells S K L) (a b : Outside S K L) (r : Result MirrorEnd MirrorStop)
+    (given back : MirrorDisks D) (disks disks' : List (Option D)) → disks ≡ four_of given → disks' ≡ four_of back
+    → IfOk r (λ e. IsMirrored state (target_of (mirror_options asked) asked.id.minor) t (plan.Answer format.Replies) e a b given back)
+    → IfErr r (λ why. Stops state why given back) → StaysOutside r a b → RunsMirror state asked t (mirrored_as r) a b disks disks'
+runs-mirror state asked t a b r given back disks disks' were are ran stopped stays =
     let name = target_of (mirror_options asked) asked.id.minor in
     let law = law-of state name t a b given back r ran stopped in
-    rw is (record {
+    record {
       given = given;
       back = back;
       were = were;
@@ -284,12 +288,12 @@ runs-mirror state asked t a b s r given back disks disks' is were are ran stoppe
       answer = r;
       ends = refl;
       ran = ran;
-      stopped = stopped-same (λ why. Stops state why given back) a b r stopped source sink links;
+      stopped = stopped-same (λ why. Stops state why given back) a b r stopped stays;
       unequal = unequal state name t a b given back r law;
       unmarked = unmarked state name t a b given back r law;
       blames = blames state name t a b given back r law;
       equal = equal state name t a b given back r law;
-    })
+    }
 
 -- A command that is a mirror has four disks.
 

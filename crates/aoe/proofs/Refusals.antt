@@ -3,6 +3,7 @@ use Rattle.std.proofs.Common.{◌≡◌, ◌≢◌, ◌≤◌, ◌<◌, ◌+◌,
 use Rattle.std.specs.Prelude.{◌↔◌, IfSome, IsSome, Result, Ok, Err, nat_lt}
 use Rattle.std.proofs.lemmas.Bool.{le-ltb, lt-ltb}
 use Rattle.aoe_base.specs.Faults.{Rose}
+use Rattle.aoe_base.proofs.CommonLemmas.{not-both}
 use Rattle.aoe_disk.specs.State.{Contents, DiskState, BothTell}
 use Rattle.aoe_disk.specs.Calls.{Settles}
 use Rattle.aoe_keep.specs.Found.{found}
@@ -185,10 +186,6 @@ above-true j k below = lt-ltb j k below
 unrefused : (s : Status) (slot : ℕ) (o : Option ℕ) → refused_slot s ≡ o → ((k : ℕ) → refused_slot s ≡ Some k → slot ≤ k) → refused_before slot s ≡ false
 unrefused s slot None e later = rw e refl
 unrefused s slot (Some k) e later = rw e (below-false k slot (later k e))
-
-not-both : (b : Bool) → b ≡ true → b ≡ false → ⊥
-not-both true is not = absurd cc
-not-both false is not = absurd cc
 
 module _ {D : Type 0} (state : D → DiskState) (s : Status) (slot : ℕ) (keep keep' : D) where
   -- the status tells of this slot, and of no other

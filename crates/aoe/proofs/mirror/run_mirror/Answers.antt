@@ -4,10 +4,14 @@ use Rattle.aoe.proofs.mirror.run_mirror.Goals as goal
 
 pub returns-clause-runs : goal.returns-clause-runs
 returns-clause-runs g c =
-    runs-mirror g.D.Disk.state c.args.asked _ _ _ c.mirrored_as.result c.export_mirror-answer.result.0 c.take_four-given.result
-    c.export_mirror-answer.result.1 _ _ c.mirrored_as.ensures c.take_four-given.ensures.taken c.put_four.ensures
-    (rw c.mirror_options-options.ensures.options at c.export_mirror-answer.ensures.ran) c.export_mirror-answer.ensures.stopped
-    c.export_mirror-answer.ensures.source c.export_mirror-answer.ensures.sink c.export_mirror-answer.ensures.links
+    rw c.mirrored_as.ensures
+    (runs-mirror g.D.Disk.state c.args.asked _ _ _ c.export_mirror-answer.result.0 c.take_four-given.result c.export_mirror-answer.result.1 _ _
+    c.take_four-given.ensures.taken c.put_four.ensures (rw c.mirror_options-options.ensures.options at c.export_mirror-answer.ensures.ran)
+    c.export_mirror-answer.ensures.stopped (record {
+      source = c.export_mirror-answer.ensures.source;
+      sink = c.export_mirror-answer.ensures.sink;
+      links = c.export_mirror-answer.ensures.links;
+    }))
 
 pub returns-clause-status : goal.returns-clause-status
 returns-clause-status g c = rw c.mirrored_as.ensures

@@ -8,11 +8,12 @@ use Rattle.aoe_args.specs.declared.command.Command.TheVariants.{Serve}
 use Rattle.aoe_args.specs.declared.command.Serve.{Serve as Serves}
 use Rattle.aoe.specs.Commands.{exports, is_live, is_mirror}
 use Rattle.aoe.proofs.Blame.{at-first}
-use Rattle.aoe.proofs.Complete.{answers, link-fine, no-fault, serves}
+use Rattle.aoe.proofs.Complete.{answers, link-fine, serves}
 use Rattle.aoe.proofs.Mirrors.{within-mirror}
 use Rattle.aoe.proofs.OnSlots.{on-none}
 use Rattle.aoe.proofs.Refusals.{disk-within, file-fault, keep-bad, keep-fault, keep-small, mounted, of-command, pairs-only, ran-as, ran-of, same-command, settled}
 use Rattle.aoe_world.specs.declared.end.ReplayEnd.TheVariants as replay
+use Rattle.aoe_world.proofs.RunLemmas.{no_fault}
 use Rattle.aoe.proofs.top.aoe.Goals as goal
 
 -- serve has one link
@@ -106,8 +107,8 @@ returns-in-Ok-Some-clause-mounted g c exported slot lists = mounted _ _ _ _ _ _ 
 pub returns-in-Ok-Some-clause-answers : goal.returns-in-Ok-Some-clause-answers
 returns-in-Ok-Some-clause-answers g c asked fs is unrefused some_memory left_is all few source sink fine =
     let r = ran-as _ _ _ _ _ _ _ _ _ _ _ c.in-Ok-Some.field-0-is c.in-Ok-Some.ensures.command is (c.run_command.ensures.run unrefused some_memory) in
-    answers _ _ _ _ _ _ _ fine asked fs r left_is all few (λ e. no-fault _ _ source (c.run_command.ensures.source.cause e))
-    (λ e. no-fault _ _ sink (c.run_command.ensures.sink.cause e))
+    answers _ _ _ _ _ _ _ fine asked fs r left_is all few (λ e. no_fault _ _ source (c.run_command.ensures.source.cause e))
+    (λ e. no_fault _ _ sink (c.run_command.ensures.sink.cause e))
 
 pub returns-in-Ok-Some-clause-serves : goal.returns-in-Ok-Some-clause-serves
 returns-in-Ok-Some-clause-serves g c asked is unrefused some_memory link fine =
