@@ -6,7 +6,7 @@ use Rattle.std.proofs.lemmas.Bool.{cases_eq, cases_lt, le-leb, lt-leb, ne_eqb}
 use Rattle.std.proofs.lemmas.List.Sums.{sum_by-append, sum_by-cons}
 use Rattle.std.proofs.lemmas.Option.{slice_get-map, slice_get_past, slice_get_read}
 use Rattle.std.proofs.lemmas.Grind.{reverse_onto}
-use Rattle.aoe_net.specs.declared.net.Kept.{Kept}
+use Rattle.aoe_net.specs.declared.net.StoredFrame.{StoredFrame}
 use Rattle.aoe_net.specs.Network.{Network, SentFrame, most_frame_bytes, most_frames, numbered, total_bytes, fresh_bytes, deliverable, lifetime, IsFull, IsNumberOf}
 use Rattle.aoe_net.specs.Store.{frame_of, frames_of, IsStore}
 
@@ -30,7 +30,7 @@ pub numbered-zero : (sent : List SentFrame) → numbered sent 0 ≡ None
 numbered-zero [] = refl
 numbered-zero (frame ∷ sent) = let before = numbered-zero sent in grind (arith, before)
 
-pub numbered-frames_of : (kept : List Kept) (i : ℕ) → numbered (frames_of kept) (suc i) ≡ option_map frame_of (slice_get kept i)
+pub numbered-frames_of : (kept : List StoredFrame) (i : ℕ) → numbered (frames_of kept) (suc i) ≡ option_map frame_of (slice_get kept i)
 numbered-frames_of kept i =
     numbered-suc (frames_of kept) i
     ∙ ap (λ (xs : List SentFrame). slice_get xs i) (reverse-reverse (map frame_of kept))
@@ -45,22 +45,22 @@ sum-reverse (x ∷ xs) =
     let one = sum_by-cons f x xs in
     rw (reverse_onto xs x []) (omega (arith, before, split, one))
 
-sum-map : (kept : List Kept) → sum_by (λ frame. length frame.bytes) (map frame_of kept) ≡ sum_by (λ k. length k.bytes) kept
+sum-map : (kept : List StoredFrame) → sum_by (λ frame. length frame.bytes) (map frame_of kept) ≡ sum_by (λ k. length k.bytes) kept
 sum-map [] = refl
 sum-map (k ∷ kept) =
     let f : SentFrame → ℕ = λ frame. length frame.bytes in
-    let g : Kept → ℕ = λ x. length x.bytes in
+    let g : StoredFrame → ℕ = λ x. length x.bytes in
     let rest = sum-map kept in
     let left = sum_by-cons f (frame_of k) (map frame_of kept) in
     let right = sum_by-cons g k kept in
     omega (arith, rest, left, right)
 
 -- what counts and sums over the kept frames say of the network
-pub record Measures (total : ℕ) (kept : List Kept) : Type 0 where
+pub record Measures (total : ℕ) (kept : List StoredFrame) : Type 0 where
   pub count : length (frames_of kept) ≡ length kept
   pub sum : sum_by (λ frame. length frame.bytes) (frames_of kept) ≡ total
 
-pub measures : (total : ℕ) (kept : List Kept) → IsStore total kept → Measures total kept
+pub measures : (total : ℕ) (kept : List StoredFrame) → IsStore total kept → Measures total kept
 measures total kept store = record {
   count = length-reverse (map frame_of kept) ∙ length-map kept frame_of;
   sum = sum-reverse (map frame_of kept) ∙ sum-map kept ∙ store.whole;
@@ -79,10 +79,10 @@ room-left net more never =
       bytes = elim (cases_lt most_frame_bytes (total_bytes net + length more)) [ inl big ↦ absurd (never (inr (few, big))) | inr small ↦ small ];
     }
 
-pub store-push : (total : ℕ) (kept : List Kept) (k : Kept) → IsStore total kept → length kept < most_frames → total + length k.bytes ≤ most_frame_bytes
+pub store-push : (total : ℕ) (kept : List StoredFrame) (k : StoredFrame) → IsStore total kept → length kept < most_frames → total + length k.bytes ≤ most_frame_bytes
     → IsStore (total + length k.bytes) (kept ++ k ∷ [])
 store-push total kept k store few small =
-    let g : Kept → ℕ = λ x. length x.bytes in
+    let g : StoredFrame → ℕ = λ x. length x.bytes in
     let split = sum_by-append g kept (k ∷ []) in
     let one = sum_by-cons g k [] in
     let whole : sum_by g kept ≡ total = store.whole in
@@ -100,12 +100,12 @@ something : (net : Network) (number now : ℕ) (frame : SentFrame) → numbered 
     → fresh_bytes net now frame ≡ deliverable net number now
 something net number now frame found = sym (ap (option_and_then (fresh_bytes net now)) found)
 
-pub missing : (kept : List Kept) (number index : ℕ) → 1 ≤ number → index ≡ number - 1 → length kept ≤ index → numbered (frames_of kept) number ≡ None
+pub missing : (kept : List StoredFrame) (number index : ℕ) → 1 ≤ number → index ≡ number - 1 → length kept ≤ index → numbered (frames_of kept) number ≡ None
 missing kept number index low is past =
     let next : number ≡ suc index = omega arith in
     rw next (numbered-frames_of kept index ∙ ap (option_map frame_of) (slice_get_past kept index past))
 
-pub found : (kept : List Kept) (number index : ℕ) (k : Kept) → 1 ≤ number → index ≡ number - 1 → index < length kept → k ≡ get_or kept index k
+pub found : (kept : List StoredFrame) (number index : ℕ) (k : StoredFrame) → 1 ≤ number → index ≡ number - 1 → index < length kept → k ≡ get_or kept index k
     → numbered (frames_of kept) number ≡ Some (frame_of k)
 found kept number index k low is inside read =
     let next : number ≡ suc index = omega arith in

@@ -17,7 +17,7 @@ pub const MAX_BYTES: u64 = 536_870_912;
 
 /// A frame, and when it was sent.
 #[derive(Drop)]
-struct Kept {
+struct StoredFrame {
     bytes: FrameBytes,
     birth: Millis,
 }
@@ -32,7 +32,7 @@ pub struct Net {
     latest: Millis,
 
     /// In the order of their numbers.
-    frames: Vec<Kept>,
+    frames: Vec<StoredFrame>,
 
     /// How many bytes they have together.
     total: u64,
@@ -107,7 +107,7 @@ impl Net {
         ensures refused { OnErr result (self.new ≡ self.old) }
     {
         let len = frame.bytes().len() as u64;
-        let kept = Kept {
+        let kept = StoredFrame {
             bytes: frame,
             birth: now,
         };
@@ -128,7 +128,7 @@ impl Net {
         }
     }
 
-    fn has_expired(&self, frame: &Kept, now: Millis) -> bool
+    fn has_expired(&self, frame: &StoredFrame, now: Millis) -> bool
         ensures { result ≡ nat_lt (lifetime self.now.life frame.now.bytes)
             (now.0 - frame.now.birth.0) }
     {

@@ -1,6 +1,6 @@
 use Rattle.std.proofs.Common.{◌≡◌, ◌-◌, ◌<◌, ◌≤◌, ℕ, List, length, get_or, Some, ap, sym, ◌∙◌, arith, subst}
 use Rattle.std.proofs.lemmas.Bool.{ltb-false, ltb-true}
-use Rattle.aoe_net.specs.declared.net.Kept.{Kept}
+use Rattle.aoe_net.specs.declared.net.StoredFrame.{StoredFrame}
 use Rattle.aoe_net.specs.Network.{lifetime, Network}
 use Rattle.aoe_net.specs.Store.{frame_of, frames_of}
 use Rattle.aoe_net.proofs.StoreLemmas.{nothing, missing, found, expired, fresh, numbered-zero}
@@ -14,7 +14,7 @@ returns-in_err-index c =
 pub returns-in_err-frame : goal.returns-in_err-frame
 returns-in_err-frame c =
     let kept = c.self.inside.frames.items in
-    let P : List Kept → Type 0 = λ ps. length ps ≤ c.in_ok-index.index in
+    let P : List StoredFrame → Type 0 = λ ps. length ps ≤ c.in_ok-index.index in
     let past : length kept ≤ c.in_ok-index.index = subst P c.deref.ensures.value c.in_err-frame.ensures.lookup.3 in
     let sent : frames_of kept ≡ c.args.self.now.sent = ap (λ (net : Network). net.sent) c.self.view_is in
     let none = missing kept c.args.no.0 c.in_ok-index.index c.in_ok-index.ensures.0 c.in_ok-index.ensures.1 past in
