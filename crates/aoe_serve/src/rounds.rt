@@ -59,6 +59,7 @@ fn meet<S: Store, D: Disk, By, O: Outlet<By>>(
 
 /// Hands a frame to every slot in turn, and gives the replies to the outlet. Where that fails, or did
 /// before, it is given no more, and the slots that are left get the frame all the same.
+#[inline(always)]
 pub(crate) fn round<S: Store, D: Disk, By, O: Outlet<By>>(
     shelf: &mut Shelf<S, D>,
     frame: &[u8],
