@@ -3,6 +3,7 @@ ghost use Rattle.std.specs.Prelude.{◌≡◌, ◌≢◌, ◌≤◌, ◌<◌, �
 ghost use Rattle.std.specs.List.{list_all};
 ghost use Rattle.aoe_io.specs.Stream.{stream, IsFrame};
 ghost use Rattle.aoe_lists.specs.Settings.{Settings};
+ghost use Rattle.aoe_base.specs.Sizes.{most_streamed};
 ghost use Rattle.aoe_serve.specs.Exporting.{AtFirst, CanExport};
 ghost use Rattle.aoe_world.specs.Replay.{IsFaultless};
 ghost use Rattle.aoe_script.specs.Lines.{refusal, script_of};
@@ -355,7 +356,7 @@ pub fn aoe<S: Source, K: Sink, D: Disk + Drop, L: Link, C: Clock, W: Watch>(
     ensures mounted { exports (command (map string_bytes words.now)) ≡ true → (slot : ℕ) (lists : Settings) → OnSlot (λ _ _ keep keep'. HasLists (D.state keep) lists
         → IsFaultless (D.state keep).faults (D.state keep').faults → refused_slot result ≢ Some slot) slot disks.old disks.new }
     ensures answers { (asked : Answers) (frames : List (List ℕ)) → command (map string_bytes words.now) ≡ Some (Command.Answer asked) → refused_slot result ≡ None → result ≢ Status.NoMemory
-        → S.left source.old ≡ Some (stream frames) → All IsFrame frames → length frames < 4294967295
+        → S.left source.old ≡ Some (stream frames) → All IsFrame frames → length frames < most_streamed
         → IsFaultless (S.faults source.old) (S.faults source.new) → IsFaultless (K.faults sink.old) (K.faults sink.new)
         → ((slot : ℕ) → OnSlot (λ file file' _ _. IsFaultless (D.state file).faults (D.state file').faults) slot disks.old disks.new)
         → result ≡ Status.Ok }

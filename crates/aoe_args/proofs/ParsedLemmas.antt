@@ -59,7 +59,8 @@ found words m r all clean has name rows =
     go (Some p) (Some s) a b = cc
 
 -- what clap's answer says is what the words spell
-pub asked_value : {E : Type 0} (words : List Text) (answer : Result ArgMatches Error) (r : Result (Option (Bor Text × ArgMatches)) E) → list_all is_word words ≡ true
+pub asked_value : {E : Type 0} (words : List Text) (answer : Result ArgMatches Error) (r : Result (Option (Bor Text × ArgMatches)) E)
+    → list_all is_word words ≡ true
     → FailsBy (fault_of aoe_app words) answer → IfOk answer (HasMatchesOf aoe_app words) → IfErr answer (λ e. kind_of e ≡ OutOfMemory → IsErr r)
     → IfErr answer (λ e. kind_of e ≢ OutOfMemory → r ≡ Ok None) → IfOk answer (λ m. IsOkAnd r (IsFoundIn m))
     → IfOk r (λ x. option_map (λ p. (p.0.now, rows_of (found_of p.1))) x ≡ parsed words)

@@ -79,8 +79,8 @@ next-known at n bytes old now is = is (at + n) ∙ rw (in-next at n) (none-after
     none-after None = refl
     none-after (Some v) = refl
 
-pub as-known-more : (at n : ℕ) (bytes : List ℕ) (old : KnownTable) → AreAsKnown (first at n) bytes old → IfSome (value_of old (at + n)) (λ v. sector bytes n ≡ v)
-    → AreAsKnown (first at (n + 1)) bytes old
+pub as-known-more : (at n : ℕ) (bytes : List ℕ) (old : KnownTable) → AreAsKnown (first at n) bytes old
+    → IfSome (value_of old (at + n)) (λ v. sector bytes n ≡ v) → AreAsKnown (first at (n + 1)) bytes old
 as-known-more at n bytes old before here i less = elim (cases_lt i n) [
   | inl lower ↦ before i lower
   | inr rest ↦

@@ -1,5 +1,5 @@
 -- Facts of lists, truth values, options, results and counts of faults that several crates use.
-use Rattle.std.proofs.Common.{ℕ, zero, suc, ◌≡◌, ◌+◌, ◌-◌, ◌^◌, ◌<◌, ◌≤◌, ◌&&◌, ◌||◌, not, cond, Bool, true, false, List, [], ◌∷◌, ◌++◌, length, replicate, Option, Some, None, IsSome, is_some, Result, Ok, Err, OnErr, inl, inr, refl, sym, ap, ◌∙◌, arith}
+use Rattle.std.proofs.Common.{ℕ, zero, suc, ◌≡◌, ◌+◌, ◌-◌, ◌^◌, ◌<◌, ◌≤◌, not, cond, Bool, true, false, List, [], ◌∷◌, ◌++◌, length, replicate, Option, Some, None, IsSome, is_some, Result, Ok, Err, OnErr, inl, inr, refl, sym, ap, ◌∙◌, arith}
 use Rattle.std.specs.Prelude.{All, IfNone}
 use Rattle.std.specs.List.{list_all, range_with_len, remove}
 use Rattle.std.specs.Str.{bytes_eq}
@@ -9,11 +9,6 @@ use Rattle.std.proofs.lemmas.Slice.Eq.{bytes_eq-Decides}
 use Rattle.aoe_base.specs.Faults.{Rose}
 
 -- LISTS
-
--- nothing stands in a list of length 0
-pub no-items : {X : Type 0} (l : List X) → length l ≡ 0 → l ≡ []
-no-items [] none = refl
-no-items (x ∷ l) none = absurd cc
 
 pub All-remove : {X : Type 0} (P : X → Type 0) (xs : List X) (i : ℕ) → i < length xs → All P xs → All P (remove xs i)
 All-remove P [] i within all = absurd (omega arith)
@@ -42,14 +37,6 @@ bytes-apart a b apart = by (bytes_eq b a) refl
 
 pub not-both : (b : Bool) → b ≡ true → b ≡ false → ⊥
 not-both b is isnt = cc
-
-pub and-true : (b : Bool) → (b && true) ≡ b
-and-true true = refl
-and-true false = refl
-
-pub or-false : (b : Bool) → (b || false) ≡ b
-or-false true = refl
-or-false false = refl
 
 -- one counts at most what the other does
 pub one-at-most : (a b : Bool) → (a ≡ true → b ≡ true) → cond a 1 0 ≤ cond b 1 0

@@ -25,6 +25,10 @@ most_cached = 65536
 abbrev pub most_simulated : ℕ
 most_simulated = 65536
 
+-- the most frames of a stream that a run takes, as many as 32 bits count, a limit of this program
+abbrev pub most_streamed : ℕ
+most_streamed = 4294967295
+
 -- the bytes in which a cache writes down and a mirror compares: 64 sectors, whatever memory a target has
 abbrev pub scratch_bytes : ℕ
 scratch_bytes = 32768

@@ -3,6 +3,7 @@ use Rattle.std.proofs.Common.{ℕ, ◌≡◌, ◌+◌, ◌-◌, ◌<◌, ◌≤�
 use Rattle.std.specs.List.{count_by, list_any}
 use Rattle.std.proofs.lemmas.Bool.{cases_Bool, cases_lt, eqb-true, lt-ltb, le-ltb, ltb-true}
 use Rattle.std.proofs.lemmas.Bool.Decides.{nat_tests}
+use Rattle.aoe_base.proofs.CommonLemmas.{one-at-most}
 use Rattle.aoe_base.proofs.CountLemmas.{count-cons, count-no, count-yes}
 use Rattle.std.proofs.lemmas.List.Sums.{count_by-le-length, sum_by-le-sum_by}
 use Rattle.aoe_flight.specs.declared.outstanding.Outstanding.{Outstanding}
@@ -20,9 +21,6 @@ distance-after last steps most few = grind (arith, nat_tests)
 pub passed : ℕ → ℕ → Outstanding → Bool
 passed last steps c = nat_lt (distance last c.flying.tag) steps
 
-cond-le : (a b : Bool) → (a ≡ true → b ≡ true) → cond a 1 0 ≤ cond b 1 0
-cond-le a b both = grind arith
-
 -- where one element passes the wider test alone, more pass it
 count-more : (p q r : Outstanding → Bool) → ((c : Outstanding) → p c ≡ true → q c ≡ true)
     → ((c : Outstanding) → r c ≡ true → (p c ≡ false) × (q c ≡ true)) → (commands : List Outstanding)
@@ -33,9 +31,9 @@ count-more p q r wider one (c ∷ commands) some =
     let second = count-cons q c commands in
     elim (cases_Bool (r c)) [
       | inl is ↦
-          let fewer = sum_by-le-sum_by (λ d. cond (p d) 1 0) (λ d. cond (q d) 1 0) commands (λ d. cond-le (p d) (q d) (wider d)) in
+          let fewer = sum_by-le-sum_by (λ d. cond (p d) 1 0) (λ d. cond (q d) 1 0) commands (λ d. one-at-most (p d) (q d) (wider d)) in
           omega (arith, fewer, count-no p c commands (one c is).0, count-yes q c commands (one c is).1)
-      | inr other ↦ omega (arith, count-more p q r wider one commands (rw other at some), first, second, cond-le (p c) (q c) (wider c))
+      | inr other ↦ omega (arith, count-more p q r wider one commands (rw other at some), first, second, one-at-most (p c) (q c) (wider c))
     ]
 
 -- each tag that was passed is the tag of another command

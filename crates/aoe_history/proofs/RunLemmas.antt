@@ -1,5 +1,5 @@
 -- What a network says of a history whose frames it has.
-use Rattle.std.proofs.Common.{◌≤◌, ◌∙◌, IfSome, All, length, ℕ, ◌≡◌, inl, inr, List, [], ◌∷◌, Option, Some, None, refl, sym, ap, arith}
+use Rattle.std.proofs.Common.{◌≤◌, ◌∙◌, IfSome, All, length, ℕ, ◌≡◌, inl, inr, List, [], ◌∷◌, Option, Some, None, sym, ap, arith}
 use Rattle.std.specs.Option.{option_map}
 use Rattle.std.proofs.lemmas.List.Elements.{All-cons, All-head, All-tail}
 use Rattle.std.proofs.lemmas.List.Sums.{sum_by-cons}

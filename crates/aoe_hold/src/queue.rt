@@ -142,7 +142,7 @@ impl Queue {
         if first.from != from {
             return None;
         }
-        self.waiters.remove_at(place)
+        Some(self.waiters.remove_at(place))
     }
 
     /// Adds a command, for which there is room.

@@ -23,6 +23,7 @@ use Rattle.aoe_initiator.specs.declared.op.Op.{Op}
 use Rattle.aoe_initiator.specs.declared.outcome.Done.{Done}
 use Rattle.aoe_initiator.specs.declared.outcome.Outcome.{Outcome}
 use Rattle.aoe_initiator.specs.declared.pending.Pending.{Pending}
+use Rattle.aoe_initiator.specs.declared.step.Sent.{Sent}
 use Rattle.aoe_initiator.specs.Devices.{change_at, device_at, device_finished, device_sent}
 use Rattle.aoe_initiator.specs.Host.{unfinished, waiting_of, with_device, Closes, Host, IsSame, Matches, RecallAll, Waiting}
 use Rattle.aoe_initiator.specs.HostLog.{after_end, after_send, at_ticket, clock, commands, entered_at, is_at, outstanding, sent_of, submitted, with_ticket, Event, HostCommand, Sending, stage}
@@ -222,8 +223,7 @@ matches-ended log host new at path outcome s m closes flew =
 
 -- ---- a send
 
--- the parts of a send that first sends and repeats share
-pub matches-sent : (log : List Event) (host : Host) (c : HostCommand) (p : Pending) (tag : ℕ) (path : PathNo) (flight : FlightTable) → Matches log host
+matches-sent : (log : List Event) (host : Host) (c : HostCommand) (p : Pending) (tag : ℕ) (path : PathNo) (flight : FlightTable) → Matches log host
     → IsPending (commands log) p c → All (λ d. d.holds.latest ≤ host.clock) host.devices
     → flight.rest ≡ host.flight.rest → flight.room ≡ host.flight.room → flight.dead ≡ host.flight.dead
     → RecallsSent flight (sent_of (map (at_ticket p.ticket (after_send tag (record { 0 = host.clock }) path (timeouts_on log path))) (commands log)))
@@ -277,6 +277,36 @@ matches-sent log host c p tag path flight m is times rest room dead sent =
             → IsSome (cond b (after_send tag (record { 0 = host.clock }) path (timeouts_on log path) x) x).sends
         by_ticket true done = refl
         by_ticket false done = before done
+
+-- a frame of the command with the ticket goes out: `last` is the path of the one before it
+pub record IsSend (log : List Event) (host new : Host) (t : Ticket) (sent : Sent) (last : Option PathNo) (flight : FlightTable) (p : Pending)
+    (c : HostCommand) : Type 0 where
+  pub pending : IsPending (commands log) p c
+  pub ticket : c.ticket ≡ t
+  pub named : sent.ticket ≡ t
+  pub before : path_before c.sends ≡ last
+  pub rest : flight.rest ≡ host.flight.rest
+  pub room : flight.room ≡ host.flight.room
+  pub dead : flight.dead ≡ host.flight.dead
+  pub recalled : RecallsSent flight
+      (sent_of (map (at_ticket t (after_send sent.tag (record { 0 = host.clock }) sent.path (timeouts_on log sent.path))) (commands log)))
+  pub after : new ≡ record host {
+    flight = flight;
+    devices = change_at p.device.0 (device_sent t (record { 0 = host.clock }) last sent.path) host.devices;
+  }
+
+-- what first sends and repeats share
+pub matches-send : (log : List Event) (host new : Host) (t : Ticket) (s : Sent) (last : Option PathNo) (flight : FlightTable) (p : Pending) (c : HostCommand)
+    → Matches log host → All (λ d. d.holds.latest ≤ host.clock) host.devices → IsSend log host new t s last flight p c
+    → Matches (Sends s.ticket s.tag s.path ∷ log) new
+matches-send log host new t s last flight p c m times is =
+    let p_is : p.ticket ≡ t = sym is.pending.ticket ∙ is.ticket in
+    let whole = matches-sent log host c p s.tag s.path flight m is.pending times is.rest is.room is.dead (rw p_is is.recalled) in
+    let T : Ticket → Option PathNo → Type 0 =
+    λ u o. Matches (Sends u s.tag s.path ∷ log)
+    (record host { flight = flight; devices = change_at p.device.0 (device_sent u (record { 0 = host.clock }) o s.path) host.devices }) in
+    let at_t : T t last = subst (λ (u : Ticket). T u last) p_is (subst (λ (o : Option PathNo). T p.ticket o) is.before whole) in
+    rw is.named (rw (← is.after) at at_t)
 
 -- ---- a submission, an attachment, time, and an outcome that is taken
 

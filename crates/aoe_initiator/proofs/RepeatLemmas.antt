@@ -19,7 +19,7 @@ use Rattle.aoe_initiator.specs.HostLog.{commands, outstanding, path_log, sent_of
 use Rattle.aoe_initiator.specs.HostLog.Event.{Sends}
 use Rattle.aoe_initiator.specs.Steps.{place, GivesTag, InTime, Repeats}
 use Rattle.aoe_initiator.proofs.LogLemmas.{only, sent-repeated, wait-capped}
-use Rattle.aoe_initiator.proofs.MatchLemmas.{flying-command, matches-sent, one-command, sent-from, IsFlying, IsPending}
+use Rattle.aoe_initiator.proofs.MatchLemmas.{flying-command, matches-send, one-command, sent-from, IsFlying, IsPending, IsSend}
 use Rattle.aoe_initiator.proofs.PathLemmas.{has-paths, path_before, route-next, route-spelled, route-timeout, timeouts_on}
 use Rattle.aoe_initiator.proofs.ClearLemmas.{is-placed, pending-of, IsQuietIdle}
 use Rattle.aoe_initiator.proofs.StartLemmas.{left-changed, left-same, IsLeft}
@@ -111,11 +111,9 @@ module _ {host new : Host} {log : List Event} {t : Ticket} {sent : Sent} {frame 
       let path = repeats.route.path in
       let ts = timeouts_on log path in
       let f = repeats.flying in
-      let found = repeated in
-      let c = found.0 in
-      let is = found.1 in
+      let c = repeated.0 in
+      let is = repeated.1 in
       let s = is.flies.s in
-      let p_is : p.ticket ≡ t = sym is.pending.ticket ∙ is.ticket in
       let timeout : repeats.route.timeout.0 ≡ ts c.device.0 =
       route-timeout host.ports (path_log log p.device.0) repeats.device (Some f.path) repeats.route has repeats.routed
       ∙ ap (λ (d : DeviceNo). ts d.0) (sym is.pending.device) in
@@ -125,20 +123,23 @@ module _ {host new : Host} {log : List Event} {t : Ticket} {sent : Sent} {frame 
       let wait_is : wait ≡ wait_of (ts c.device.0) (s.count + 1) =
       ap (λ k. wait_of k (min f.sends 32 + 1)) timeout ∙ ap (λ n. wait_of (ts c.device.0) (n + 1)) twice ∙ wait-capped (ts c.device.0) s.count in
       let change = after_repeat now path (record { 0 = wait }) in
-      let changed : RecallsSent (after_change host.flight t.0 change host.clock) (map (change_of t.0 change) (sent_of cs)) =
+      let flight = after_change host.flight t.0 change host.clock in
+      let changed : RecallsSent flight (map (change_of t.0 change) (sent_of cs)) =
       recalls-change host.flight _ (sent_of cs) t.0 change host.clock refl m.sent time.flight in
       let mapped = sent-repeated c s sent.tag now path ts cs is.flies.sends is.flies.waits (only 0 cs c m.tickets is.flies.there) in
       let mapped_t = rw is.ticket at (rw (← wait_is) at mapped) in
-      let whole = matches-sent log host c p sent.tag path (after_change host.flight t.0 change host.clock) m is.pending time.devices refl refl refl
-      (rw (p_is, mapped_t) changed) in
-      let T : Ticket → Option PathNo → Type 0 =
-      λ u o. Matches (Sends u sent.tag path ∷ log)
-      (record host {
-        flight = after_change host.flight t.0 change host.clock;
-        devices = change_at p.device.0 (device_sent u now o path) host.devices;
-      }) in
-      let at_t : T t (Some f.path) = subst (λ (u : Ticket). T u (Some f.path)) p_is (subst (λ (o : Option PathNo). T p.ticket o) is.missed whole) in
-      rw (is_ticket, is_path) (rw (← repeats.after) at at_t)
+      let send : IsSend log host new t sent (Some f.path) flight p c = record {
+        pending = is.pending;
+        ticket = is.ticket;
+        named = is_ticket;
+        before = is.missed;
+        rest = refl;
+        room = refl;
+        dead = refl;
+        recalled = rw is_path (rw mapped_t changed);
+        after = rw is_path repeats.after;
+      } in
+      matches-send log host new t sent (Some f.path) flight p c m time.devices send
 
 pub left-repeated : (old new : Host) (t : Ticket) (frame : List ℕ) (o : Option Sent) → IfSome o (λ sent. Repeats old t sent frame new) → IfNone o (new ≡ old)
     → IsLeft old new

@@ -25,7 +25,7 @@ use Rattle.aoe_initiator.specs.Request.{request}
 use Rattle.aoe_initiator.specs.Steps.{is_full, place, InTime, Launches}
 use Rattle.aoe_initiator.proofs.DeviceLemmas.{about-change_at}
 use Rattle.aoe_initiator.proofs.LogLemmas.{sent-started}
-use Rattle.aoe_initiator.proofs.MatchLemmas.{matches-sent, IsPending}
+use Rattle.aoe_initiator.proofs.MatchLemmas.{matches-send, IsPending, IsSend}
 use Rattle.aoe_initiator.proofs.PathLemmas.{has-paths, path_before, route-next, route-spelled, route-timeout, timeouts_on}
 use Rattle.aoe_initiator.specs.declared.device.Attached.{Attached}
 use Rattle.aoe_initiator.proofs.MatchLemmas.{same-then}
@@ -236,10 +236,8 @@ module _ {old h new : Host} {log : List Event} {t : Ticket} {at : ℕ} {sent : S
         let cs = commands log in
         let path = launches.route.path in
         let ts = timeouts_on log path in
-        let found = started in
-        let c = found.0 in
-        let is = found.1 in
-        let p_is : p.ticket ≡ t = sym is.pending.ticket ∙ is.ticket in
+        let c = started.0 in
+        let is = started.1 in
         let timeout : launches.route.timeout.0 ≡ ts c.device.0 =
         route-timeout h.ports (path_log log p.device.0) launches.device None launches.route has launches.routed
         ∙ ap (λ (d : DeviceNo). ts d.0) (sym is.pending.device) in
@@ -250,13 +248,18 @@ module _ {old h new : Host} {log : List Event} {t : Ticket} {at : ℕ} {sent : S
         ∙ same-filter (λ c. not (is_over new.flight.rest new.flight.latest c))
         (launched t sent.tag (record { 0 = h.clock }) path (record { 0 = wait_of (ts c.device.0) 1 }) ∷ sent_of cs)
         (sent_of (map (at_ticket t (after_send sent.tag (record { 0 = h.clock }) path ts)) cs)) more test in
-        let whole = matches-sent log h c p sent.tag path new.flight m_h is.pending time.devices (ap (λ (f : FlightTable). f.rest) launches.flight)
-        (ap (λ (f : FlightTable). f.room) launches.flight) (ap (λ (f : FlightTable). f.dead) launches.flight) (rw p_is recalled) in
-        let T : Ticket → Option Sending → Type 0 =
-        λ u o. Matches (Sends u sent.tag path ∷ log)
-        (record h { flight = new.flight; devices = change_at p.device.0 (device_sent u (record { 0 = h.clock }) (path_before o) path) h.devices }) in
-        let at_t : T t None = subst (λ (u : Ticket). T u None) p_is (subst (λ (o : Option Sending). T p.ticket o) is.fresh whole) in
-        rw (is_ticket, is_path) (rw (← launches.after) at at_t)
+        let send : IsSend log h new t sent None new.flight p c = record {
+          pending = is.pending;
+          ticket = is.ticket;
+          named = is_ticket;
+          before = ap path_before is.fresh;
+          rest = ap (λ (f : FlightTable). f.rest) launches.flight;
+          room = ap (λ (f : FlightTable). f.room) launches.flight;
+          dead = ap (λ (f : FlightTable). f.dead) launches.flight;
+          recalled = rw is_path recalled;
+          after = rw is_path launches.after;
+        } in
+        matches-send log h new t sent None new.flight p c m_h time.devices send
 
 pub start-next-all : (o : Option Sent) (old h new : Host) (t : Ticket) (at : ℕ) (frame : List ℕ) → InTime old → IsCleared old h t at
     → IfSome o (λ sent. Launches h t at sent frame new)

@@ -6,11 +6,12 @@
 //! tell nothing. [`MemSource`], [`MemSink`], [`MemLink`] and [`SetClock`] tell all, and fail where
 //! a test says. [`JoinedLink`] is one of two links in memory that give each other's frames.
 //!
-//! On a stream each frame is preceded by its length: [`next_frame`] takes one and [`give_frame`]
-//! gives one. [`give_all`] writes bytes to their end, [`fill_from`] and [`fill_frame`] read as many
-//! as asked for, and [`read_up_to`] reads a source to its end.
+//! On a stream each frame is preceded by its length: [`next_frame`] takes one, [`front_frame`] finds
+//! the one that a source has read ahead as a whole, and [`give_frame`] gives one. [`give_all`] writes
+//! bytes to their end, [`fill_from`] and [`fill_frame`] read as many as asked for, and
+//! [`read_up_to`] reads a source to its end.
 //!
-//! Nothing here is buffered, and no call is made again after a failure.
+//! Nothing is read ahead but by a source of its own, and no call is made again after a failure.
 #![tactic(auto)]
 
 mod clocks;

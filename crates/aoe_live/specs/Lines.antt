@@ -5,6 +5,7 @@ use Rattle.aoe_history.specs.declared.entry.Entry.{Entry}
 use Rattle.aoe_io.specs.Link.{Added, Turn, came, quiet, ended}
 use Rattle.aoe_script.specs.declared.event.Event.{Event}
 use Rattle.aoe_script.specs.declared.event.Event.TheVariants.{Read, Write, Flush, Tick, Deliver}
+use Rattle.aoe_script.specs.Rules.{longest_wait}
 use Rattle.aoe_sim_setup.specs.Layout.{setup_of}
 use Rattle.aoe_world.specs.Replay.{Plays}
 use Rattle.aoe_world.specs.Schedule.{Comes}
@@ -33,7 +34,7 @@ is_recorded event = false
 
 -- the lines by which so many milliseconds go by: the last of them has at most 10,000,000, and each other one has that many
 abbrev pub ticks : ℕ → List Event
-ticks ms = replicate (ms / 10000000) (Tick 10000000) ++ (if ms % 10000000 == 0 then [] else Tick (ms % 10000000) ∷ [])
+ticks ms = replicate (ms / longest_wait) (Tick longest_wait) ++ (if ms % longest_wait == 0 then [] else Tick (ms % longest_wait) ∷ [])
 
 -- a frame is handed to the station that didn't send it
 abbrev pub receiver : Sender → ArrayVec ℕ

@@ -3,7 +3,7 @@ use Rattle.std.specs.Prelude.{ℕ, All, Bool, true, false, ◌≡◌, ◌<◌, �
 use Rattle.aoe_base.specs.Sizes.{most_simulated}
 use Rattle.aoe_history.specs.declared.entry.Entry.{Entry}
 use Rattle.aoe_script.specs.declared.event.Event.{Event}
-use Rattle.aoe_script.specs.Lines.{ScriptLines}
+use Rattle.aoe_script.specs.Lines.{ScriptLines, most_events}
 use Rattle.aoe_script.specs.Print.{event_words, line_text}
 use Rattle.aoe_sim_setup.specs.Layout.{setup_of}
 use Rattle.aoe_world.specs.Replay.{IsSound}
@@ -32,7 +32,7 @@ pub record Follows (sectors : ℕ) (script : ScriptLines) (world : Stepped) : Ty
   pub going : world.refused ≡ None
   pub count : world.events ≡ length script.events
   pub cursor : world.cursor ≡ 1
-  pub few : length script.events ≤ 50000
+  pub few : length script.events ≤ most_events
   pub short : All IsShort script.events
   pub come : LinesCome sectors script.events [] world.entries
   pub sound : IsSound (setup_of (stations sectors)) world.entries
@@ -55,11 +55,11 @@ Fails sectors (live.Full limit frames bytes) events e h m =
     ComesSome (setup_of (stations sectors)) (stations sectors) e 1 h m
     × IsRefusedAt (setup_of (stations sectors)) (ComesSome (setup_of (stations sectors)) (stations sectors) e 1 h) m (NetFull limit frames bytes)
     × IsSound (setup_of (stations sectors)) m
-Fails sectors live.TooMany events e h m = (50000 ≤ length events) × (m ≡ h) × IsSound (setup_of (stations sectors)) m
+Fails sectors live.TooMany events e h m = (most_events ≤ length events) × (m ≡ h) × IsSound (setup_of (stations sectors)) m
 Fails sectors (live.Unanswered turns) events e h m = ⊥
 Fails sectors (live.LinkFault link) events e h m = is_link (live.LinkFault link) ≡ true
 Fails sectors live.NoMemory events e h m =
-    (length events < 50000)
+    (length events < most_events)
     × (ComesSome (setup_of (stations sectors)) (stations sectors) e 1 h m ⊎ LineComes sectors e h m)
     × IsSound (setup_of (stations sectors)) m
 

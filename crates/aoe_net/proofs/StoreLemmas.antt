@@ -79,8 +79,8 @@ room-left net more never =
       bytes = elim (cases_lt most_frame_bytes (total_bytes net + length more)) [ inl big ↦ absurd (never (inr (few, big))) | inr small ↦ small ];
     }
 
-pub store-push : (total : ℕ) (kept : List StoredFrame) (k : StoredFrame) → IsStore total kept → length kept < most_frames → total + length k.bytes ≤ most_frame_bytes
-    → IsStore (total + length k.bytes) (kept ++ k ∷ [])
+pub store-push : (total : ℕ) (kept : List StoredFrame) (k : StoredFrame) → IsStore total kept
+    → length kept < most_frames → total + length k.bytes ≤ most_frame_bytes → IsStore (total + length k.bytes) (kept ++ k ∷ [])
 store-push total kept k store few small =
     let g : StoredFrame → ℕ = λ x. length x.bytes in
     let split = sum_by-append g kept (k ∷ []) in

@@ -62,11 +62,15 @@ pub record IsHead (h : FileHead) : Type 0 where
   pub accuracy : h.accuracy < 2 ^ 32
   pub snap_length : h.snap_length < 2 ^ 32
 
+-- the most bytes of a packet that are captured
+abbrev pub longest_captured : ℕ
+longest_captured = 262144
+
 pub record IsPacket (p : Packet) : Type 0 where
   pub seconds : p.seconds < 2 ^ 32
   pub fraction : p.fraction < 2 ^ 32
   pub original : p.original < 2 ^ 32
-  pub captured : length p.captured ≤ 262144
+  pub captured : length p.captured ≤ longest_captured
 
 -- a file that has these packets: its header, and the record of each
 pub record IsCapture (bytes : List ℕ) (head : FileHead) (packets : List Packet) : Type 0 where
@@ -101,7 +105,7 @@ claimed big bytes = word_of big (slice_range bytes 8 12)
 -- bytes that end within a record, or begin with one that claims more than may be captured
 pub record IsCut (big : Bool) (bytes : List ℕ) : Type 0 where
   pub begun : bytes ≢ []
-  pub cut : (length bytes < 16) ⊎ (262144 < claimed big bytes) ⊎ (length bytes < 16 + claimed big bytes)
+  pub cut : (length bytes < 16) ⊎ (longest_captured < claimed big bytes) ⊎ (length bytes < 16 + claimed big bytes)
 
 -- the header that is written
 abbrev pub written_head : FileHead

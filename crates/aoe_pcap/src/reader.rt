@@ -3,7 +3,7 @@ ghost use Rattle.std.specs.Prelude.{ℕ, List, [], ◌≡◌, ◌≢◌, ◌<◌
 ghost use Rattle.aoe_base.specs.Faults.{Rose};
 ghost use Rattle.aoe_base.specs.Sizes.{longest_frame};
 ghost use Rattle.aoe_io.specs.Bytes.{Gave, GaveSome, IsEnded};
-ghost use Rattle.aoe_pcap.specs.Capture.{GaveRecord, IsCut, claimed, kind, record_head};
+ghost use Rattle.aoe_pcap.specs.Capture.{GaveRecord, IsCut, claimed, kind, longest_captured, record_head};
 
 use crate::Head;
 use aoe_base::Failed;
@@ -91,7 +91,7 @@ fn read_lengths<S: Source>(
     head: &Head,
     number: u32,
 ) -> Result<Option<Lengths>, PcapRefusal>
-    ensures few { IfOk result (λ came. IfSome came (λ lengths. lengths.captured ≤ 262144)) }
+    ensures few { IfOk result (λ came. IfSome came (λ lengths. lengths.captured ≤ longest_captured)) }
     ensures fits { IfOk result (λ came. IfSome came (λ lengths. lengths.original < 2 ^ 32)) }
     ensures gave { IfOk result (λ came. IfSome came (λ lengths. (seconds : ℕ) × (fraction : ℕ)
         × (seconds < 2 ^ 32) × (fraction < 2 ^ 32) × Gave (S.left source.old) (S.left source.new)

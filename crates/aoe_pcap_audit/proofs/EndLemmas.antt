@@ -27,7 +27,7 @@ use Rattle.aoe_audit.specs.declared.refusal.Verdict.{Verdict}
 use Rattle.aoe_pcap_audit.specs.Ends.{Audits, EndsAt, FilePasses, IsBehind, IsLeftBy, Judges, Passes, RecordCame, StopsBehind, StopsOn, line, refused}
 use Rattle.aoe_pcap_audit.specs.declared.stop.AuditStop.{AuditStop}
 use Rattle.aoe_pcap_audit.specs.declared.stop.AuditStop.TheVariants.{SinkFault}
-use Rattle.aoe_pcap_audit.specs.Records.{HasRead, IsClean, IsWithin, captured_bytes, captured_of, fed, heard, is_end, is_whole}
+use Rattle.aoe_pcap_audit.specs.Records.{HasRead, IsClean, IsWithin, captured_bytes, captured_of, fed, heard, is_end, is_whole, most_records}
 use Rattle.aoe_pcap_audit.specs.declared.stop.Summary.{Summary}
 
 pub no-end : (came : Record) → is_end came ≡ false → came ≡ record_is.End → ⊥
@@ -129,7 +129,7 @@ pub passes-of : (station : Station) (lists : Settings) (ps : List Packet) (t : V
 passes-of station lists ps t s y within records asks tells fails =
     let c : List audit.Packet = heard ps in
     let size : length c ≡ length ps = heard-length ps in
-    let few : length ps ≤ 200000 = within.records in
+    let few : length ps ≤ most_records = within.records in
     let entries : length y.history ≡ length (requests station c) =
     sym (length-map y.history frame_met) ∙ ap length y.explains.frames ∙ length-map y.explains.front frame_of_packet ∙ sym (ap length y.explains.asked) in
     let asked : length (requests station c) ≤ length c = few-requests station c in

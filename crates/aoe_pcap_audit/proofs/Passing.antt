@@ -31,7 +31,7 @@ use Rattle.aoe_serve.specs.Written.{exchanges, recorded}
 use Rattle.aoe_serve.specs.declared.over_stream.AnswerEnd.TheVariants.{Ended}
 use Rattle.aoe_serve.specs.declared.over_stream.Format.TheVariants.{Capture}
 use Rattle.aoe_pcap_audit.specs.Capturing.{AreFew, AreOthers, IsOnWire, IsTold, total_length}
-use Rattle.aoe_pcap_audit.specs.Records.{captured_bytes, fed, heard}
+use Rattle.aoe_pcap_audit.specs.Records.{captured_bytes, fed, heard, most_captured, most_records}
 use Rattle.aoe_pcap_audit.specs.Ends.{Audits, EndsAt, HasNoHead, IsLeftBy, RecordStops, StopsBehind, StopsOn, StopsRead}
 use Rattle.aoe_pcap_audit.specs.declared.stop.AuditStop.{AuditStop}
 use Rattle.aoe_pcap_audit.specs.declared.stop.AuditStop.TheVariants.{SourceFault, SinkFault, NoMemory, BadHeader, BadRecord, Records, CaptureBytes, Finding}
@@ -164,12 +164,12 @@ module _ (station : Station) (lists : Settings) (xs : List (List ℕ)) (bytes : 
 
   -- the latest packets up to one of them
   module _ (ps front : List Packet) (is : reverse Packets ≡ front ++ ps) where
-    few-packets : length ps ≤ 200000
+    few-packets : length ps ≤ most_records
     few-packets =
         let all : length (reverse Packets) ≡ length xs = length-reverse Packets ∙ length-map xs packet_of in
         omega (arith, all, ap length is, length-append front ps, few.count)
 
-    few-bytes : captured_bytes ps ≤ 536870912
+    few-bytes : captured_bytes ps ≤ most_captured
     few-bytes = omega (arith, captured-total xs, ap captured_bytes is, captured-append front ps, few.bytes)
 
     whole-here : AreWhole station (heard ps)

@@ -2,6 +2,7 @@
 use Rattle.std.specs.Prelude.{ℕ, ◌+◌, ◌≡◌, ◌≤◌, ◌<◌, true, false, List, [], ◌∷◌, length, All, is_some}
 use Rattle.aoe_base.specs.Addresses.{holds, source_of}
 use Rattle.aoe_keep.specs.Found.{AlwaysFinds}
+use Rattle.aoe_pcap_audit.specs.Records.{most_captured, most_records}
 use Rattle.aoe_serve.specs.Slots.{Slot}
 use Rattle.aoe_target.specs.declared.station.Station.{Station}
 
@@ -27,5 +28,5 @@ total_length (f ∷ frames) = length f + total_length frames
 
 -- no more frames, and no more bytes of them, than the audit of a file takes
 pub record AreFew (frames : List (List ℕ)) : Type 0 where
-  pub count : length frames ≤ 200000
-  pub bytes : total_length frames ≤ 536870912
+  pub count : length frames ≤ most_records
+  pub bytes : total_length frames ≤ most_captured

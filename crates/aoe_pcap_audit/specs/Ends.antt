@@ -11,7 +11,7 @@ use Rattle.aoe_lists.specs.Settings.{Settings}
 use Rattle.aoe_pcap.specs.Capture.{BeginsNoHead, FileHead, IsCut, IsPacket, Packet, packet_bytes}
 use Rattle.aoe_pcap.specs.declared.reader.PcapRefusal.{PcapRefusal}
 use Rattle.aoe_pcap.specs.declared.reader.PcapRefusal.TheVariants as pcap_refusal
-use Rattle.aoe_pcap_audit.specs.Records.{HasRead, IsClean, IsWithin, captured_bytes, fed, heard}
+use Rattle.aoe_pcap_audit.specs.Records.{HasRead, IsClean, IsWithin, captured_bytes, fed, heard, most_captured, most_records}
 use Rattle.aoe_pcap_audit.specs.declared.stop.AuditStop.{AuditStop}
 use Rattle.aoe_pcap_audit.specs.declared.stop.AuditStop.TheVariants.{SourceFault, SinkFault, NoMemory, BadHeader, BadRecord, Records, CaptureBytes, Finding}
 use Rattle.aoe_pcap_audit.specs.declared.stop.Summary.{Summary}
@@ -58,8 +58,8 @@ StopsRead (Finding number kind) big ps left left' = ⊥
 -- Why a record ends an audit behind these: it is one too many, or its bytes are; and where neither is so, there was no memory for it, or it
 -- has a finding.
 abbrev pub StopsOn : AuditStop → Station → Settings → List Packet → Packet → Type 0
-StopsOn Records station lists ps p = 200000 ≤ length ps
-StopsOn CaptureBytes station lists ps p = (length ps < 200000) × (536870912 < captured_bytes (p ∷ ps))
+StopsOn Records station lists ps p = most_records ≤ length ps
+StopsOn CaptureBytes station lists ps p = (length ps < most_records) × (most_captured < captured_bytes (p ∷ ps))
 StopsOn NoMemory station lists ps p = IsWithin (p ∷ ps)
 StopsOn (Finding number kind) station lists ps p =
     IsWithin (p ∷ ps) × IsCause station lists (heard ps) (fed (length ps + 1) p) (audit_refusal.Finding number kind)

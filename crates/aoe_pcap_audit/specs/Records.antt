@@ -45,10 +45,18 @@ abbrev pub captured_bytes : List Packet → ℕ
 captured_bytes [] = 0
 captured_bytes (p ∷ ps) = captured_bytes ps + length p.captured
 
+-- the most packets that are audited, a limit of this program
+abbrev pub most_records : ℕ
+most_records = 200000
+
+-- the most bytes that were captured of them together: 512 MiB, a limit of this program
+abbrev pub most_captured : ℕ
+most_captured = 536870912
+
 -- no more than are audited
 pub record IsWithin (ps : List Packet) : Type 0 where
-  pub records : length ps ≤ 200000
-  pub bytes : captured_bytes ps ≤ 536870912
+  pub records : length ps ≤ most_records
+  pub bytes : captured_bytes ps ≤ most_captured
 
 -- a source gave the header of a file and the records of these packets
 pub record HasRead (left left' : Option (List ℕ)) (head : FileHead) (ps : List Packet) : Type 0 where

@@ -4,8 +4,8 @@ ghost use Rattle.aoe_base.specs.Faults.{Blamed};
 ghost use Rattle.aoe_io.specs.Bytes.{IsEnded};
 ghost use Rattle.aoe_audit.specs.Auditing.{HasHeard};
 ghost use Rattle.aoe_lists.specs.Settings.{Settings};
-ghost use Rattle.aoe_pcap.specs.Capture.{Packet, frame_of, kind};
-ghost use Rattle.aoe_pcap_audit.specs.Records.{IsWithin, captured_bytes, captured_of, heard, is_end, is_whole};
+ghost use Rattle.aoe_pcap.specs.Capture.{Packet, frame_of, kind, longest_captured};
+ghost use Rattle.aoe_pcap_audit.specs.Records.{IsWithin, captured_bytes, captured_of, heard, is_end, is_whole, most_captured};
 ghost use Rattle.aoe_pcap_audit.specs.Ends.{EndsAt, IsBehind, IsLeftBy, Judges, Passes, RecordCame, StopsOn, refused, unread};
 
 use crate::stop::{AuditStop, Summary};
@@ -79,9 +79,9 @@ fn judge_record(
     frame: &Frame,
     captured: u32,
 ) -> Result<u32, AuditStop>
-    requires few { captured ≤ 536870912 }
-    requires fits { captured_of came frame.now.items ≤ 262144 }
-    ensures few { IfOk result (λ total. total ≤ 536870912) }
+    requires few { captured ≤ most_captured }
+    requires fits { captured_of came frame.now.items ≤ longest_captured }
+    ensures few { IfOk result (λ total. total ≤ most_captured) }
     ensures station { audit.new.station ≡ audit.old.station }
     ensures judged { (lists : Settings) (ps : List Packet) (p : Packet)
         → IsBehind lists audit.old number captured ps → came ≡ kind (length p.captured) p.original
@@ -117,8 +117,8 @@ fn turn<S: Source>(
     captured: u32,
     frame: &mut Frame,
 ) -> Result<Option<u32>, AuditStop>
-    requires { captured ≤ 536870912 }
-    ensures few { IfOk result (λ came. IfSome came (λ total. total ≤ 536870912)) }
+    requires { captured ≤ most_captured }
+    ensures few { IfOk result (λ came. IfSome came (λ total. total ≤ most_captured)) }
     ensures station { audit.new.station ≡ audit.old.station }
     ensures came { (lists : Settings) (ps : List Packet)
         → IsBehind lists audit.old number captured ps → IfOk result (λ came. IfSome came

@@ -19,6 +19,10 @@ use Rattle.aoe_script.specs.Words.{Text, few_words}
 abbrev pub most_script_bytes : ℕ
 most_script_bytes = 16777216
 
+-- the most lines behind those of the setup, a limit of this program
+abbrev pub most_events : ℕ
+most_events = 50000
+
 -- the setup lines and the event lines of a script, each in their order
 pub record ScriptLines : Type 0 where
   pub setups : List Setup
@@ -33,7 +37,7 @@ pub record IsScript (lines : ScriptLines) : Type 0 where
   pub setups : AreGood lines.setups
   pub events : (k : ℕ) → IfSome (slice_get lines.events k) (λ event. event_why lines.setups event ≡ None)
   pub few_setups : length lines.setups ≤ most_script_bytes
-  pub few_events : length lines.events ≤ 50000
+  pub few_events : length lines.events ≤ most_events
   pub setups_fit : All FitsSetup lines.setups
   pub events_fit : All FitsEvent lines.events
 
@@ -58,7 +62,7 @@ why before (Bad cause) = Some cause
 
 -- it is an event line, and there are as many before it as there may be
 abbrev pub is_over : ScriptLines → Line → Bool
-is_over before (Asks event) = nat_le 50000 (length before.events)
+is_over before (Asks event) = nat_le most_events (length before.events)
 is_over before _ = false
 
 -- why a text is refused for the line of this number, if at all

@@ -16,6 +16,10 @@ use Rattle.aoe_script.specs.declared.setup.Setup.{Setup}
 use Rattle.aoe_script.specs.declared.setup.Setup.TheVariants.{Life, Shelf, Slot, Host, Attach, Readonly}
 use Rattle.aoe_script.specs.Classes.{is_name}
 
+-- the most milliseconds that a line says, but for lifetimes: some three hours, a limit of this program
+abbrev pub longest_wait : ℕ
+longest_wait = 10000000
+
 -- ---- ranges
 
 abbrev pub is_within : ℕ → ℕ → ℕ → Bool
@@ -28,7 +32,7 @@ are_ports ports = is_within 1 4 (length ports.items) && list_all is_individual p
 -- how many commands of a host fly, and for how long: both or neither
 abbrev pub is_limit : Option ℕ → Option ℕ → Bool
 is_limit None None = true
-is_limit (Some room) (Some dead) = is_within 1 16384 room && is_within 1 10000000 dead
+is_limit (Some room) (Some dead) = is_within 1 16384 room && is_within 1 longest_wait dead
 is_limit None (Some dead) = false
 is_limit (Some room) None = false
 
@@ -71,7 +75,7 @@ is_event (Identify host dev) = is_asked host dev
 is_event (Config host dev ccmd text) = is_asked host dev && nat_le ccmd 4 && nat_le (length text) (if ccmd == 0 then 0 else 1024)
 is_event (Masks host dev edit dirs) = is_asked host dev && is_within (if edit then 1 else 0) (if edit then max_directives else 0) (length dirs.items)
 is_event (Reserve host dev rcmd list) = is_asked host dev && nat_le rcmd 2 && nat_le (length list.items) (if rcmd == 0 then 0 else max_directives)
-is_event (Tick ms) = is_within 1 10000000 ms
+is_event (Tick ms) = is_within 1 longest_wait ms
 is_event (Deliver frame station) = is_within 1 4294967295 frame && is_name station
 is_event (Pass n) = is_within 1 10000 n
 is_event (Skip n) = is_within 1 10000 n

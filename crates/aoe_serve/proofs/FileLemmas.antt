@@ -134,15 +134,16 @@ free state most major ports mtu minor slot disks targets seated at room =
 
 -- The disks of the last slot, behind those of the others.
 
-pub last-pair : {D : Type 0} {all : List (Option D)} (others : List (Option D)) {pair : List (Option D)} {file keep : D} → all ≡ others ++ pair → pair ≡ Some file ∷ Some keep ∷ []
-    → all ≡ ends_with others file keep
+pub last-pair : {D : Type 0} {all : List (Option D)} (others : List (Option D)) {pair : List (Option D)} {file keep : D}
+    → all ≡ others ++ pair → pair ≡ Some file ∷ Some keep ∷ [] → all ≡ ends_with others file keep
 last-pair {D} others parts pair_is = parts ∙ ap (λ (xs : List (Option D)). others ++ xs) pair_is
 
 -- the disk of a store that was over the file
 pub unused-disk : {D : Type 0} (most : Option ℕ) {store : AnyStore D} {file file' : D} → store ≡ over_file most file → file' ≡ any_disk store → file' ≡ file
 unused-disk {D} most {store} {file} is closed = closed ∙ ap (λ (x : AnyStore D). any_disk x) is ∙ over-disk most file
 
-module _ {D : Type 0} (state : D → DiskState) {all : List (Option D)} (others : List (Option D)) (file keep : D) (joined : all ≡ ends_with others file keep) where
+module _ {D : Type 0} (state : D → DiskState) {all : List (Option D)} (others : List (Option D)) (file keep : D)
+    (joined : all ≡ ends_with others file keep) where
   -- the slot is added behind the others
   pub seated-then : (most : Option ℕ) (name name' : ℕ → ℕ → Station) (minor slot : ℕ) (store : AnyStore D) (middle new : List (Mounted (AnyStore D) D))
       → store ≡ over_file most file → length middle ≡ slot → name' ≡ name

@@ -1,5 +1,6 @@
 -- What a run over a stream of frames takes, writes and leaves, by how it ended.
 use Rattle.std.specs.Prelude.{ℕ, ◌<◌, ◌≤◌, ◌≡◌, List, [], ◌∷◌, length, slice_get, All, Option, Some, IfSome, Result, Ok, Err}
+use Rattle.aoe_base.specs.Sizes.{most_streamed}
 use Rattle.aoe_io.specs.Bytes.{Gave, GaveSome, Took, TookSome, IsEnded}
 use Rattle.aoe_io.specs.Stream.{framed, stream, IsFrame, IsBroken}
 use Rattle.aoe_target.specs.Law.{Fate}
@@ -12,11 +13,11 @@ use Rattle.aoe_serve.specs.declared.over_stream.Format.{Format}
 
 -- what stands in the source behind n frames of so many bytes, and what the run left of it
 abbrev pub Stops : AnswerEnd → ℕ → ℕ → Option (List ℕ) → Option (List ℕ) → Type 0
-Stops Ended n taken behind left = (n < 4294967295) × IsEnded behind × (left ≡ behind)
-Stops (Stream offset) n taken behind left = (n < 4294967295) × (offset ≡ taken) × IfSome behind IsBroken × GaveSome behind left
-Stops SourceFault n taken behind left = (n < 4294967295) × GaveSome behind left
-Stops SinkFault n taken behind left = (n ≤ 4294967295) × (left ≡ behind)
-Stops Limit n taken behind left = (n ≡ 4294967295) × (left ≡ behind)
+Stops Ended n taken behind left = (n < most_streamed) × IsEnded behind × (left ≡ behind)
+Stops (Stream offset) n taken behind left = (n < most_streamed) × (offset ≡ taken) × IfSome behind IsBroken × GaveSome behind left
+Stops SourceFault n taken behind left = (n < most_streamed) × GaveSome behind left
+Stops SinkFault n taken behind left = (n ≤ most_streamed) × (left ≡ behind)
+Stops Limit n taken behind left = (n ≡ most_streamed) × (left ≡ behind)
 
 -- The sink took what is written of all frames but the last, and a part of what is written of the last. Or it took a part of what stands in
 -- front, before any frame; where nothing does, as in a stream of replies, there is no part of it.

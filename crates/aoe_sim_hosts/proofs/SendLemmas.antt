@@ -168,7 +168,8 @@ module _ {s : Setup} {host : HostSetup} {name : ArrayVec ℕ} {h m : List Entry}
 
   -- there is no room for one frame more
   pub sends-full : {limit : NetLimit} (life : Lifetimes) → IsFullBy limit (network life m) f → MeetsFull s (SendsSome name h) limit m
-  sends-full {limit} life full = record { entry = entry; called_for = sends; may_come = may-come; bytes = f; brings = refl; full = full-by limit life s.life m f full }
+  sends-full {limit} life full =
+      record { entry = entry; called_for = sends; may_come = may-come; bytes = f; brings = refl; full = full-by limit life s.life m f full }
 
 -- nothing more may be sent
 pub settled-quiet : (s : Setup) (host : HostSetup) (h : List Entry) (x : SimHost) (new : Host) → IsSettled s host h x

@@ -13,6 +13,7 @@ use Rattle.aoe_script.specs.declared.event.Event.{Event}
 use Rattle.aoe_script.specs.declared.event.Event.TheVariants.{Read, Write, Flush, Identify, Config, Masks, Reserve, Tick, Deliver, Pass, Skip, Again, Inject, Fail, Stop, Crash}
 use Rattle.aoe_script.specs.declared.setup.Setup.{Setup as Line}
 use Rattle.aoe_script.specs.declared.setup.Setup.TheVariants.{Shelf, Host}
+use Rattle.aoe_script.specs.Rules.{longest_wait}
 use Rattle.aoe_history.specs.Groups.Station.{Shelf as ShelfStation, Host as HostStation}
 use Rattle.aoe_sim_setup.specs.Layout.{majors_of, station_named, host_of, slots_of_shelf, stations_of, Placed}
 
@@ -63,7 +64,7 @@ pub record IsHost (host : HostSetup) : Type 0 where
   pub some_room : 0 < host.room
   pub room : host.room ≤ 16384
   pub some_time : 0 < host.dead
-  pub dead : host.dead ≤ 10000000
+  pub dead : host.dead ≤ longest_wait
   pub devices : (i : ℕ) (d : Attached) → slice_get host.devices i ≡ Some d → IsDevice d
   pub apart : (i j : ℕ) (a b : Attached) → slice_get host.devices i ≡ Some a → slice_get host.devices j ≡ Some b → i ≢ j → same_id a.id b.id ≡ false
 
@@ -138,7 +139,7 @@ CanCome lines s (Identify host dev) = IsAsked lines s host dev
 CanCome lines s (Config host dev ccmd text) = IsAsked lines s host dev
 CanCome lines s (Masks host dev edit dirs) = IsAsked lines s host dev
 CanCome lines s (Reserve host dev rcmd list) = IsAsked lines s host dev
-CanCome lines s (Tick ms) = (1 ≤ ms) × (ms ≤ 10000000)
+CanCome lines s (Tick ms) = (1 ≤ ms) × (ms ≤ longest_wait)
 CanCome lines s (Deliver frame station) = IsStation lines station × (1 ≤ frame) × (frame ≤ 4294967295)
 CanCome lines s (Pass n) = (1 ≤ n) × (n ≤ 10000)
 CanCome lines s (Skip n) = (1 ≤ n) × (n ≤ 10000)

@@ -1,6 +1,7 @@
 //! The lines of a command.
 ghost use Rattle.std.specs.Prelude.{◌≡◌, ◌+◌, ◌≤◌, [], ◌∷◌, OnOk, length};
 ghost use Rattle.aoe_script.specs.declared.event.Event.TheVariants.{Flush};
+ghost use Rattle.aoe_script.specs.Lines.{most_events};
 ghost use Rattle.aoe_soak.specs.Adds.{with_events};
 ghost use Rattle.aoe_soak.specs.Soak.{before, command, crash, device, first_line, following, host, stations};
 
@@ -49,7 +50,7 @@ fn first_line(seed: u16, i: u32) -> Event
 /// nothing goes wrong.
 fn put_following(script: &mut Script, i: u32) -> Result<(), NoMemory>
     requires stations { script.old.setups ≡ stations }
-    requires room { length script.old.events + 4 ≤ 50000 }
+    requires room { length script.old.events + 4 ≤ most_events }
     ensures { OnOk result (script.new ≡ with_events script.old (following i)) }
 {
     match i % 10 {
@@ -83,7 +84,7 @@ fn flush(letter: u8) -> Event
 /// Adds the lines between the two halves: both hosts flush, and the shelf loses power.
 fn put_crash(script: &mut Script) -> Result<(), NoMemory>
     requires stations { script.old.setups ≡ stations }
-    requires room { length script.old.events + 6 ≤ 50000 }
+    requires room { length script.old.events + 6 ≤ most_events }
     ensures { OnOk result (script.new ≡ with_events script.old crash) }
 {
     add_all(
@@ -105,7 +106,7 @@ fn put_crash(script: &mut Script) -> Result<(), NoMemory>
 /// Adds the lines that stand before command `i` of `count`.
 fn put_before(script: &mut Script, count: u32, i: u32) -> Result<(), NoMemory>
     requires stations { script.old.setups ≡ stations }
-    requires room { length script.old.events + 6 ≤ 50000 }
+    requires room { length script.old.events + 6 ≤ most_events }
     ensures { OnOk result (script.new ≡ with_events script.old (before count i)) }
 {
     if i == count / 2 {
@@ -123,7 +124,7 @@ pub(crate) fn put_command(
     i: u32,
 ) -> Result<(), NoMemory>
     requires stations { script.old.setups ≡ stations }
-    requires room { length script.old.events + 11 ≤ 50000 }
+    requires room { length script.old.events + 11 ≤ most_events }
     requires few { i ≤ 16000 }
     ensures { OnOk result (script.new ≡ with_events script.old (command seed count i)) }
 {

@@ -122,13 +122,13 @@ impl<T: Ranked> Sorted<T> {
     }
 
     /// Takes the one at a place out.
-    pub fn remove_at(&mut self, place: usize) -> Option<T>
+    pub fn remove_at(&mut self, place: usize) -> T
         requires { place < length self.old.items }
-        ensures items { (x : T) → slice_get self.old.items place ≡ Some x
-            → (result ≡ Some x) × IsPermutation self.old.items (x ∷ self.new.items) }
+        ensures there { slice_get self.old.items place ≡ Some result }
+        ensures items { IsPermutation self.old.items (result ∷ self.new.items) }
         ensures room { self.new.room ≡ self.old.room }
     {
-        self.items.remove(place)
+        self.items.remove(place).unwrap()
     }
 
     /// Takes those out that have this tie.

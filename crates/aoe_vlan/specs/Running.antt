@@ -1,6 +1,7 @@
 -- A run of a switch over a stream.
 use Rattle.std.specs.Prelude.{ℕ, ◌≡◌, ◌+◌, ◌*◌, ◌<◌, ◌≤◌, ◌⊎◌, List, [], ◌∷◌, ◌++◌, length, All, Option, IfSome, ⊤}
 use Rattle.std.specs.List.{flat_map}
+use Rattle.aoe_base.specs.Sizes.{most_streamed}
 use Rattle.aoe_io.specs.Bytes.{Gave, GaveSome, IsEnded, Took, TookSome}
 use Rattle.aoe_io.specs.Stream.{framed}
 use Rattle.aoe_vlan.specs.Switched.{Passing, given}
@@ -46,11 +47,11 @@ given_bytes ports before i = pieces (given ports before i)
 
 -- what stands in the source behind n frames of so many bytes, and what the run left of it
 abbrev pub Stops : SwitchEnd → ℕ → ℕ → ℕ → Option (List ℕ) → Option (List ℕ) → Type 0
-Stops Ended ports n taken behind left = (n < 4294967295) × IsEnded behind × (left ≡ behind)
-Stops (Stream offset) ports n taken behind left = (n < 4294967295) × (offset ≡ taken) × IfSome behind (IsCut ports) × GaveSome behind left
-Stops SourceFault ports n taken behind left = (n < 4294967295) × GaveSome behind left
-Stops SinkFault ports n taken behind left = (n ≤ 4294967295) × (left ≡ behind)
-Stops Limit ports n taken behind left = (n ≡ 4294967295) × (left ≡ behind)
+Stops Ended ports n taken behind left = (n < most_streamed) × IsEnded behind × (left ≡ behind)
+Stops (Stream offset) ports n taken behind left = (n < most_streamed) × (offset ≡ taken) × IfSome behind (IsCut ports) × GaveSome behind left
+Stops SourceFault ports n taken behind left = (n < most_streamed) × GaveSome behind left
+Stops SinkFault ports n taken behind left = (n ≤ most_streamed) × (left ≡ behind)
+Stops Limit ports n taken behind left = (n ≡ most_streamed) × (left ≡ behind)
 
 -- the sink took what all inputs give but the last, and a part of what the last gives
 abbrev pub FailedToWrite : List PortKind → List Passing → List Passing → Option (List ℕ) → Option (List ℕ) → Type 0

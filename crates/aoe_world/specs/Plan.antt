@@ -8,6 +8,7 @@ use Rattle.aoe_history.specs.Setup.{HostSetup}
 use Rattle.aoe_script.specs.declared.event.Event.{Event}
 use Rattle.aoe_script.specs.declared.event.Event.TheVariants as event
 use Rattle.aoe_script.specs.declared.setup.Setup.{Setup as Line}
+use Rattle.aoe_script.specs.Rules.{longest_wait}
 use Rattle.aoe_sim_setup.specs.Layout.{majors_of, setup_of, stations_of}
 use Rattle.aoe_sim_setup.specs.Stations.{CanCome}
 use Rattle.aoe_world.specs.declared.act.Act.{Act}
@@ -24,7 +25,7 @@ pub record Knows (lines : List Line) (places : List Place) (sim : Sim) : Type 0 
   pub network_is : IsNetwork (setup_of lines) (majors_of lines)
   pub places_are : ArePlaces (setup_of lines) (majors_of lines) (stations_of lines) places
   pub ready : IsReady (setup_of lines) (majors_of lines) sim
-  pub time : clock sim.run.entries + 10000000 < 2 ^ 64
+  pub time : clock sim.run.entries + longest_wait < 2 ^ 64
   pub few : (host : HostSetup) → tickets host sim.run.entries < 2 ^ 64 - 1
 
 -- one act, which can be done, and which this is by its names

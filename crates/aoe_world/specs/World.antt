@@ -13,6 +13,7 @@ use Rattle.aoe_history.specs.Run.{network_of, IsWithin, MeetsFull, Recorded}
 use Rattle.aoe_script.specs.declared.event.Event.{Event}
 use Rattle.aoe_script.specs.declared.setup.Setup.{Setup as Line}
 use Rattle.aoe_script.specs.Lines.{IsScript, ScriptLines}
+use Rattle.aoe_script.specs.Rules.{longest_wait}
 use Rattle.aoe_transcript.specs.Print.{IsFromLine}
 use Rattle.aoe_world.specs.declared.place.Place.{Place}
 use Rattle.aoe_world.specs.declared.refusal.WorldRefusal.{WorldRefusal}
@@ -66,7 +67,7 @@ Runs (Err refusal) lines e cursor behind old new =
 pub record IsGoing (script : ScriptLines) (places : List Place) (sim : Sim) (cursor events : ℕ) : Type 0 where
   pub staged : IsStaged script places sim cursor
   pub ready : IsReady (setup_of script.setups) (majors_of script.setups) sim
-  pub time : clock sim.run.entries ≤ 10000000 * events
+  pub time : clock sim.run.entries ≤ longest_wait * events
   pub tickets_are : (host : HostSetup) → tickets host sim.run.entries ≤ events
 
 -- what holds of the fields of a world

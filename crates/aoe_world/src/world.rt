@@ -8,6 +8,7 @@ ghost use Rattle.aoe_sim_setup.specs.Layout.{setup_of};
 ghost use Rattle.aoe_sim_setup.specs.Stations.{CanCome};
 ghost use Rattle.aoe_history.specs.Run.{IsWithin};
 ghost use Rattle.aoe_script.specs.declared.setup.Setup.{Setup as Line};
+ghost use Rattle.aoe_script.specs.Lines.{most_events};
 ghost use Rattle.aoe_script.specs.Rules.{event_why, is_event};
 ghost use Rattle.aoe_transcript.specs.Print.{CanPrint};
 ghost use Rattle.aoe_world.specs.Schedule.{Comes, ComesSome};
@@ -148,7 +149,7 @@ impl World<'_> {
     /// event that was refused isn't counted, and where the cursor stands behind it doesn't matter.
     pub fn step(&mut self, event: &Event) -> Result<(), WorldRefusal>
         requires good { event_why self.old.lines event.now ≡ None }
-        requires few { self.old.events < 50000 }
+        requires few { self.old.events < most_events }
         ensures refused { IfSome self.old.refused
             (λ refusal. (result ≡ Err refusal) × (self.new ≡ self.old)) }
         ensures comes { OnOk result (Comes (setup_of self.old.lines) self.old.lines event.now self.old.cursor self.old.entries self.new.cursor self.new.entries) }

@@ -15,4 +15,5 @@ arguments-preserved c = record {
 
 pub returns-clause-app : goal.returns-clause-app
 returns-clause-app c =
-    sym (all_added argument with_argument (app_of c.arguments.command) c.args.arguments.now c.arguments.argument-index c.arguments-test.false) ∙ c.arguments.invariant.app
+    sym (all_added argument with_argument (app_of c.arguments.command) c.args.arguments.now c.arguments.argument-index c.arguments-test.false)
+    ∙ c.arguments.invariant.app

@@ -8,5 +8,6 @@ use Rattle.aoe_args.proofs.read.are_words.Goals as goal
 
 pub returns : goal.returns
 returns c =
-    all_from_yields_List (λ word. is_word (string_bytes word)) _ _ _ c.all.ensures.ran (YieldsList-from_slice c.args.words.now c.iter.ensures.rest) (λ x b q k. search rules)
+    all_from_yields_List (λ word. is_word (string_bytes word)) _ _ _ c.all.ensures.ran
+    (YieldsList-from_slice c.args.words.now c.iter.ensures.rest) (λ x b q k. search rules)
     ∙ sym (list_all-map is_word string_bytes c.args.words.now)

@@ -15,13 +15,15 @@ vids-preserved c =
         from = omega (arith, c.vids.invariant.from);
         to = search rules;
         few = omega (arith, w.count-is, c.vids.invariant.few);
-        so_far = w.count-is ∙ counted-with kinds c.vids.vid c.vids.count c.vids.invariant.from (sym c.is_carried.ensures ∙ w.if-is_carried.true) c.vids.invariant.so_far;
+        so_far = w.count-is
+            ∙ counted-with kinds c.vids.vid c.vids.count c.vids.invariant.from (sym c.is_carried.ensures ∙ w.if-is_carried.true) c.vids.invariant.so_far;
       }
       | else-is_carried w ↦ record {
         from = omega (arith, c.vids.invariant.from);
         to = search rules;
         few = omega (arith, w.count-is, c.vids.invariant.few);
-        so_far = w.count-is ∙ counted-without kinds c.vids.vid c.vids.count c.vids.invariant.from (sym c.is_carried.ensures ∙ w.if-is_carried.false) c.vids.invariant.so_far;
+        so_far = w.count-is
+            ∙ counted-without kinds c.vids.vid c.vids.count c.vids.invariant.from (sym c.is_carried.ensures ∙ w.if-is_carried.false) c.vids.invariant.so_far;
       }
     ]
 

@@ -50,7 +50,8 @@ pub returns-in-Err-clause-full : goal.returns-in-Err-clause-full
 returns-in-Err-clause-full c = λ limit is_full s host settled lawful.
     let i = c.frames.invariant in
     rw c.in-Err.ensures.err
-    (sends-full i.name (pulled c.before) (i.sent s host settled lawful) c.frames.run.life (rw c.as_slice.ensures.value at (c.in-Err.ensures.full limit is_full)))
+    (sends-full i.name (pulled c.before) (i.sent s host settled lawful) c.frames.run.life
+    (rw c.as_slice.ensures.value at (c.in-Err.ensures.full limit is_full)))
 
 pub returns-clause-some : goal.returns-clause-some
 returns-clause-some c = λ s host settled lawful. (c.frames.invariant.sent s host settled lawful).0

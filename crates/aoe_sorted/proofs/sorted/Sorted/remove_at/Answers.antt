@@ -1,6 +1,5 @@
-use Rattle.std.proofs.Common.{arith, rules, sym, ap, ◌∙◌, Some}
+use Rattle.std.proofs.Common.{◌≡◌, get_or, arith, rules, sym, ◌∙◌, Some}
 use Rattle.std.proofs.lemmas.List.Sorted.{IsPermutation-remove}
-use Rattle.std.proofs.lemmas.Option.{get_or_from_slice_get}
 use Rattle.aoe_sorted.proofs.RankLemmas.{ordered-remove, removed-at}
 use Rattle.aoe_sorted.proofs.sorted.Sorted.remove_at.Goals as goal
 
@@ -15,11 +14,10 @@ invariant_of-self g c =
     }
 
 pub returns-clause-items : goal.returns-clause-items
-returns-clause-items g c = λ x here.
+returns-clause-items g c =
     let xs = c.self.inside.items.items in
+    let taken = c.unwrap.result in
     let within = rw (← c.self.view_is) at c.requires in
-    let is = get_or_from_slice_get xs c.args.place x x (rw (← c.self.view_is) at here) in
-    let items = removed-at c.remove.result xs _ c.args.place (search rules) c.remove.ensures.items within in (
-      c.remove.ensures.succeeds x (search rules) ∙ ap Some is,
-      rw (← c.self.view_is) (rw items (IsPermutation-remove xs c.args.place x within (sym is))),
-    )
+    let items = removed-at c.remove.result xs _ c.args.place (search rules) c.remove.ensures.items within in
+    let is : Some taken ≡ Some (get_or xs c.args.place taken) = sym c.unwrap.ensures ∙ c.remove.ensures.succeeds taken (search rules) in
+    rw (← c.self.view_is) (rw items (IsPermutation-remove xs c.args.place taken within (cc)))

@@ -6,7 +6,8 @@ use Rattle.aoe_world.proofs.sim.Sim.settle.Goals as goal
 pub returns-in-Err : goal.returns-in-Err
 returns-in-Err c =
     let there = read-at c.hosts.self.hosts.items c.hosts.i (omega (arith, c.hosts-test.true, c.hosts.invariant.count)) c.index_mut.ensures.value in
-    going-broken c.index_mut.result.now c.hosts.invariant there c.turn.new.run.entries c.in-Err.refusal c.in-Err.ensures.err (λ limit e. c.in-Err.ensures.full limit (cc))
+    going-broken c.index_mut.result.now c.hosts.invariant there c.turn.new.run.entries c.in-Err.refusal c.in-Err.ensures.err
+    (λ limit e. c.in-Err.ensures.full limit (cc))
 
 pub hosts-preserved : goal.hosts-preserved
 hosts-preserved c =
