@@ -6,7 +6,7 @@ use arrayvec::ArrayVec;
 
 /// What `answer SHELF SLOT FILE KEEP` asks for: to answer the frames of a stream as one target. And
 /// what `capture` asks for, with the same behind it: to write a capture file of them and the replies.
-#[derive(Clone, Copy, Debug, PartialEq, Eq)]
+#[derive(Clone, Copy, PartialEq, Eq)]
 pub struct Answer {
     /// The target's name.
     pub id: TargetId,
@@ -28,7 +28,7 @@ pub struct Answer {
 }
 
 /// What `serve SHELF FILES` asks for: to answer the frames of a link as a shelf of targets.
-#[derive(Debug, Drop, PartialEq, Eq)]
+#[derive(Drop, PartialEq, Eq)]
 pub struct Serve {
     /// The shelf's number.
     pub shelf: u16,
@@ -57,7 +57,7 @@ pub struct Serve {
 
 /// What `mirror SHELF SLOT FILE FILE MARK KEEP` asks for: to answer the frames of a stream as one
 /// target over two files.
-#[derive(Clone, Copy, Debug, PartialEq, Eq)]
+#[derive(Clone, Copy, PartialEq, Eq)]
 pub struct Mirror {
     /// The target's name.
     pub id: TargetId,
@@ -71,7 +71,7 @@ pub struct Mirror {
 
 /// What `audit SHELF SLOT SECTORS KEEP` asks for: to judge the capture in the source as one of this
 /// target, which had the lists of the keep when the capture began.
-#[derive(Debug, Drop, PartialEq, Eq)]
+#[derive(Drop, PartialEq, Eq)]
 pub struct Audit {
     /// The target's name.
     pub id: TargetId,
@@ -88,7 +88,7 @@ pub struct Audit {
 
 /// What `soak SEED N` asks for: to run the script of `count` commands that a number picks, and to
 /// print what was seen.
-#[derive(Clone, Copy, Debug, PartialEq, Eq)]
+#[derive(Clone, Copy, PartialEq, Eq)]
 pub struct Soak {
     /// Where the sectors and the bytes of the commands begin.
     pub seed: u16,
@@ -99,7 +99,7 @@ pub struct Soak {
 
 /// What `live SECTORS N` asks for: to run a shelf and a host over two links, and to print the script
 /// of what happened.
-#[derive(Clone, Copy, Debug, PartialEq, Eq)]
+#[derive(Clone, Copy, PartialEq, Eq)]
 pub struct Live {
     /// How many sectors the disk of the shelf has.
     pub sectors: u32,
@@ -116,14 +116,14 @@ pub type PortKinds = ArrayVec<PortKind, MAX_PORTS>;
 
 /// What `switch PORT PORT ..` asks for: to carry the frames of a stream between ports, and to keep
 /// their VLANs apart.
-#[derive(Debug, Drop, PartialEq, Eq)]
+#[derive(Drop, PartialEq, Eq)]
 pub struct Switch {
     /// Of which VLANs each port is: 2 to 16 ports, of 64 VLANs at most.
     pub ports: PortKinds,
 }
 
 /// What `keep KEEP ACTION` asks for, of the keep of a slot that no shelf serves.
-#[derive(Clone, Copy, Debug, PartialEq, Eq)]
+#[derive(Clone, Copy, PartialEq, Eq)]
 pub enum KeepAction {
     /// To write what it holds as a line.
     Show,
@@ -139,7 +139,7 @@ pub enum KeepAction {
 }
 
 /// Who asks, and how long it listens: what every tool is told.
-#[derive(Clone, Copy, Debug, PartialEq, Eq)]
+#[derive(Clone, Copy, PartialEq, Eq)]
 pub struct Asking {
     /// The address that the requests come from.
     pub port: Mac,
@@ -149,7 +149,7 @@ pub struct Asking {
 }
 
 /// What `discover` asks for: to list the devices of the network.
-#[derive(Clone, Copy, Debug, PartialEq, Eq)]
+#[derive(Clone, Copy, PartialEq, Eq)]
 pub struct Discover {
     pub asking: Asking,
 
@@ -158,7 +158,7 @@ pub struct Discover {
 }
 
 /// What `stat` asks for: to list the devices of the network, with their sizes and states.
-#[derive(Clone, Copy, Debug, PartialEq, Eq)]
+#[derive(Clone, Copy, PartialEq, Eq)]
 pub struct Stat {
     pub asking: Asking,
 
@@ -167,7 +167,7 @@ pub struct Stat {
 }
 
 /// What `cfg DEV ACTION TEXT` asks for: to read, test or set a device's config string.
-#[derive(Debug, Drop, PartialEq, Eq)]
+#[derive(Drop, PartialEq, Eq)]
 pub struct Cfg {
     pub asking: Asking,
 
@@ -182,7 +182,7 @@ pub struct Cfg {
 }
 
 /// What `mask DEV ACTION DIRS` asks for: to read or edit a device's mask list.
-#[derive(Debug, Drop, PartialEq, Eq)]
+#[derive(Drop, PartialEq, Eq)]
 pub struct Mask {
     pub asking: Asking,
 
@@ -194,7 +194,7 @@ pub struct Mask {
 }
 
 /// What `reserve DEV ACTION MACS` asks for: to read or set a device's reserve list.
-#[derive(Debug, Drop, PartialEq, Eq)]
+#[derive(Drop, PartialEq, Eq)]
 pub struct Reserve {
     pub asking: Asking,
 
@@ -209,7 +209,7 @@ pub struct Reserve {
 }
 
 /// What `flush DEV` asks for: to make lasting what a device acknowledged.
-#[derive(Clone, Copy, Debug, PartialEq, Eq)]
+#[derive(Clone, Copy, PartialEq, Eq)]
 pub struct Flush {
     pub asking: Asking,
 
@@ -218,7 +218,7 @@ pub struct Flush {
 }
 
 /// What `get DEV AT COUNT` asks for: to read up to 32,768 sectors of a device.
-#[derive(Clone, Copy, Debug, PartialEq, Eq)]
+#[derive(Clone, Copy, PartialEq, Eq)]
 pub struct Get {
     pub asking: Asking,
 
@@ -234,7 +234,7 @@ pub struct Get {
 
 /// What `get DEV`, `get DEV AT` and a `get DEV AT COUNT` of more than 32,768 sectors ask for: to read
 /// sectors of a device, and to write each out as soon as all before it are there.
-#[derive(Clone, Copy, Debug, PartialEq, Eq)]
+#[derive(Clone, Copy, PartialEq, Eq)]
 pub struct LongGet {
     pub asking: Asking,
 
@@ -249,7 +249,7 @@ pub struct LongGet {
 }
 
 /// What `put DEV AT` asks for: to write the sectors of the source to a device.
-#[derive(Clone, Copy, Debug, PartialEq, Eq)]
+#[derive(Clone, Copy, PartialEq, Eq)]
 pub struct Put {
     pub asking: Asking,
 
@@ -264,7 +264,7 @@ pub struct Put {
 }
 
 /// What a tool asks the targets of a network for.
-#[derive(Debug, Drop, PartialEq, Eq)]
+#[derive(Drop, PartialEq, Eq)]
 pub enum Tool {
     Discover(Discover),
     Stat(Stat),
@@ -275,7 +275,7 @@ pub enum Tool {
 }
 
 /// What the arguments of a command line ask for.
-#[derive(Debug, Drop, PartialEq, Eq)]
+#[derive(Drop, PartialEq, Eq)]
 pub enum Command {
     Answer(Answer),
     Serve(Serve),
@@ -296,7 +296,7 @@ pub enum Command {
 }
 
 /// What names a link, as it stands on the command line.
-#[derive(Debug, Drop)]
+#[derive(Drop)]
 pub enum PortWords {
     /// The texts of its own address and those of its peers, and the number of its VXLAN, where it has
     /// one.

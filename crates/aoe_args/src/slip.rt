@@ -103,7 +103,7 @@ pub enum Wrong {
 }
 
 /// Why words are no command.
-#[derive(Clone, Copy, Debug, PartialEq, Eq)]
+#[derive(Clone, Copy, PartialEq, Eq)]
 pub struct Slip {
     /// The place of the word that is wrong, from 0; `None` where no single word is.
     pub word: Option<usize>,

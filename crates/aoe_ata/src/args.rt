@@ -35,7 +35,7 @@ pub const AFLAG_WRITE: u8 = 0x01;
 /// | 10 | 2 | reserved | zero |
 ///
 /// The address `lba` is below 2^48.
-#[derive(Clone, Copy, Debug, PartialEq, Eq, Hash)]
+#[derive(Clone, Copy, PartialEq, Eq, Hash)]
 pub struct AtaArgs {
     pub aflags: u8,
     pub feature: u8,

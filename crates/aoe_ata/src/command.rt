@@ -7,7 +7,7 @@ use aoe_base::Span;
 
 /// The commands that have an answer here, each with its code (ATA/ATAPI Command Set, "Command
 /// descriptions").
-#[derive(Clone, Copy, Debug, PartialEq, Eq, Hash)]
+#[derive(Clone, Copy, PartialEq, Eq, Hash)]
 pub enum CommandCode {
     ReadSectors = 0x20,
     ReadSectorsExt = 0x24,
@@ -67,7 +67,7 @@ impl CommandCode {
 }
 
 /// What the registers of a request ask for.
-#[derive(Clone, Copy, Debug, PartialEq, Eq, Hash)]
+#[derive(Clone, Copy, PartialEq, Eq, Hash)]
 pub enum AtaCommand {
     /// To read sectors.
     Read(Span),

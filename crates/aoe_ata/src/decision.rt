@@ -7,7 +7,7 @@ use crate::command::{AtaCommand, classify};
 use aoe_base::{AoeError, SECTOR_LEN, Span};
 
 /// What is answered to registers that are taken. The last four call the device.
-#[derive(Clone, Copy, Debug, PartialEq, Eq, Hash)]
+#[derive(Clone, Copy, PartialEq, Eq, Hash)]
 pub enum AtaAnswer {
     /// ABRT, since the command isn't known.
     Abort,
@@ -28,7 +28,7 @@ pub enum AtaAnswer {
 }
 
 /// Registers that are taken, and what is answered to them.
-#[derive(Clone, Copy, Debug, PartialEq, Eq, Hash)]
+#[derive(Clone, Copy, PartialEq, Eq, Hash)]
 pub struct AtaDecision {
     pub args: AtaArgs,
     pub answer: AtaAnswer,

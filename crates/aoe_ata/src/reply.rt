@@ -29,7 +29,7 @@ pub const ERROR_UNC: u8 = 0x40;
 const ACTIVE_OR_IDLE: u8 = 0xff;
 
 /// How a command ended.
-#[derive(Clone, Copy, Debug, PartialEq, Eq, Hash)]
+#[derive(Clone, Copy, PartialEq, Eq, Hash)]
 pub enum AtaOutcome {
     /// It was done.
     Done,

@@ -9,7 +9,7 @@ use aoe_target::Station;
 const TYPE_END: usize = 14;
 
 /// What a record of a capture is to the audit of a device.
-#[derive(Clone, Copy, Debug, PartialEq, Eq)]
+#[derive(Clone, Copy, PartialEq, Eq)]
 pub enum Class {
     /// Nothing: another protocol, or what another station replied.
     Other,

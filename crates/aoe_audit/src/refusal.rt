@@ -27,7 +27,7 @@ pub enum AuditRefusal {
 
 /// The yes of an audit: how many requests and replies of the device the capture had, and how many
 /// replies told that a disk failed. A count stands still at 4,294,967,295.
-#[derive(Clone, Copy, Debug, PartialEq, Eq)]
+#[derive(Clone, Copy, PartialEq, Eq)]
 pub struct Verdict {
     pub requests: u32,
     pub replies: u32,

@@ -9,7 +9,7 @@ use crate::decimal::read_number;
 use arrayvec::ArrayVec;
 
 /// An Ethernet address, its six bytes in the order of the wire.
-#[derive(Clone, Copy, Debug, Default, PartialEq, Eq, PartialOrd, Ord, Hash)]
+#[derive(Clone, Copy, Default, PartialEq, Eq, PartialOrd, Ord, Hash)]
 pub struct Mac(pub [u8; 6]);
 
 impl Mac {
@@ -40,7 +40,7 @@ pub fn all_unique(list: &[Mac]) -> bool
 /// The name of a device: the number of its shelf (AoEr11 "Major") and of its slot there ("Minor").
 ///
 /// In a request 0xffff and 0xff stand for every shelf and every slot; no device has them.
-#[derive(Clone, Copy, Debug, PartialEq, Eq, PartialOrd, Ord, Hash)]
+#[derive(Clone, Copy, PartialEq, Eq, PartialOrd, Ord, Hash)]
 pub struct TargetId {
     pub major: u16,
     pub minor: u8,

@@ -6,7 +6,7 @@ ghost use Rattle.aoe_base.specs.Spans.{overlap, Overlap};
 pub const SECTOR_LEN: usize = 512;
 
 /// The `count` sectors of 512 bytes from the logical block address `at` on.
-#[derive(Clone, Copy, Debug, PartialEq, Eq, Hash)]
+#[derive(Clone, Copy, PartialEq, Eq, Hash)]
 pub struct Span {
     pub at: u64,
     pub count: u32,

@@ -4,7 +4,7 @@ ghost use Rattle.std.specs.Prelude.{◌≡◌, if◌then◌else◌};
 use aoe_initiator::{Done, Outcome};
 
 /// What a command that ended is to a block.
-#[derive(Debug, Drop)]
+#[derive(Drop)]
 pub enum Took {
     /// It is none of the block's parts under way.
     NotMine(Done),

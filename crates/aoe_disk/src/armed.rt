@@ -7,7 +7,7 @@ ghost use Rattle.aoe_disk.specs.declared.armed.Arm.{Arm};
 use crate::Disk;
 
 /// Which coming device call is to fail, counted from 1.
-#[derive(Clone, Copy, Debug, PartialEq, Eq)]
+#[derive(Clone, Copy, PartialEq, Eq)]
 pub enum Arm {
     /// This call, and no other.
     Fail(u32),

@@ -7,7 +7,7 @@ use crate::bytes::{spoil_at, write_at};
 use aoe_base::SECTOR_LEN;
 
 /// What a loss of power leaves of each sector that is loose.
-#[derive(Clone, Copy, Debug, PartialEq, Eq)]
+#[derive(Clone, Copy, PartialEq, Eq)]
 pub enum Loss {
     /// Its bytes as they were last written.
     Keep,

@@ -11,7 +11,7 @@ use aoe_base::{Millis, PathNo, Ticket};
 const MAX_SENDS: u32 = 32;
 
 /// What is known of a command that waits for its response.
-#[derive(Clone, Copy, Debug, PartialEq, Eq)]
+#[derive(Clone, Copy, PartialEq, Eq)]
 pub struct Flying {
     pub tag: u32,
 
@@ -29,7 +29,7 @@ pub struct Flying {
 }
 
 /// A command that was sent.
-#[derive(Clone, Copy, Debug, PartialEq, Eq)]
+#[derive(Clone, Copy, PartialEq, Eq)]
 pub struct Outstanding {
     pub ticket: Ticket,
     pub flying: Flying,

@@ -36,7 +36,7 @@ pub const ERROR_FLAG: u8 = 0x4;
 /// | 20 | 4 | tag |
 ///
 /// Numbers of several bytes are big-endian.
-#[derive(Clone, Copy, Debug, PartialEq, Eq)]
+#[derive(Clone, Copy, PartialEq, Eq)]
 pub struct Header {
     pub dst: Mac,
     pub src: Mac,

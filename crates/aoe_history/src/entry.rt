@@ -9,7 +9,7 @@ use aoe_script::{Name, Which};
 use aoe_target::Effect;
 
 /// What became of a frame at a target.
-#[derive(Debug, Drop)]
+#[derive(Drop)]
 pub enum Fate {
     /// It isn't for this target.
     Ignored,
@@ -31,7 +31,7 @@ pub enum Fate {
 /// One thing that happened. Frames have numbers from 1 in the order in which they came into the
 /// network, and the commands of a host have tickets from 1 in the order of their submission. What is
 /// large and rare is boxed, so that a long history is small.
-#[derive(Debug, Drop)]
+#[derive(Drop)]
 pub enum Entry {
     /// A host took a command for a device.
     Submitted {

@@ -6,7 +6,7 @@ ghost use Rattle.aoe_hold.specs.Commands.{comes_first, conflict, finished, has_e
 use aoe_base::{Millis, Span, Ticket};
 
 /// What a command does, as far as the order of commands goes by it.
-#[derive(Clone, Copy, Debug, PartialEq, Eq)]
+#[derive(Clone, Copy, PartialEq, Eq)]
 pub enum Kind {
     Read,
     Write,
@@ -48,7 +48,7 @@ impl Kind {
 }
 
 /// How far a command has come. `Flying` and `Finished` have the time of its last send.
-#[derive(Clone, Copy, Debug, PartialEq, Eq)]
+#[derive(Clone, Copy, PartialEq, Eq)]
 pub enum Stage {
     Unsent,
     Flying(Millis),
@@ -85,7 +85,7 @@ fn expiry(last: Millis, life: Millis) -> u128
 }
 
 /// A command that was entered.
-#[derive(Clone, Copy, Debug, PartialEq, Eq)]
+#[derive(Clone, Copy, PartialEq, Eq)]
 pub struct Command {
     pub ticket: Ticket,
     pub kind: Kind,

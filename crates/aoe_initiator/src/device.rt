@@ -14,7 +14,7 @@ use aoe_paths::Paths;
 use std::alloc::Global;
 
 /// What a host knows of a device.
-#[derive(Debug, Drop)]
+#[derive(Drop)]
 pub struct Attached {
     pub id: TargetId,
 

@@ -12,7 +12,7 @@ use aoe_lists::{Dir, MAX_DIRS};
 use arrayvec::ArrayVec;
 
 /// What a host asks of a device.
-#[derive(Debug, Drop)]
+#[derive(Drop)]
 pub enum Op {
     /// To read sectors (READ SECTORS EXT).
     Read(Span),

@@ -3,7 +3,7 @@ use aoe_base::{Blob, Millis, Ticket};
 use aoe_lists::Args;
 
 /// What became of a command.
-#[derive(Debug, Drop)]
+#[derive(Drop)]
 pub enum Outcome {
     /// A read gave these sectors, or an identify its page.
     Read(Blob),
@@ -28,7 +28,7 @@ pub enum Outcome {
 }
 
 /// A command that ended.
-#[derive(Debug, Drop)]
+#[derive(Drop)]
 pub struct Done {
     pub ticket: Ticket,
     pub outcome: Outcome,

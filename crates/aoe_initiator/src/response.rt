@@ -11,7 +11,7 @@ use aoe_frame::{ERROR_FLAG, Header};
 use aoe_lists::{Args, MAX_CONFIG};
 
 /// What a well-formed response says.
-#[derive(Clone, Copy, Debug, PartialEq, Eq)]
+#[derive(Clone, Copy, PartialEq, Eq)]
 pub enum Answer {
     /// Behind the registers are `len` bytes of data: sectors or the identify page.
     Data { len: usize },

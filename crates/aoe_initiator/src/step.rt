@@ -2,7 +2,7 @@
 use aoe_base::{PathNo, Ticket};
 
 /// A frame of a command that is to be sent.
-#[derive(Clone, Copy, Debug, PartialEq, Eq)]
+#[derive(Clone, Copy, PartialEq, Eq)]
 pub struct Sent {
     pub ticket: Ticket,
     pub tag: u32,
@@ -13,7 +13,7 @@ pub struct Sent {
 }
 
 /// What became of a frame that a host was handed.
-#[derive(Clone, Copy, Debug, PartialEq, Eq)]
+#[derive(Clone, Copy, PartialEq, Eq)]
 pub enum Taken {
     /// The command has its outcome.
     Finished(Ticket),

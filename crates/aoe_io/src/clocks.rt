@@ -21,7 +21,7 @@ pub trait Clock {
 }
 
 /// A clock that goes by steps, and stands still at the greatest time.
-#[derive(Debug, Drop)]
+#[derive(Drop)]
 pub struct SetClock {
     start: u64,
     step: u64,

@@ -9,7 +9,7 @@ use aoe_base::Failed;
 use aoe_frame::Frame;
 
 /// What a link gave in one turn.
-#[derive(Clone, Copy, Debug, PartialEq, Eq)]
+#[derive(Clone, Copy, PartialEq, Eq)]
 pub enum Got {
     Frame,
 

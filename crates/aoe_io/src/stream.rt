@@ -19,7 +19,7 @@ const SHORTEST: usize = 14;
 const FRONT: usize = 64;
 
 /// What came next on the stream.
-#[derive(Clone, Copy, Debug, PartialEq, Eq)]
+#[derive(Clone, Copy, PartialEq, Eq)]
 pub enum Next {
     Frame,
     End,

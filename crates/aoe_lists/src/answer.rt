@@ -3,7 +3,7 @@ use aoe_base::AoeError;
 
 /// What a request comes to, beside the arguments of its reply and the lists that it makes, which
 /// stand where the caller says.
-#[derive(Clone, Copy, Debug, PartialEq, Eq)]
+#[derive(Clone, Copy, PartialEq, Eq)]
 pub enum Answer {
     /// It gets no reply.
     Silent,

@@ -20,7 +20,7 @@ use crate::{Answer, Args, Lists, MAX_CONFIG};
 use aoe_base::{AoeError, append};
 
 /// What a device says of itself in each config reply.
-#[derive(Clone, Copy, Debug, PartialEq, Eq)]
+#[derive(Clone, Copy, PartialEq, Eq)]
 pub struct Facts {
     /// How many requests the device can hold while it works.
     pub buffers: u16,
@@ -33,7 +33,7 @@ pub struct Facts {
 }
 
 /// What is done with the config string, by the request's field CCmd.
-#[derive(Clone, Copy, Debug, PartialEq, Eq)]
+#[derive(Clone, Copy, PartialEq, Eq)]
 pub enum ConfigCommand {
     /// 0: reads it.
     Read,

@@ -5,7 +5,7 @@ use aoe_base::Mac;
 pub const MAX_DIRS: usize = 64;
 
 /// One change of a mask list: the address is added, or it is taken out.
-#[derive(Clone, Copy, Debug, Default, PartialEq, Eq)]
+#[derive(Clone, Copy, Default, PartialEq, Eq)]
 pub struct Dir {
     pub add: bool,
     pub mac: Mac,

@@ -17,7 +17,7 @@ pub type AddressList = ArrayVec<Mac, MAX_ADDRESSES>;
 
 /// What a device keeps: a string and two lists for its hosts, and the mark of its owner. No address
 /// stands twice in a list.
-#[derive(Debug, Default, Drop, PartialEq, Eq)]
+#[derive(Default, Drop, PartialEq, Eq)]
 pub struct Lists {
     /// The config string: bytes of which the device knows no meaning.
     pub config: ArrayVec<u8, MAX_CONFIG>,

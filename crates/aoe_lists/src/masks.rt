@@ -19,7 +19,7 @@ use crate::{AddressList, Answer, Args, Lists};
 use aoe_base::{AoeError, Mac, append};
 
 /// Why a mask edit was refused, as its reply's field MError says.
-#[derive(Clone, Copy, Debug, PartialEq, Eq)]
+#[derive(Clone, Copy, PartialEq, Eq)]
 pub enum MaskError {
     /// 1: no reason is given. No edit here ends with it.
     Unspecified,
@@ -32,7 +32,7 @@ pub enum MaskError {
 }
 
 /// One change of a mask list, by its field DCmd.
-#[derive(Clone, Copy, Debug, PartialEq, Eq)]
+#[derive(Clone, Copy, PartialEq, Eq)]
 pub enum Directive {
     /// 0: does nothing.
     Nothing,
@@ -48,7 +48,7 @@ pub enum Directive {
 }
 
 /// What is done with the mask list, by the request's field MCmd.
-#[derive(Clone, Copy, Debug, PartialEq, Eq)]
+#[derive(Clone, Copy, PartialEq, Eq)]
 pub enum MaskCommand {
     /// 0: reads it.
     Read,

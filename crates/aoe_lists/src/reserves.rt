@@ -18,7 +18,7 @@ use crate::{AddressList, Answer, Args, Lists, MAX_ADDRESSES, may_use};
 use aoe_base::{AoeError, Mac, append};
 
 /// What is done with the reserve list, by the request's field RCmd.
-#[derive(Clone, Copy, Debug, PartialEq, Eq)]
+#[derive(Clone, Copy, PartialEq, Eq)]
 pub enum ReserveCommand {
     /// 0: reads it.
     Read,

@@ -6,7 +6,7 @@ use aoe_history::{Entry, Fate, History};
 use aoe_initiator::LIFETIMES;
 
 /// Who sent a frame.
-#[derive(Clone, Copy, Debug, PartialEq, Eq)]
+#[derive(Clone, Copy, PartialEq, Eq)]
 pub(crate) enum Sender {
     Shelf,
     Host,

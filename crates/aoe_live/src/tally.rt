@@ -6,7 +6,7 @@ use aoe_history::Entry;
 use aoe_initiator::Outcome;
 
 /// How far a host is with its commands, which have the tickets from 1 on.
-#[derive(Clone, Copy, Debug, PartialEq, Eq)]
+#[derive(Clone, Copy, PartialEq, Eq)]
 pub(crate) struct Tally {
     /// How many were submitted.
     pub(crate) begun: u64,

@@ -8,7 +8,7 @@ use std::rc::RcSlice;
 
 /// The bytes of a frame, which contracts see as the list of its bytes. A second owner has them in
 /// the same place.
-#[derive(Debug, Drop)]
+#[derive(Drop)]
 pub struct FrameBytes {
     held: RcSlice<u8>,
 }

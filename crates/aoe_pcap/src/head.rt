@@ -36,7 +36,7 @@ const HEAD_LEN: usize = 24;
 /// | 12 | 4 | accuracy of times |
 /// | 16 | 4 | the most bytes of a packet that were captured |
 /// | 20 | 4 | link type, 1 for Ethernet |
-#[derive(Clone, Copy, Debug, PartialEq, Eq)]
+#[derive(Clone, Copy, PartialEq, Eq)]
 pub struct Head {
     /// Whether numbers are big-endian, and not little-endian.
     pub big: bool,

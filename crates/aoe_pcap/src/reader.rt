@@ -18,7 +18,7 @@ pub const RECORD_HEAD_LEN: usize = 16;
 const MAX_CAPTURED: u32 = 262_144;
 
 /// What the next record of a file is.
-#[derive(Clone, Copy, Debug, PartialEq, Eq)]
+#[derive(Clone, Copy, PartialEq, Eq)]
 pub enum Record {
     /// A frame, of which all bytes were captured.
     Whole,

@@ -4,7 +4,7 @@ use thiserror::Error;
 
 /// How many records of each sort a capture has that passed: all, the requests, and the replies of the
 /// device. `faults` counts the replies that told that a disk failed.
-#[derive(Clone, Copy, Debug, PartialEq, Eq)]
+#[derive(Clone, Copy, PartialEq, Eq)]
 pub struct Summary {
     pub records: u32,
     pub requests: u32,

@@ -6,14 +6,14 @@ use aoe_lists::{Dir, MAX_DIRS};
 use arrayvec::ArrayVec;
 
 /// A disk of a device: that of its sectors, or that of its lists.
-#[derive(Clone, Copy, Debug, PartialEq, Eq)]
+#[derive(Clone, Copy, PartialEq, Eq)]
 pub enum Which {
     Store,
     Keep,
 }
 
 /// An event line. Each field is the word of that line.
-#[derive(Debug, Drop)]
+#[derive(Drop)]
 pub enum Event {
     /// A host reads sectors of a device.
     Read {

@@ -4,7 +4,7 @@ use crate::refusal::Why;
 use crate::setup::Setup;
 
 /// What a line says, whatever stands before it.
-#[derive(Debug, Drop)]
+#[derive(Drop)]
 pub enum Line {
     /// Nothing: it is empty or a comment.
     Blank,

@@ -22,7 +22,7 @@ pub const LONGEST_TEXT: usize = 16_777_216;
 pub const MAX_EVENTS: usize = 50_000;
 
 /// A script: setup lines, and events behind them. None of its lines is bad.
-#[derive(Debug, Drop)]
+#[derive(Drop)]
 pub struct Script {
     setups: Vec<Setup>,
     events: Vec<Event>,

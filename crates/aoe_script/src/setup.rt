@@ -6,7 +6,7 @@ use arrayvec::ArrayVec;
 pub type Name = ArrayVec<u8, 8>;
 
 /// A setup line. Each field is the word of that line.
-#[derive(Debug, Drop, PartialEq, Eq)]
+#[derive(Drop, PartialEq, Eq)]
 pub enum Setup {
     /// How long a request can be handed over, in milliseconds, and how long a response, where that
     /// is given: as long as a request otherwise.

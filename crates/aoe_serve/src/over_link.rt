@@ -15,7 +15,7 @@ use aoe_shelf::Shelf;
 use aoe_store::Store;
 
 /// How a run of `serve` ended.
-#[derive(Clone, Copy, Debug, PartialEq, Eq)]
+#[derive(Clone, Copy, PartialEq, Eq)]
 pub enum ServeEnd {
     /// As many frames came or as many consecutive turns were quiet as was asked for, or the link ended.
     Ended,

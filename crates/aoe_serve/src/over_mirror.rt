@@ -31,7 +31,7 @@ pub struct MirrorDisks<D> {
 }
 
 /// How a run over a mirror ended.
-#[derive(Clone, Copy, Debug, PartialEq, Eq)]
+#[derive(Clone, Copy, PartialEq, Eq)]
 pub struct MirrorEnd {
     pub end: RunEnd,
 

@@ -20,7 +20,7 @@ use aoe_shelf::Shelf;
 use aoe_store::Store;
 
 /// What a run writes of the frames that come.
-#[derive(Clone, Copy, Debug, PartialEq, Eq)]
+#[derive(Clone, Copy, PartialEq, Eq)]
 pub enum Format {
     /// The replies, as a stream.
     Replies,
@@ -30,7 +30,7 @@ pub enum Format {
 }
 
 /// How the frames of a run of `answer` or `capture` ended.
-#[derive(Clone, Copy, Debug, PartialEq, Eq)]
+#[derive(Clone, Copy, PartialEq, Eq)]
 pub enum AnswerEnd {
     /// The source was read to its end.
     Ended,

@@ -4,7 +4,7 @@ use aoe_keep::MountRefusal;
 use thiserror::Error;
 
 /// What is done with the slots.
-#[derive(Clone, Copy, Debug, PartialEq, Eq)]
+#[derive(Clone, Copy, PartialEq, Eq)]
 pub enum Plan {
     /// The frames of the source are answered on the sink, in this format.
     Answer(Format),
@@ -14,14 +14,14 @@ pub enum Plan {
 }
 
 /// How the frames ended.
-#[derive(Clone, Copy, Debug, PartialEq, Eq)]
+#[derive(Clone, Copy, PartialEq, Eq)]
 pub enum RunEnd {
     Answered(AnswerEnd),
     Served(ServeEnd),
 }
 
 /// How a run ended.
-#[derive(Clone, Copy, Debug, PartialEq, Eq)]
+#[derive(Clone, Copy, PartialEq, Eq)]
 pub struct Exported {
     pub end: RunEnd,
 

@@ -23,7 +23,7 @@ use std::alloc::Global;
 use std::marker::Model;
 
 /// What a stop leaves that one of the two disks of a slot is armed with, where it is.
-#[derive(Clone, Copy, Debug, Default, PartialEq, Eq)]
+#[derive(Clone, Copy, Default, PartialEq, Eq)]
 pub struct Stops {
     pub store: Option<Loss>,
     pub keep: Option<Loss>,

@@ -13,7 +13,7 @@ pub(crate) const HEAD_LEN: usize = 10;
 pub(crate) const PLAIN: [u8; HEAD_LEN] = [0; HEAD_LEN];
 
 /// What a read brings.
-#[derive(Clone, Copy, Debug, PartialEq, Eq)]
+#[derive(Clone, Copy, PartialEq, Eq)]
 pub(crate) enum Read {
     Frame,
 

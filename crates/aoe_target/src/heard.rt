@@ -6,7 +6,7 @@ ghost use Rattle.aoe_target.specs.Told.{heard_as, NamesIn};
 use aoe_base::Span;
 
 /// What a frame did to a target that replied to it.
-#[derive(Clone, Copy, Debug, PartialEq, Eq, Hash)]
+#[derive(Clone, Copy, PartialEq, Eq, Hash)]
 pub enum Effect {
     /// Nothing: the lists and the sectors are as they were.
     None,
@@ -27,7 +27,7 @@ pub enum Effect {
 }
 
 /// What became of a frame that a target was handed.
-#[derive(Clone, Copy, Debug, PartialEq, Eq, Hash)]
+#[derive(Clone, Copy, PartialEq, Eq, Hash)]
 pub enum Heard {
     /// It isn't for this target.
     Ignored,

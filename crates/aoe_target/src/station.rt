@@ -32,7 +32,7 @@ pub fn max_sectors(mtu: u32) -> u32
 }
 
 /// What of a target never changes.
-#[derive(Debug, Drop)]
+#[derive(Drop)]
 pub struct Station {
     /// Its name.
     pub id: TargetId,

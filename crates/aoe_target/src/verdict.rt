@@ -33,7 +33,7 @@ const RESERVE_RELEASE: u8 = 3;
 const AOE_VERSION: u8 = 1;
 
 /// The part of the lists that a request reads or changes.
-#[derive(Clone, Copy, Debug, PartialEq, Eq, Hash)]
+#[derive(Clone, Copy, PartialEq, Eq, Hash)]
 pub enum ListCommand {
     Config,
     Masks,
@@ -41,7 +41,7 @@ pub enum ListCommand {
 }
 
 /// What a target does with a frame.
-#[derive(Clone, Copy, Debug, PartialEq, Eq, Hash)]
+#[derive(Clone, Copy, PartialEq, Eq, Hash)]
 pub enum Verdict {
     /// Nothing: it isn't for this target.
     Ignored,

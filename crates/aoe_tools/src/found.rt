@@ -10,7 +10,7 @@ use std::alloc::Global;
 use std::marker::Model;
 
 /// What is known of a device.
-#[derive(Clone, Copy, Debug, PartialEq, Eq)]
+#[derive(Clone, Copy, PartialEq, Eq)]
 pub enum State {
     /// It answered.
     Found,
@@ -36,7 +36,7 @@ pub(crate) struct Known {
 }
 
 /// A device that was found.
-#[derive(Debug, Drop)]
+#[derive(Drop)]
 pub struct Seen {
     pub id: TargetId,
 

@@ -16,7 +16,7 @@ use aoe_initiator::{Op, write_request};
 use aoe_io::Link;
 
 /// A device that answered.
-#[derive(Clone, Copy, Debug, PartialEq, Eq)]
+#[derive(Clone, Copy, PartialEq, Eq)]
 pub struct Device {
     /// The address that it answered from.
     pub port: Mac,

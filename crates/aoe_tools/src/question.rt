@@ -9,7 +9,7 @@ use aoe_frame::{ERROR_FLAG, HEADER_LEN, Header, RESPONSE_FLAG, read_header};
 use aoe_initiator::{Answer, Op, config_args_len, mask_args_len, read_answer, reserve_args_len};
 
 /// Who asks, and how long it listens.
-#[derive(Clone, Copy, Debug, PartialEq, Eq)]
+#[derive(Clone, Copy, PartialEq, Eq)]
 pub struct Ask {
     /// The address that the requests come from, and that responses go to.
     pub port: Mac,

@@ -8,7 +8,7 @@ use aoe_script::spelling::put_count;
 use std::alloc::Global;
 
 /// How much happened in a run.
-#[derive(Clone, Copy, Debug, PartialEq, Eq)]
+#[derive(Clone, Copy, PartialEq, Eq)]
 pub struct Summary {
     /// The event lines of its script.
     pub events: u64,

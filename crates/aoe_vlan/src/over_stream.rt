@@ -16,7 +16,7 @@ use aoe_io::{Sink, Source, fill_from, give_all};
 use arrayvec::ArrayVec;
 
 /// How a run of a switch ended.
-#[derive(Clone, Copy, Debug, PartialEq, Eq)]
+#[derive(Clone, Copy, PartialEq, Eq)]
 pub enum SwitchEnd {
     /// The source was read to its end.
     Ended,

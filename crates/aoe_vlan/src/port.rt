@@ -10,7 +10,7 @@ use arrayvec::ArrayVec;
 pub const MAX_VLANS: usize = 64;
 
 /// Of which VLANs a port is, by their numbers, 1 to 4094.
-#[derive(Debug, Drop, PartialEq, Eq)]
+#[derive(Drop, PartialEq, Eq)]
 pub enum PortKind {
     /// One VLAN, whose frames have no tag here, or one with number 0.
     Access(u16),

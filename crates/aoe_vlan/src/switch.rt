@@ -24,7 +24,7 @@ pub const MAX_PORTS: usize = 16;
 pub type PortNumbers = ArrayVec<u8, MAX_PORTS>;
 
 /// Where a frame goes.
-#[derive(Debug, Drop)]
+#[derive(Drop)]
 pub struct Going {
     /// The VLAN that it is of.
     pub vid: Option<u16>,

@@ -11,7 +11,7 @@ use std::time::Clock;
 const TYPE_END: usize = 14;
 
 /// What a call that takes came to.
-#[derive(Clone, Copy, Debug, PartialEq, Eq)]
+#[derive(Clone, Copy, PartialEq, Eq)]
 pub enum Taken {
     /// A frame of AoE came.
     Frame,
@@ -28,7 +28,7 @@ pub enum Taken {
 }
 
 /// What a call that gives a frame to a peer came to.
-#[derive(Clone, Copy, Debug, PartialEq, Eq)]
+#[derive(Clone, Copy, PartialEq, Eq)]
 pub enum Given {
     /// The medium took the frame.
     Sent,

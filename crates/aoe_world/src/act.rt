@@ -5,7 +5,7 @@ use aoe_initiator::Op;
 use aoe_script::Which;
 
 /// Where a station stands among the shelves or among the hosts, from 0.
-#[derive(Clone, Copy, Debug, PartialEq, Eq)]
+#[derive(Clone, Copy, PartialEq, Eq)]
 pub(crate) enum At {
     Shelf(usize),
     Host(usize),

@@ -3,7 +3,7 @@ use aoe_net::NetLimit;
 use aoe_script::Why;
 
 /// Which limit was exceeded.
-#[derive(Clone, Copy, Debug, PartialEq, Eq)]
+#[derive(Clone, Copy, PartialEq, Eq)]
 pub enum ReplayLimit {
     /// The text has more than 16,777,216 bytes.
     ScriptBytes,
@@ -16,7 +16,7 @@ pub enum ReplayLimit {
 }
 
 /// How a replay ends.
-#[derive(Clone, Copy, Debug, PartialEq, Eq)]
+#[derive(Clone, Copy, PartialEq, Eq)]
 pub enum ReplayEnd {
     /// The script was run, and the text of the run was written.
     Ended,

@@ -9,7 +9,7 @@ use aoe_transcript::{print_run, print_summary, summarize};
 use std::alloc::Global;
 
 /// All of the text of a run, or its last line, which says how much happened.
-#[derive(Clone, Copy, Debug, PartialEq, Eq)]
+#[derive(Clone, Copy, PartialEq, Eq)]
 pub enum Part {
     Whole,
     Summary,
