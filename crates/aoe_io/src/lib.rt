@@ -11,7 +11,7 @@
 //! bytes to their end, [`fill_from`] and [`fill_frame`] read as many as asked for, and
 //! [`read_up_to`] reads a source to its end.
 //!
-//! Nothing is read ahead but by a source of its own, and no call is made again after a failure.
+//! Nothing is read ahead but by the source itself, and no call is made again after a failure.
 #![tactic(auto)]
 
 mod clocks;
