@@ -10,7 +10,7 @@ use Rattle.std.specs.Prelude.{bit_and}
 use Rattle.std.specs.Int.{bit_at}
 use Rattle.aoe_disk.specs.State.{is_loose}
 use Rattle.aoe_disk.specs.Sectors.{IsOutside}
-use Rattle.aoe_mirror.specs.Marks.{AreMarks, IsClear, bit_of, bits_of, count_of, with_each}
+use Rattle.aoe_mirror.specs.Marks.{AreMarks, AreSet, IsClear, IsFirstRun, IsNextRun, bit_of, bits_of, count_of, with_each}
 
 pub length-bits_of : (words : List ℕ) (n : ℕ) → length (bits_of words n) ≡ n
 unfolding bits_of
@@ -289,3 +289,88 @@ count_hole (false ∷ marks) (suc at) (suc n) (suc m) some is set = count_hole m
 
 pub count_cleared : (marks : List Bool) (at n : ℕ) → 0 < n → is_loose marks at ≡ true → count_of (with_each marks at n false) < count_of marks
 count_cleared marks at n some set = count_hole marks at n (at + n) some refl set
+
+-- how many of the first k marks are set
+unfoldable pub below : ℕ → List Bool → ℕ
+below zero marks = 0
+below (suc k) [] = 0
+below (suc k) (true ∷ marks) = suc (below k marks)
+below (suc k) (false ∷ marks) = below k marks
+
+pub below_none : (marks : List Bool) → below 0 marks ≡ 0
+unfolding below
+below_none marks = refl
+
+pub below_all : (marks : List Bool) (k : ℕ) → ((s : ℕ) → k ≤ s → is_loose marks s ≡ false) → count_of marks ≡ below k marks
+unfolding count_of below
+below_all [] zero clear = refl
+below_all [] (suc k) clear = refl
+below_all (true ∷ marks) zero clear = let e : true ≡ false = clear 0 (omega arith) in cc
+below_all (false ∷ marks) zero clear = below_all marks zero (λ s le. clear (suc s) (omega arith))
+below_all (true ∷ marks) (suc k) clear = ap suc (below_all marks k (λ s le. clear (suc s) (omega (arith, le))))
+below_all (false ∷ marks) (suc k) clear = below_all marks k (λ s le. clear (suc s) (omega (arith, le)))
+
+pub below_more : (marks : List Bool) (k j n : ℕ) → j ≤ k + n → below j marks ≤ below k marks + n
+unfolding below
+below_more marks k zero n le = omega arith
+below_more [] k (suc j) n le = omega arith
+below_more (true ∷ marks) zero (suc j) zero le = absurd (omega (arith, le))
+below_more (true ∷ marks) zero (suc j) (suc n) le = let r = below_more marks zero j n (omega (arith, le)) in omega (arith, r)
+below_more (false ∷ marks) zero (suc j) n le = let r = below_more marks zero j n (omega (arith, le)) in omega (arith, r)
+below_more (true ∷ marks) (suc k) (suc j) n le = let r = below_more marks k j n (omega (arith, le)) in omega (arith, r)
+below_more (false ∷ marks) (suc k) (suc j) n le = let r = below_more marks k j n (omega (arith, le)) in omega (arith, r)
+
+pub below_clear : (marks : List Bool) (k j : ℕ) → k ≤ j → ((s : ℕ) → k ≤ s → s < j → is_loose marks s ≡ false) → below j marks ≤ below k marks
+unfolding below
+below_clear marks k zero le clear = omega arith
+below_clear [] k (suc j) le clear = omega arith
+below_clear (true ∷ marks) zero (suc j) le clear = let e : true ≡ false = clear 0 (omega arith) (omega arith) in cc
+below_clear (false ∷ marks) zero (suc j) le clear = below_clear marks zero j (omega arith) (λ s low lt. clear (suc s) (omega arith) (omega (arith, lt)))
+below_clear (true ∷ marks) (suc k) (suc j) le clear =
+    let r = below_clear marks k j (omega (arith, le)) (λ s low lt. clear (suc s) (omega (arith, low)) (omega (arith, lt))) in omega (arith, r)
+below_clear (false ∷ marks) (suc k) (suc j) le clear =
+    below_clear marks k j (omega (arith, le)) (λ s low lt. clear (suc s) (omega (arith, low)) (omega (arith, lt)))
+
+pub below_same : (a b : List Bool) (k : ℕ) → length b ≡ length a → ((s : ℕ) → s < k → is_loose b s ≡ is_loose a s) → below k b ≤ below k a
+unfolding below
+below_same a b zero size same = omega arith
+below_same [] [] (suc k) size same = omega arith
+below_same [] (y ∷ b) (suc k) size same = absurd (omega (arith, size))
+below_same (x ∷ a) [] (suc k) size same = absurd (omega (arith, size))
+below_same (true ∷ a) (true ∷ b) (suc k) size same =
+    let r = below_same a b k (omega (arith, size)) (λ s lt. same (suc s) (omega (arith, lt))) in omega (arith, r)
+below_same (true ∷ a) (false ∷ b) (suc k) size same = let e : false ≡ true = same 0 (omega arith) in cc
+below_same (false ∷ a) (true ∷ b) (suc k) size same = let e : true ≡ false = same 0 (omega arith) in cc
+below_same (false ∷ a) (false ∷ b) (suc k) size same = below_same a b k (omega (arith, size)) (λ s lt. same (suc s) (omega (arith, lt)))
+
+-- the first run of marks from a place on
+
+pub clear_rest : (marks : List Bool) (from : ℕ) → IsClear marks from (length marks) → (s : ℕ) → from ≤ s → is_loose marks s ≡ false
+clear_rest marks from clear s le = elim (cases_lt s (length marks)) [
+  | inl within ↦ clear s le (omega arith)
+  | inr past ↦ get_or_past marks s false past
+]
+
+pub next_set : (marks : List Bool) (from at n : ℕ) → IsNextRun marks from at n → AreSet marks at n
+next_set marks from at n (inl r) = r.run
+next_set marks from at n (inr r) = r.1.run
+
+-- the marks behind a run that was looked at: those that were cleared, and those that stay
+
+module _ (marks : List Bool) (from at n : ℕ) (run : IsFirstRun marks from at n) where
+  pub below_stays : below (at + n) marks ≤ below from marks + n
+  below_stays =
+      let clear = below_clear marks from at run.low run.first in
+      let more = below_more marks at (at + n) n (omega arith) in
+      omega (arith, clear, more)
+
+  pub below_cleared : below (at + n) (with_each marks at n false) ≤ below from marks
+  below_cleared =
+      let fits : at + n ≤ length marks = run.run.within in
+      let clear = below_clear (with_each marks at n false) from (at + n) (omega (arith, run.low)) (λ s low lt. elim (cases_lt s at) [
+        | inl before ↦ with_each_outside marks at n false fits s (inl before) ∙ run.first s low before
+        | inr inside ↦ with_each_inside marks at n false fits s inside lt
+      ]) in
+      let same = below_same marks (with_each marks at n false) from (length-with_each marks at n false fits)
+      (λ s lt. with_each_outside marks at n false fits s (inl (omega (arith, lt, run.low)))) in
+      omega (arith, clear, same)

@@ -1,5 +1,5 @@
 -- A run of stale sectors, copied from the lead to the follower.
-use Rattle.std.proofs.Common.{◌≡◌, ◌≤◌, ◌<◌, ◌+◌, ◌-◌, ◌*◌, ◌/◌, ◌⊎◌, ℕ, Bool, true, false, Some, IfSome, IfErr, List, length, take, drop, Result, Ok, Err, is_err, refl, sym, ap, ◌∙◌, subst, inl, inr, arith}
+use Rattle.std.proofs.Common.{◌≡◌, ◌≤◌, ◌<◌, ◌+◌, ◌-◌, ◌*◌, ◌/◌, ◌⊎◌, ℕ, Bool, true, false, Option, None, Some, IfSome, IfErr, MatchOption, is_some, List, length, take, drop, Result, Ok, Err, is_err, refl, sym, ap, ◌∙◌, subst, inl, inr, arith}
 use Rattle.std.proofs.lemmas.Bool.{OnTrue_at, both_ways, cases_Bool}
 use Rattle.aoe_base.specs.Faults.{Rose}
 use Rattle.aoe_base.proofs.CommonLemmas.{rose-later}
@@ -8,10 +8,10 @@ use Rattle.aoe_disk.specs.Calls.{IsRange, Puts, Settles, Syncs, SyncsTo, Writes,
 use Rattle.aoe_disk.specs.Sectors.{Calms, IsOutside}
 use Rattle.aoe_disk.proofs.Touching.{calm_refl, sector-read, sector-with_piece, settles_kept}
 use Rattle.std.proofs.lemmas.List.{length-replicate}
-use Rattle.aoe_mirror.specs.Marks.{IsFirstRun, count_of, with_each}
+use Rattle.aoe_mirror.specs.Marks.{AreSet, IsClear, IsFirstRun, IsNextRun, count_of, with_each}
 use Rattle.aoe_mirror.specs.Sides.{Agree, IsMirror, Pair, both, seen, shown}
-use Rattle.aoe_mirror.specs.Calls.{Answer, Blames, Copied, Copies, CopiesRun, FollowerFailed, Later, LeadFailed, WritesCopy}
-use Rattle.aoe_mirror.proofs.Bits.{count_cleared, length-with_each, with_each_inside, with_each_outside}
+use Rattle.aoe_mirror.specs.Calls.{Answer, Blames, Copies, CopiesNext, CopiesRun, FollowerFailed, Later, LeadFailed, WritesCopy, copy_blamed}
+use Rattle.aoe_mirror.proofs.Bits.{count_cleared, length-with_each, next_set, none_through, with_each_inside, with_each_outside}
 use Rattle.aoe_mirror.proofs.Told.{and_if, both_if, if_any, told_both, told_if, told_map, told_mono, told_same, told_tells, told_then, told_with}
 use Rattle.aoe_mirror.proofs.Whole.{Beside, Fit, beside_refl, cases_range, length-loose_of, loose_at, puts_beside, seen_at}
 use Rattle.aoe_mirror.proofs.Quiet.{calm_by, in_from, parts_in, settled_by}
@@ -27,7 +27,7 @@ Touched at n a c = (b : Contents) × Beside at n a b × Calms b c
 abbrev Put : ℕ → List ℕ → Contents → Contents → Type 0
 Put at piece a c = (b : Contents) × Puts at piece a b × Settles b c
 
-module _ (sectors at n : ℕ) (settled : Bool) (stale : List Bool) (run : IsFirstRun stale at n) (p q : Contents × Contents) (fit : Fit sectors stale p)
+module _ (sectors at n : ℕ) (settled : Bool) (stale : List Bool) (run : AreSet stale at n) (p q : Contents × Contents) (fit : Fit sectors stale p)
     (agree : Agree settled stale p) (lead : q.0 ≡ p.0) where
   outside_run : (s : ℕ) → is_loose stale s ≡ false → IsOutside at n s
   outside_run s off = elim (cases_range at n s) [
@@ -138,7 +138,7 @@ module _ (sectors at n : ℕ) (settled : Bool) (stale : List Bool) (run : IsFirs
 
 -- THE DISKS
 
-module _ (old : Pair) (m : IsMirror old) (at n : ℕ) (run : IsFirstRun old.stale at n) (lead follower : DiskState) (l : Later old.lead lead)
+module _ (old : Pair) (m : IsMirror old) (at n : ℕ) (run : AreSet old.stale at n) (lead follower : DiskState) (l : Later old.lead lead)
     (same : lead.contents ≡ old.lead.contents) (f : Later old.follower follower) where
   told_lead : BothTell (λ (a b : Contents). b ≡ a) old.lead.contents lead.contents
   told_lead = rw same (told_same old.lead.contents)
@@ -160,7 +160,7 @@ module _ (old : Pair) (m : IsMirror old) (at n : ℕ) (run : IsFirstRun old.stal
     copies_by : (failed : Bool) → IfSome (both lead.contents follower.contents) (Agree old.settled stale)
         → BothTell Calms (shown old).contents (shown copied).contents
         → (failed ≡ true → (stale ≡ old.stale) × (Rose (shown old).faults (shown copied).faults × (LeadFailed old copied ⊎ FollowerFailed old copied)))
-        → (failed ≡ false → stale ≡ with_each old.stale at n false) → Copies failed old copied
+        → (failed ≡ false → stale ≡ with_each old.stale at n false) → Copies at n failed old copied
     copies_by failed agree calm why done = record {
       mirror = copied_mirror agree;
       run = run_shown old copied m (copied_mirror agree) l.sectors (omega (arith, l.later, f.later)) failed
@@ -168,7 +168,8 @@ module _ (old : Pair) (m : IsMirror old) (at n : ℕ) (run : IsFirstRun old.stal
       calm = calm;
       side = refl;
       counts = counts_same old copied refl l.later f.later (omega arith);
-      done = λ e. inr (at, n, run, done e);
+      settled = refl;
+      done = done;
       stays = λ e. (why e).0;
       cause = λ e. (why e).1.1;
     }
@@ -177,7 +178,7 @@ module _ (old : Pair) (m : IsMirror old) (at n : ℕ) (run : IsFirstRun old.stal
 
   touched_copies : BothTell (Touched at n) old.follower.contents follower.contents
       → Rose (shown old).faults (shown (copied old.stale refl)).faults × (LeadFailed old (copied old.stale refl) ⊎ FollowerFailed old (copied old.stale refl))
-      → Copies true old (copied old.stale refl)
+      → Copies at n true old (copied old.stale refl)
   touched_copies told why =
       let pairs = told_both (λ (a b : Contents). b ≡ a) (Touched at n) old.lead.contents lead.contents old.follower.contents follower.contents told_lead told in
       copies_by old.stale refl true
@@ -193,7 +194,7 @@ module _ (old : Pair) (m : IsMirror old) (at n : ℕ) (run : IsFirstRun old.stal
 
   put_copies : (piece : List ℕ) → length piece ≡ 512 * n → IfSome old.lead.contents (λ (c : Contents). piece ≡ take (512 * n) (drop (512 * at) c.bytes))
       → BothTell (Put at piece) old.follower.contents follower.contents
-      → Copies false old (copied (with_each old.stale at n false) (length-with_each old.stale at n false run.within))
+      → Copies at n false old (copied (with_each old.stale at n false) (length-with_each old.stale at n false run.within))
   put_copies piece whole given told =
       let pairs = told_both (λ (a b : Contents). b ≡ a) (Put at piece) old.lead.contents lead.contents old.follower.contents follower.contents told_lead told in
       let H : Contents × Contents → Type 0 = λ p. Holds old p × ((piece ≡ take (512 * n) (drop (512 * at) p.0.bytes)) × Unit {0}) in
@@ -213,20 +214,7 @@ module _ (old : Pair) (m : IsMirror old) (at n : ℕ) (run : IsFirstRun old.stal
 
 -- THE CALLS
 
-module _ (old : Pair) (m : IsMirror old) where
-  pub none_copies : count_of old.stale ≡ 0 → Copies false old old
-  none_copies none = record {
-    mirror = m;
-    run = run_shown old old m m refl (omega arith) false refl (λ e. cc);
-    calm = told_mono (λ (x y : Contents). y ≡ x) Calms (shown old).contents (shown old).contents (told_same (shown old).contents) (λ x y e. rw e (calm_refl x));
-    side = refl;
-    counts = λ k le. omega arith;
-    done = λ _. inl (none, refl);
-    stays = λ e. cc;
-    cause = λ e. cc;
-  }
-
-module _ {T : Type 0} (old : Pair) (m : IsMirror old) (at n : ℕ) (run : IsFirstRun old.stale at n) (result : Result T ℕ) (mid : Pair)
+module _ {T : Type 0} (old : Pair) (m : IsMirror old) (at n : ℕ) (run : AreSet old.stale at n) (result : Result T ℕ) (mid : Pair)
     (c : CopiesRun at (512 * n) result old mid) where
   lead_later : Later old.lead c.looked
   lead_later = record { disk = c.read.call.after; sectors = c.read.call.sectors; later = c.read.call.later }
@@ -248,7 +236,7 @@ module _ {T : Type 0} (old : Pair) (m : IsMirror old) (at n : ℕ) (run : IsFirs
   lead_fell : is_err c.answer ≡ true → Rose old.lead.faults c.looked.faults
   lead_fell bad = OnTrue_at bad c.read.call.cause
 
-  unread_copies : is_err c.answer ≡ true → Copies true old (record old { lead = c.looked })
+  unread_copies : is_err c.answer ≡ true → Copies at n true old (record old { lead = c.looked })
   unread_copies bad = touched_copies old m at n run c.looked old.follower lead_later c.read.same
       (record { disk = m.follower; sectors = refl; later = omega arith })
       (told_mono (λ (x y : Contents). y ≡ x) (Touched at n) old.follower.contents old.follower.contents (told_same old.follower.contents)
@@ -265,7 +253,7 @@ module _ {T : Type 0} (old : Pair) (m : IsMirror old) (at n : ℕ) (run : IsFirs
     unwritten_failed : FollowerFailed old (record old { lead = c.looked; follower = follower })
     unwritten_failed = follower_same old (record old { lead = c.looked; follower = follower }) m.mark.side refl fell
 
-    unwritten_copies : Copies true old (record old { lead = c.looked; follower = follower })
+    unwritten_copies : Copies at n true old (record old { lead = c.looked; follower = follower })
     unwritten_copies = touched_copies old m at n run c.looked follower lead_later c.read.same f told (
       rose_part old.follower.faults follower.faults (shown old).faults (shown (record old { lead = c.looked; follower = follower })).faults fell
           (omega arith) (omega (arith, lead_later.later)),
@@ -296,12 +284,12 @@ module _ {T : Type 0} (old : Pair) (m : IsMirror old) (at n : ℕ) (run : IsFirs
   write_later : (w : WritesCopy at c.piece result (record old { lead = c.looked }) mid) → Later old.follower w.written
   write_later w = record { disk = w.write.call.after; sectors = w.write.call.sectors; later = w.write.call.later }
 
-  pub failed_copies : is_err result ≡ true → Copies true old mid
+  pub failed_copies : is_err result ≡ true → Copies at n true old mid
   failed_copies failed = elim c.rest [
-    | inl x ↦ subst (Copies true old) (sym x.3) (unread_copies x.0)
+    | inl x ↦ subst (Copies at n true old) (sym x.3) (unread_copies x.0)
     | inr y ↦ let w = y.1 in elim w.rest [
-      | inl x ↦ subst (Copies true old) (sym x.2) (unwritten_copies w.written (write_later w) (write_touched w) (OnTrue_at x.0 w.write.call.cause))
-      | inr z ↦ subst (Copies true old) (sym z.4)
+      | inl x ↦ subst (Copies at n true old) (sym x.2) (unwritten_copies w.written (write_later w) (write_touched w) (OnTrue_at x.0 w.write.call.cause))
+      | inr z ↦ subst (Copies at n true old) (sym z.4)
           (unwritten_copies mid.follower (synced_later w z.1 z.3) (synced_touched w z.1 z.3) (synced_fell w z.1 z.3 (sym z.2 ∙ failed)))
     ]
   ]
@@ -335,21 +323,40 @@ module _ {T : Type 0} (old : Pair) (m : IsMirror old) (at n : ℕ) (run : IsFirs
       (Put at c.piece) old.follower.contents w.written.contents mid.follower.contents w.write.contents s.contents
       (λ x y z t u. (y, put_by at c.piece w.answer x y ok t, settled_by reply y z done u))
 
-  pub done_copies : is_err result ≡ false → Copies false old (record mid { stale = with_each mid.stale at n false })
+  pub done_copies : is_err result ≡ false → Copies at n false old (record mid { stale = with_each mid.stale at n false })
   done_copies done = elim c.rest [
     | inl x ↦ absurd (both_ways (is_err result) done x.1)
     | inr y ↦ let w = y.1 in elim w.rest [
       | inl x ↦ absurd (both_ways (is_err result) done x.1)
-      | inr z ↦ subst (λ (p : Pair). Copies false old (record p { stale = with_each p.stale at n false })) (sym z.4)
+      | inr z ↦ subst (λ (p : Pair). Copies at n false old (record p { stale = with_each p.stale at n false })) (sym z.4)
           (put_copies old m at n run c.looked mid.follower lead_later c.read.same (synced_later w z.1 z.3) c.piece c.size (ok_given c.answer y.0 c.read.given)
           (put_told w z.1 z.0 (sym z.2 ∙ done) z.3))
     ]
   ]
 
 -- fewer sectors are stale after a copy, where any were
-pub copied_fewer : (old new : Pair) → Copied old new → 0 < count_of old.stale → count_of new.stale < count_of old.stale
-copied_fewer old new (inl none) some = absurd (omega (arith, none.0, some))
-copied_fewer old new (inr x) some =
-    let run = x.2 in
+pub copied_fewer : (from next : ℕ) (old new : Pair) → CopiesNext from next false old new → 0 < count_of old.stale → count_of new.stale < count_of old.stale
+copied_fewer from next old new (inl none) some = absurd (omega (arith, none.0, some))
+copied_fewer from next old new (inr x) some =
+    let run = next_set old.stale from x.0 x.1 x.2 in
     let fewer = count_cleared old.stale x.0 x.1 run.some (run.set x.0 (omega arith) (omega (arith, run.some))) in
-    omega (arith, ap count_of x.3, fewer)
+    omega (arith, ap count_of (x.4.done refl), fewer)
+
+-- the side that a copy tells
+pub copied_blames : {T : Type 0} (q : Result T ℕ) (mid new : Pair) → IfErr q (λ k. Blames (Some k) mid new) → Blames (copy_blamed q) mid new
+copied_blames (Ok v) mid new h = tt
+copied_blames (Err k) mid new h = h
+
+pub copied_is : {T : Type 0} (q : Result T ℕ) → is_some (copy_blamed q) ≡ is_err q
+copied_is (Ok v) = refl
+copied_is (Err k) = refl
+
+pub next_mirror : (from next : ℕ) (failed : Bool) (old new : Pair) → IsMirror old → CopiesNext from next failed old new → IsMirror new
+next_mirror from next failed old new m (inl none) = rw none.2 m
+next_mirror from next failed old new m (inr x) = x.4.mirror
+
+pub next_found : (marks : List Bool) (from : ℕ) (r : Option (ℕ × ℕ)) → IsClear marks from (length marks)
+    → MatchOption r (IsClear marks 0 (length marks)) (λ (run : ℕ × ℕ). IsFirstRun marks 0 run.0 run.1)
+    → MatchOption r (count_of marks ≡ 0) (λ (run : ℕ × ℕ). IsNextRun marks from run.0 run.1)
+next_found marks from None clear h = none_through marks h
+next_found marks from (Some run) clear h = inr (clear, h)

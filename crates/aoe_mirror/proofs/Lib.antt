@@ -7,4 +7,5 @@ pub mod Reading
 pub mod Writing
 pub mod Syncing
 pub mod Copying
+pub mod Passing
 pub mod Surviving

@@ -1,6 +1,5 @@
 -- Syncs of a mirror.
-use Rattle.std.proofs.Common.{◌≡◌, ◌≤◌, ◌<◌, ◌+◌, ◌-◌, ◌⊎◌, ℕ, Bool, true, false, Option, Some, None, IfSome, IfErr, List, length, replicate, Result, Ok, Err, is_err, if◌then◌else◌, refl, sym, ap, ◌∙◌, subst, inl, inr, arith, eq-eqb, ne_eqb}
-use Rattle.std.specs.Result.{IsErrAnd}
+use Rattle.std.proofs.Common.{◌≡◌, ◌≤◌, ◌<◌, ◌+◌, ◌-◌, ◌⊎◌, ℕ, Bool, true, false, Option, Some, None, IfSome, IfErr, is_some, min, List, length, replicate, Result, Ok, Err, is_err, if◌then◌else◌, refl, sym, ap, ◌∙◌, subst, inl, inr, arith, eq-eqb, ne_eqb}
 use Rattle.std.proofs.lemmas.Bool.{OnTrue_at, both_ways, cases_Bool, cases_lt}
 use Rattle.std.proofs.lemmas.List.{get_or-replicate, length-replicate}
 use Rattle.aoe_base.specs.Faults.{Rose}
@@ -9,11 +8,11 @@ use Rattle.aoe_disk.specs.State.{Contents, DiskState, HasShape, IsDisk, BothTell
 use Rattle.aoe_disk.specs.Calls.{Syncs, SyncsTo}
 use Rattle.aoe_disk.specs.Sectors.{Calms}
 use Rattle.aoe_disk.proofs.Touching.{calm_refl, settles_calm, settles_kept}
-use Rattle.aoe_mirror.specs.Marks.{count_of}
+use Rattle.aoe_mirror.specs.Marks.{AreSet, count_of}
 use Rattle.aoe_mirror.specs.Sides.{Agree, IsMirror, Pair, both, disk_of, seen, shown, turned}
-use Rattle.aoe_mirror.specs.Calls.{Answer, Blames, Copies, Counts, DiskFailed, FollowerFailed, FollowerSyncs, Later, LeadFailed, Leads, MarkFailed, MirrorSyncs, SettlesLead, StaysLead, TakesLead}
+use Rattle.aoe_mirror.specs.Calls.{Answer, Blames, Copies, CopiesNext, Counts, DiskFailed, FollowerFailed, FollowerSyncs, Later, LeadFailed, Leads, MarkFailed, MirrorSyncs, SettlesLead, StaysLead, StaysWhole, TakesLead, lowest}
 use Rattle.aoe_mirror.proofs.Told.{and_if, both_if, if_any, map_if, told_both, told_ends, told_if, told_map, told_mono, told_same, told_then, told_to}
-use Rattle.aoe_mirror.proofs.Bits.{with_each_inside, with_each_outside}
+use Rattle.aoe_mirror.proofs.Bits.{next_set, with_each_inside, with_each_outside}
 use Rattle.aoe_mirror.proofs.Whole.{Fit, cases_range}
 use Rattle.aoe_mirror.proofs.Quiet.{Grows, agree_calm, calm_by, calm_may, calm_settles, calm_then, grows_all, grows_if, grows_refl, none_seen, seen_calm, settled_by}
 use Rattle.aoe_mirror.proofs.Steps.{Holds, counts_moved, counts_same, counts_then, fit_of, follower_later, lead_later, settled_counts, follower_moved, follower_same, holds_of, lead_moved, lead_same, rose_part, settled_faults, settled_mirror, settled_sectors, settled_shown, settled_side, settled_stale, shown_if, synced, turned_mirror, turned_shown}
@@ -169,6 +168,7 @@ module _ (old : Pair) (m : IsMirror old) (settled : old.settled ≡ true) (lead 
           (sync_ok result old through_pair m through_is_mirror done through_is_calm through_is_quiet) (λ bad. absurd (both_ways (is_err result) done bad));
       keeps = record { later = omega arith; stale = λ s was now. inr (follower_fell (newly_if (is_err f.answer) old.stale s was now)); lead = inl refl };
       counts = counts_same old through_pair refl sync.call.later f.sync.call.later (omega arith);
+      settled = λ _. settled;
       cause = λ bad. absurd (both_ways (is_err result) done bad);
     }
 
@@ -211,6 +211,7 @@ module _ (old : Pair) (m : IsMirror old) (settled : old.settled ≡ true) (lead 
           (λ _. rose_part old.lead.faults lead.faults (shown old).faults (shown eased).faults fell (omega arith) (omega arith));
       keeps = record { later = omega arith; stale = λ s was now. absurd (both_ways (is_loose old.stale s) was now); lead = inl refl };
       counts = counts_same old eased refl sync.call.later (omega arith) (omega arith);
+      settled = λ ok. absurd (both_ways (is_err result) ok failed);
       cause = λ _. inl (stays_failed, stale);
     }
 
@@ -254,6 +255,7 @@ module _ (old : Pair) (m : IsMirror old) (settled : old.settled ≡ true) (lead 
                 (λ _. rose_part old.lead.faults lead.faults (shown old).faults (shown t.mid).faults fell (omega arith) (omega (arith, faults, later)));
             keeps = record { later = later; stale = λ _ was now. inl mid_failed; lead = inr mid_failed };
             counts = counts_moved old t.mid m.mark.side mid_side (rw mid_follower sync.call.later) (rw mid_lead (omega arith)) later;
+            settled = λ ok. absurd (both_ways (is_err result) ok failed);
             cause = λ _. inr (inr (t.settles.cause e));
           }
 
@@ -309,6 +311,7 @@ module _ (old : Pair) (m : IsMirror old) (settled : old.settled ≡ true) (lead 
                   (omega (arith, later, one, two, three)));
               keeps = record { later = later; stale = λ _ was now. inl last_lead_failed; lead = inr last_lead_failed };
               counts = counts_moved old last m.mark.side mid_side (rw mid_follower sync.call.later) (rw mid_lead at one) later;
+              settled = λ _. settled_mid;
               cause = λ failed. inr (inl (last_lead_failed, last_follower_failed (sym is ∙ failed)));
             }
 
@@ -363,6 +366,7 @@ unsettled_syncs {T = T} {E = E} e old mid m s =
         lead = inl (settled_side true old mid s);
       };
       counts = settled_counts true old mid s;
+      settled = λ ok. cc;
       cause = λ _. inr (inr (s.cause refl));
     }
 
@@ -379,6 +383,7 @@ settled_syncs result old mid new m s syncs =
           (omega (arith, s.mark.later)) w.syncs.call.later (OnTrue_at bad w.syncs.call.cause));
       keeps = record { later = omega (arith, s.mark.later, w.keeps.later); stale = w.keeps.stale; lead = w.keeps.lead };
       counts = counts_then old mid new (settled_counts false old mid s) syncs.counts;
+      settled = w.settled;
       cause = λ bad. elim (w.cause bad) [
         | inl a ↦ inl a
         | inr b ↦ elim b [
@@ -396,21 +401,37 @@ pub blames_before : (failed : Option ℕ) (old mid new : Pair) → Counts mid ne
 blames_before None old mid new b h = tt
 blames_before (Some k) old mid new b h = (h.0, λ low. let more : (disk_of old k).faults < (disk_of mid k).faults = h.1 low in let le = b k h.0 in omega arith)
 
+-- another value for the same
+pub ok_syncs : {T E S F : Type 0} (v : T) (w : S) (old new : Pair) → MirrorSyncs {T = S} {E = F} (Ok w) old new → MirrorSyncs {T = T} {E = E} (Ok v) old new
+ok_syncs {T = T} {E = E} {S = S} {F = F} v w old new s = record {
+  mirror = s.mirror;
+  syncs = record {
+    call = s.syncs.call;
+    contents = told_mono (Syncs {T = S} {E = F} (Ok w)) (Syncs {T = T} {E = E} (Ok v)) (shown old).contents (shown new).contents s.syncs.contents
+        (λ a b t. t);
+    log = s.syncs.log;
+  };
+  keeps = s.keeps;
+  counts = s.counts;
+  settled = s.settled;
+  cause = s.cause;
+}
+
 -- A COPY BEHIND A SYNC
 
-stale_before : (failed : Bool) (mid new : Pair) → Copies failed mid new → (s : ℕ) → is_loose mid.stale s ≡ false → is_loose new.stale s ≡ false
-stale_before true mid new c s off = let e = c.stays refl in rw e off
-stale_before false mid new c s off = elim (c.done refl) [
-  | inl none ↦ rw none.1 off
-  | inr x ↦ rw x.3 (elim (cases_range x.0 x.1 s) [
-    | inl out ↦ with_each_outside mid.stale x.0 x.1 false x.2.within s out ∙ off
-    | inr in_run ↦ with_each_inside mid.stale x.0 x.1 false x.2.within s in_run.0 in_run.1
-  ])
-]
+module _ (at n : ℕ) (failed : Bool) (mid new : Pair) (run : AreSet mid.stale at n) (c : Copies at n failed mid new) where
+  stale_before : (s : ℕ) → is_loose mid.stale s ≡ false → is_loose new.stale s ≡ false
+  stale_before s off = elim (cases_Bool failed) [
+    | inl bad ↦ rw (c.stays bad) off
+    | inr fine ↦ rw (c.done fine) (elim (cases_range at n s) [
+      | inl out ↦ with_each_outside mid.stale at n false run.within s out ∙ off
+      | inr in_run ↦ with_each_inside mid.stale at n false run.within s in_run.0 in_run.1
+    ])
+  ]
 
-pub copied_syncs : {T E S F : Type 0} (v : T) (w : S) (failed : Bool) (old mid new : Pair) (m : IsMirror old) → MirrorSyncs {T = S} {E = F} (Ok w) old mid
-    → Copies failed mid new → MirrorSyncs {T = T} {E = E} (Ok v) old new
-copied_syncs {T = T} {E = E} {S = S} {F = F} v w failed old mid new m s c =
+run_syncs : {T E S F : Type 0} (v : T) (w : S) (at n : ℕ) (failed : Bool) (old mid new : Pair) (m : IsMirror old) → MirrorSyncs {T = S} {E = F} (Ok w) old mid
+    → AreSet mid.stale at n → Copies at n failed mid new → MirrorSyncs {T = T} {E = E} (Ok v) old new
+run_syncs {T = T} {E = E} {S = S} {F = F} v w at n failed old mid new m s run c =
     let later : (shown old).faults ≤ (shown new).faults = let a = s.syncs.call.later in let b = c.run.later in omega arith in
     let calm : BothTell Calms (shown old).contents (shown new).contents = told_then Calms Calms Calms (shown old).contents (shown mid).contents
     (shown new).contents
@@ -430,7 +451,7 @@ copied_syncs {T = T} {E = E} {S = S} {F = F} v w failed old mid new m s c =
             | inl l ↦ inl (lead_later old mid new m.mark.side c.counts l)
             | inr f ↦ inr (follower_later old mid new m.mark.side c.counts f)
           ]
-          | inr off ↦ absurd (both_ways _ (stale_before failed mid new c k off) now)
+          | inr off ↦ absurd (both_ways _ (stale_before at n failed mid new run c k off) now)
         ];
         lead = elim s.keeps.lead [
           | inl same ↦ inl (c.side ∙ same)
@@ -438,6 +459,7 @@ copied_syncs {T = T} {E = E} {S = S} {F = F} v w failed old mid new m s c =
         ];
       };
       counts = counts_then old mid new s.counts c.counts;
+      settled = λ _. c.settled ∙ s.settled refl;
       cause = λ e. cc;
     }
 
@@ -453,11 +475,39 @@ err_syncs {T = T} {E = E} {S = S} {F = F} d e old new s = record {
   };
   keeps = s.keeps;
   counts = s.counts;
+  settled = s.settled;
   cause = s.cause;
 }
 
--- the disk that is told of a sync and of the copy behind it
-pub told_blames : {T : Type 0} (q : Result T ℕ) (x : Option ℕ) (mid new : Pair) → IsErrAnd q (λ d. x ≡ Some d) → IfErr q (λ k. Blames (Some k) mid new)
-    → Blames x mid new
-told_blames (Ok v) x mid new is b = absurd is
-told_blames (Err k) x mid new is b = rw is b
+pub copied_syncs : {T E S F : Type 0} (v : T) (w : S) (from next : ℕ) (failed : Bool) (old mid new : Pair) (m : IsMirror old)
+    → MirrorSyncs {T = S} {E = F} (Ok w) old mid → CopiesNext from next failed mid new → MirrorSyncs {T = T} {E = E} (Ok v) old new
+copied_syncs {T = T} {E = E} {S = S} {F = F} v w from next failed old mid new m s (inl none) =
+    rw none.2 (ok_syncs {T = T} {E = E} {S = S} {F = F} v w old mid s)
+copied_syncs {T = T} {E = E} {S = S} {F = F} v w from next failed old mid new m s (inr x) =
+    run_syncs {T = T} {E = E} {S = S} {F = F} v w x.0 x.1 failed old mid new m s (next_set mid.stale from x.0 x.1 x.2) x.4
+
+pub next_counts : (from next : ℕ) (failed : Bool) (mid new : Pair) → CopiesNext from next failed mid new → Counts mid new
+next_counts from next failed mid new (inl none) = rw none.2 (λ k le. omega arith)
+next_counts from next failed mid new (inr x) = x.4.counts
+
+-- the lower of the disks that are told of a sync and of the copy behind it
+pub lowest_blames : (j k : Option ℕ) (old new : Pair) → Blames j old new → Blames k old new → Blames (lowest j k) old new
+lowest_blames None None old new b c = tt
+lowest_blames (Some j) None old new b c = b
+lowest_blames None (Some k) old new b c = c
+lowest_blames (Some j) (Some k) old new b c = elim (cases_lt j k) [
+  | inl lt ↦ let e : min j k ≡ j = omega (arith, lt) in rw e b
+  | inr le ↦ let e : min j k ≡ k = omega (arith, le) in rw e c
+]
+
+-- where the follower didn't fail, nothing is newly stale
+pub follower_stays : (blamed : Option ℕ) (old new : Pair) → FollowerSyncs blamed old new → blamed ≡ None → StaysWhole old new
+follower_stays blamed old new f none = elim (cases_Bool (is_err f.answer)) [
+  | inl bad ↦ let e : blamed ≡ Some (1 - old.side) = rw bad at f.told in
+      let no : true ≡ false = ap is_some (sym e ∙ none) in cc
+  | inr ok ↦ let e : new.stale ≡ (if is_err f.answer then replicate (length old.stale) true else old.stale) = ap (λ (p : Pair). p.stale) f.is in
+      (ap (λ (p : Pair). p.side) f.is, rw ok at e)
+]
+
+pub stays_then : (failed : Bool) (old mid new : Pair) → SettlesLead failed old mid → StaysWhole mid new → StaysWhole old new
+stays_then failed old mid new s w = (w.0 ∙ settled_side failed old mid s, w.1 ∙ settled_stale failed old mid s)

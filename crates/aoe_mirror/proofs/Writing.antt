@@ -130,8 +130,8 @@ module _ (at : ℕ) (piece : List ℕ) (old : Pair) (m : IsMirror old) (range : 
     marks_through true is = inr (inl (inr (follower_failed is), rw is refl))
     marks_through false is = inl (refl, rw is refl)
 
-    pub through_writes : {T E : Type 0} (result : Result T E) → is_err result ≡ false → MirrorWrites at piece result old through
-    through_writes result done = record {
+    pub through_writes : {T E : Type 0} (result : Result T E) → is_err result ≡ false → old.settled ≡ true → MirrorWrites at piece result old through
+    through_writes result done settled = record {
       mirror = through_mirror;
       stores = stored old through m through_mirror w.call.sectors (omega (arith, w.call.later, f.call.later)) at piece result
           (told_mono (Puts at piece) (Stores at piece result) (shown old).contents (shown through).contents through_puts
@@ -140,6 +140,7 @@ module _ (at : ℕ) (piece : List ℕ) (old : Pair) (m : IsMirror old) (range : 
       keeps = record { later = omega arith; stale = λ s was is. inr (follower_failed (newly s was is)); lead = inl refl };
       counts = counts_same old through refl w.call.later f.call.later (omega arith);
       marks = rw done (marks_through (is_err answer) refl);
+      settled = λ _. settled;
       cause = λ bad. absurd (both_ways (is_err result) done bad);
     }
 
@@ -230,6 +231,7 @@ module _ (at : ℕ) (piece : List ℕ) (old : Pair) (m : IsMirror old) (range : 
         keeps = record { later = omega arith; stale = λ s was is. inl lead_failed; lead = inl refl };
         counts = counts_same old halted refl w.call.later after_later.later (omega arith);
         marks = inr (inl (inl lead_failed, refl));
+        settled = λ ok. absurd (both_ways (is_err result) ok failed);
         cause = λ _. elim why [
           | inl idle ↦ inl (lead_failed, idle.0)
           | inr x ↦ inr (inl (lead_failed, follower_same old halted m.mark.side refl (OnTrue_at x.1 x.2.call.cause)))
@@ -295,6 +297,7 @@ module _ (at : ℕ) (piece : List ℕ) (old : Pair) (m : IsMirror old) (range : 
         (let e : new.lead.faults ≡ s.written.faults = ap (λ (p : Pair). p.lead.faults) settles.is in let later = s.write.call.later in omega arith)
         settles.mark.later;
     marks = inr (inl (inl swap_lead_failed, settled_stale failed mid new settles ∙ ap (λ b. with_each old.stale at (length piece / 512) b) bad));
+    settled = λ ok. settles.settled (sym is ∙ ok);
     cause = λ e. inr (inr (settles.cause (sym is ∙ e)));
   }
 
@@ -330,6 +333,7 @@ module _ {T E : Type 0} (at : ℕ) (piece : List ℕ) (result : Result T E) (old
         };
         counts = settled_counts true old mid s;
         marks = inr (inr (bad, s.cause refl, settled_stale true old mid s));
+        settled = λ ok. absurd (both_ways (is_err result) ok bad);
         cause = λ _. inr (inr (s.cause refl));
       }
 
@@ -355,6 +359,7 @@ module _ {T E : Type 0} (at : ℕ) (piece : List ℕ) (result : Result T E) (old
             | inr d ↦ inr (inr (d.0, mark d.1, d.2))
           ]
         ];
+        settled = w.settled;
         cause = λ bad. elim (w.cause bad) [
           | inl a ↦ inl a
           | inr b ↦ elim b [

@@ -1,12 +1,12 @@
 -- What calls of a mirror do, and why they fail.
-use Rattle.std.specs.Prelude.{◌≡◌, ◌≤◌, ◌<◌, ◌-◌, ◌/◌, ◌⊎◌, ℕ, Bool, true, false, Option, None, Some, IfSome, IfErr, List, length, replicate, Result, Ok, Err, is_err, if◌then◌else◌}
+use Rattle.std.specs.Prelude.{◌≡◌, ◌≤◌, ◌<◌, ◌+◌, ◌-◌, ◌*◌, ◌/◌, ◌^◌, ◌⊎◌, ℕ, Bool, true, false, Option, None, Some, IfSome, IfErr, List, length, replicate, Result, Ok, Err, is_err, is_some, min, if◌then◌else◌}
 use Rattle.aoe_base.specs.Faults.{Rose}
 use Rattle.aoe_base.specs.declared.failure.Failed.{Failed}
 use Rattle.aoe_disk.specs.State.{DiskState, IsDisk, BothTell, with_marks, is_loose}
 use Rattle.aoe_disk.specs.Calls.{IsRun, Reads, WritesTo, SyncsTo}
 use Rattle.aoe_disk.specs.Sectors.{Calms}
 use Rattle.aoe_store.specs.Store.{StoresTo}
-use Rattle.aoe_mirror.specs.Marks.{IsClear, IsFirstRun, count_of, with_each, without_marks}
+use Rattle.aoe_mirror.specs.Marks.{IsClear, IsNextRun, count_of, with_each, without_marks}
 use Rattle.aoe_mirror.specs.Sides.{Pair, IsMark, IsMirror, disk_of, shown, side_of, turned}
 
 -- THE CAUSES
@@ -23,6 +23,10 @@ MarkFailed old new = Rose old.mark.faults new.mark.faults
 
 abbrev pub DiskFailed : Pair → Pair → ℕ → Type 0
 DiskFailed old new k = Rose (disk_of old k).faults (disk_of new k).faults
+
+-- side 0 failed, or side 1
+abbrev pub SideFailed : Pair → Pair → Type 0
+SideFailed old new = DiskFailed old new 0 ⊎ DiskFailed old new 1
 
 -- no disk's count of faults falls
 abbrev pub Counts : Pair → Pair → Type 0
@@ -67,29 +71,50 @@ pub record MirrorWrites {T E : Type 0} (at : ℕ) (piece : List ℕ) (result : R
   pub keeps : Keeps old new
   pub counts : Counts old new
   pub marks : MarksWrite at (length piece / 512) (is_err result) old new
+  pub settled : is_err result ≡ false → new.settled ≡ true
   pub cause : is_err result ≡ true → Cause old new
 
--- the first run of stale sectors is stale no more, or there is none, and nothing was done
-abbrev pub Copied : Pair → Pair → Type 0
-Copied old new = ((count_of old.stale ≡ 0) × (new ≡ old))
-    ⊎ ((at : ℕ) × (n : ℕ) × IsFirstRun old.stale at n × (new.stale ≡ without_marks old.stale at n))
-
--- a copy of the first run of stale sectors
-pub record Copies (failed : Bool) (old new : Pair) : Type 0 where
+-- a copy of a run of n stale sectors from sector at on: they are stale no more, or a side failed
+pub record Copies (at n : ℕ) (failed : Bool) (old new : Pair) : Type 0 where
   pub mirror : IsMirror new
   pub run : IsRun 1 failed (shown old) (shown new)
   pub calm : BothTell Calms (shown old).contents (shown new).contents
   pub side : new.side ≡ old.side
   pub counts : Counts old new
-  pub done : failed ≡ false → Copied old new
+  pub settled : new.settled ≡ old.settled
+  pub done : failed ≡ false → new.stale ≡ without_marks old.stale at n
   pub stays : failed ≡ true → new.stale ≡ old.stale
   pub cause : failed ≡ true → LeadFailed old new ⊎ FollowerFailed old new
+
+-- a copy of the next run of stale sectors from sector `from` on, behind which the copy after it goes on; or nothing is stale
+abbrev pub CopiesNext : ℕ → ℕ → Bool → Pair → Pair → Type 0
+CopiesNext from next failed old new = ((count_of old.stale ≡ 0) × (failed ≡ false) × (new ≡ old))
+    ⊎ ((at : ℕ) × (n : ℕ) × IsNextRun old.stale from at n × (next ≡ at + n) × Copies at n failed old new)
+
+-- the count rose by n at least, where it didn't come to its type's end
+abbrev pub RoseBy : ℕ → ℕ → ℕ → Type 0
+RoseBy n before after = after < 2 ^ 64 - 1 → before + n ≤ after
+
+-- Each run of stale sectors was copied once, also behind one of which the copy failed: each failure leaves 64 sectors at most.
+pub record CopiesAll (old new : Pair) : Type 0 where
+  pub mirror : IsMirror new
+  pub sectors : new.lead.sectors ≡ old.lead.sectors
+  pub calm : BothTell Calms (shown old).contents (shown new).contents
+  pub later : (shown old).faults ≤ (shown new).faults
+  pub side : new.side ≡ old.side
+  pub counts : Counts old new
+  pub settled : new.settled ≡ old.settled
+  pub fails : ℕ
+  pub left : count_of new.stale ≤ 64 * fails
+  pub rose : RoseBy fails (shown old).faults (shown new).faults
+  pub cause : 0 < fails → SideFailed old new
 
 pub record MirrorSyncs {T E : Type 0} (result : Result T E) (old new : Pair) : Type 0 where
   pub mirror : IsMirror new
   pub syncs : SyncsTo result (shown old) (shown new)
   pub keeps : Keeps old new
   pub counts : Counts old new
+  pub settled : is_err result ≡ false → new.settled ≡ true
   pub cause : is_err result ≡ true → Cause old new
 
 -- the disk that is said to have failed did
@@ -100,6 +125,34 @@ Blames failed old new = IfSome failed (λ k. (k ≤ 2) × DiskFailed old new k)
 abbrev pub blamed_of : Result (Option ℕ) ℕ → Option ℕ
 blamed_of (Ok failed) = failed
 blamed_of (Err k) = Some k
+
+-- the side that a copy tells
+abbrev pub copy_blamed : {T : Type 0} → Result T ℕ → Option ℕ
+copy_blamed (Ok v) = None
+copy_blamed (Err k) = Some k
+
+-- the lower of two disks
+abbrev pub lowest : Option ℕ → Option ℕ → Option ℕ
+lowest failed None = failed
+lowest None (Some k) = Some k
+lowest (Some j) (Some k) = Some (min j k)
+
+-- the same side leads, and the same sectors are stale
+abbrev pub StaysWhole : Pair → Pair → Type 0
+StaysWhole old new = (new.side ≡ old.side) × (new.stale ≡ old.stale)
+
+-- An Ok sync: both sides were synced, or one of them where the other failed, and then the next run of stale sectors is copied. The lower of
+-- the disks that failed in the two is told; where none is, the sync changed no lead and no mark.
+pub record SyncsAndCopies (from next : ℕ) (failed : Option ℕ) (old new : Pair) : Type 0 where
+  pub synced : Pair
+  pub in_sync : Option ℕ
+  pub in_copy : Option ℕ
+  pub sync : (let answer : Result (Unit {0}) Failed = Ok tt in MirrorSyncs answer old synced)
+  pub copy : CopiesNext from next (is_some in_copy) synced new
+  pub told : failed ≡ lowest in_sync in_copy
+  pub unfailed : in_sync ≡ None → StaysWhole old synced
+  pub sync_blames : Blames in_sync old synced
+  pub copy_blames : Blames in_copy synced new
 
 -- THEIR STEPS
 

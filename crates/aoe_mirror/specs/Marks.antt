@@ -1,5 +1,5 @@
 -- Marks of sectors, a bit each.
-use Rattle.std.specs.Prelude.{◌≡◌, ◌≤◌, ◌<◌, ◌+◌, ◌*◌, ◌/◌, ◌%◌, ◌^◌, ◌==◌, ◌++◌, ℕ, suc, Bool, true, false, List, [], ◌∷◌, length, map, take, drop, replicate, slice_index}
+use Rattle.std.specs.Prelude.{◌≡◌, ◌⊎◌, ◌≤◌, ◌<◌, ◌+◌, ◌*◌, ◌/◌, ◌%◌, ◌^◌, ◌==◌, ◌++◌, ℕ, suc, Bool, true, false, List, [], ◌∷◌, length, map, take, drop, replicate, slice_index}
 use Rattle.std.specs.List.{range_with_len}
 use Rattle.std.specs.Int.{bit_at}
 use Rattle.aoe_disk.specs.State.{is_loose}
@@ -29,14 +29,23 @@ without_marks marks at n = with_each marks at n false
 abbrev pub IsClear : List Bool → ℕ → ℕ → Type 0
 IsClear marks at n = (s : ℕ) → at ≤ s → s < at + n → is_loose marks s ≡ false
 
--- the first run of marks that are set, of 64 at most: it is n sectors from sector at on, and as long as can be
-pub record IsFirstRun (marks : List Bool) (at n : ℕ) : Type 0 where
+-- n marks from sector at on are set: one at least, and 64 at most
+pub record AreSet (marks : List Bool) (at n : ℕ) : Type 0 where
   pub some : 0 < n
   pub most : n ≤ 64
   pub within : at + n ≤ length marks
-  pub first : IsClear marks 0 at
   pub set : (s : ℕ) → at ≤ s → s < at + n → is_loose marks s ≡ true
+
+-- the first run of marks that are set from sector `from` on, of 64 at most: it is n sectors from sector at on, and as long as can be
+pub record IsFirstRun (marks : List Bool) (from at n : ℕ) : Type 0 where
+  pub run : AreSet marks at n
+  pub low : from ≤ at
+  pub first : (s : ℕ) → from ≤ s → s < at → is_loose marks s ≡ false
   pub longest : n < 64 → is_loose marks (at + n) ≡ false
+
+-- the run that comes behind sector `from`, or where none is left there, the first of all
+abbrev pub IsNextRun : List Bool → ℕ → ℕ → ℕ → Type 0
+IsNextRun marks from at n = IsFirstRun marks from at n ⊎ (IsClear marks from (length marks) × IsFirstRun marks 0 at n)
 
 -- what the fields of a set of marks keep
 pub record AreMarks (words : List ℕ) (len many from : ℕ) : Type 0 where

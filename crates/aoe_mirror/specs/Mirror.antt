@@ -9,10 +9,11 @@ use Rattle.aoe_mirror.specs.declared.sides.Sides.{Sides}
 use Rattle.aoe_mirror.specs.declared.refusal.MirrorRefusal.{MirrorRefusal}
 use Rattle.aoe_mirror.specs.declared.refusal.MirrorRefusal.TheVariants.{Failed, NoMark, NoMemory, Unequal}
 
--- its disks, and the lowest disk that failed in its latest sync
+-- its disks, the lowest disk that failed in its latest sync, and the sector from which on the next copy looks for stale ones
 pub record Mirrored (D : Type 0) : Type 0 where
   pub sides : Sides D
   pub failed : Option ℕ
+  pub next : ℕ
 
 abbrev pub pair : {D : Type 0} → (D → DiskState) → Mirrored D → Pair
 pair state m = pair_of state m.sides

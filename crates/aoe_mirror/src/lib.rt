@@ -8,7 +8,8 @@
 //! 1. [`Mirror::mount`] takes the three disks and all the memory that the mirror will ever use.
 //!    Every sector of the side that follows is stale then, since nothing tells what it missed.
 //!    Where the mirror can't be mounted it gives the disks back.
-//! 2. [`Mirror::resync`] copies a run of stale sectors, and is called until none is left.
+//! 2. [`Mirror::resync_all`] copies each run of stale sectors, also behind one of which the copy
+//!    fails; [`Mirror::resync`] copies one, and goes round.
 //! 3. `read` reads the lead, and the other side where that fails and nothing is stale there.
 //!    `write` and `sync` do both sides. Where the follower fails, what it missed is stale. Where
 //!    the lead fails and nothing is stale, the other side leads from then on, as soon as the mark

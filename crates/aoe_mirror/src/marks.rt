@@ -163,19 +163,16 @@ impl Marks {
         n
     }
 
-    /// The first run of marks that are set, of 64 at most: where it begins, and how long it is. The
-    /// next call begins there.
-    pub(crate) fn first_run(&mut self) -> Option<(usize, usize)>
-        ensures same { self.new ≡ self.old }
-        ensures run { MatchOption result (count_of self.old ≡ 0)
-            (λ run. IsFirstRun self.old run.0 run.1) }
+    /// The first run of marks that are set from sector `from` on, of 64 at most: where it begins,
+    /// and how long it is.
+    pub(crate) fn first_run(&self, from: usize) -> Option<(usize, usize)>
+        ensures { MatchOption result (IsClear self.now from (length self.now))
+            (λ run. IsFirstRun self.now from run.0 run.1) }
     {
-        let at = self.first_from(self.lowest);
+        let at = self.first_from(self.lowest.max(from).min(self.len));
         if at == self.len {
             return None;
         }
-        let n = self.run_from(at);
-        self.lowest = at;
-        Some((at, n))
+        Some((at, self.run_from(at)))
     }
 }

@@ -1,12 +1,11 @@
 //! A mirror: two disks as one store.
-ghost use Rattle.std.specs.Prelude.{◌≡◌, ◌<◌, ◌⊎◌, None, Some, IfErr, IfOk, IfSome, IsSome, OnErr, false, is_err};
-ghost use Rattle.std.specs.Result.{IsErrAnd};
+ghost use Rattle.std.specs.Prelude.{◌≡◌, ◌<◌, None, Some, IfErr, IfOk, IfSome, IsSome, OnErr, OnOk, false, is_err};
 ghost use Rattle.aoe_disk.specs.State.{BothTell, IsDisk};
 ghost use Rattle.aoe_disk.specs.Calls.{IsRun};
 ghost use Rattle.aoe_disk.specs.Sectors.{Calms};
 ghost use Rattle.aoe_mirror.specs.Marks.{count_of};
 ghost use Rattle.aoe_mirror.specs.Sides.{IsMirror, Survives};
-ghost use Rattle.aoe_mirror.specs.Calls.{Blames, Copies, MirrorReads, MirrorSyncs, MirrorWrites};
+ghost use Rattle.aoe_mirror.specs.Calls.{Blames, CopiesAll, CopiesNext, MirrorReads, MirrorSyncs, MirrorWrites, SyncsAndCopies, copy_blamed, lowest};
 ghost use Rattle.aoe_mirror.specs.Mirror.{Mounts, ReadsMark, Refuses, first_of, pair, second_of, state_of};
 
 use crate::MirrorRefusal;
@@ -38,13 +37,12 @@ fn read_mark<D: Disk>(disk: &mut D) -> Result<u8, Failed>
 
 // The lower of the disk that failed in a sync and the one that failed in the copying after it.
 fn lowest(failed: Option<u8>, copied: Result<(), u8>) -> Option<u8>
-    ensures either { (result ≡ failed) ⊎ IsErrAnd copied (λ disk. result ≡ Some disk) }
-    ensures told { OnErr copied (IsSome result) }
+    ensures { result ≡ lowest failed (copy_blamed copied) }
 {
     match (failed, copied) {
-        (Some(first), Err(second)) if second < first => Some(second),
+        (failed, Ok(())) => failed,
         (None, Err(second)) => Some(second),
-        (failed, _) => failed,
+        (Some(first), Err(second)) => Some(first.min(second)),
     }
 }
 
@@ -56,6 +54,9 @@ pub struct Mirror<D: Disk> {
     // The lowest disk that failed in the latest sync.
     failed: Option<u8>,
 
+    // The sector from which on the next copy looks for stale ones.
+    next: usize,
+
     // Sectors on their way from one side to the other.
     scratch: Vec<u8>,
 }
@@ -65,7 +66,7 @@ impl<D: Disk> Model for Mirror<D> {
 
     ghost Value = { Mirrored D };
 
-    ghost view = { λ m. record { sides = m.sides; failed = m.failed } };
+    ghost view = { λ m. record { sides = m.sides; failed = m.failed; next = m.next } };
 
     ghost invariant = { λ m. IsMounted D.state m.sides m.scratch.items };
 }
@@ -109,6 +110,7 @@ impl<D: Disk> Mirror<D> {
         Ok(Mirror {
             sides: Sides::new(one, two, mark, side, stale),
             failed: None,
+            next: 0,
             scratch,
         })
     }
@@ -137,20 +139,32 @@ impl<D: Disk> Mirror<D> {
         self.failed
     }
 
-    /// Copies the first run of stale sectors, of 64 at most, from the lead to the other side, and
-    /// syncs that side. Says how many sectors are stale then. Where nothing is stale no disk is
-    /// called.
+    /// Copies the next run of stale sectors, of 64 at most, from the lead to the other side, and
+    /// syncs that side: the first run behind the one that was tried last, or where none is left
+    /// there, the first of all. Says how many sectors are stale then. Where nothing is stale no disk
+    /// is called.
     pub fn resync(&mut self) -> Result<u64, Failed>
-        ensures copies { Copies (is_err result) (pair D.state self.old) (pair D.state self.new) }
+        ensures copies { CopiesNext self.old.next self.new.next (is_err result)
+            (pair D.state self.old) (pair D.state self.new) }
         ensures left { IfOk result (λ left. left ≡ count_of self.new.sides.stale) }
         ensures fewer { IfOk result (λ left. 0 < count_of self.old.sides.stale
             → left < count_of self.old.sides.stale) }
         ensures failed { self.new.failed ≡ self.old.failed }
     {
-        match self.sides.resync(&mut self.scratch) {
+        let (next, copied) = self.sides.resync(self.next, &mut self.scratch);
+        self.next = next;
+        match copied {
             Ok(()) => Ok(self.sides.stale.count() as u64),
             Err(_) => Err(Failed),
         }
+    }
+
+    /// Copies each run of stale sectors as `resync` does, also behind one of which the copy failed.
+    pub fn resync_all(&mut self)
+        ensures copies { CopiesAll (pair D.state self.old) (pair D.state self.new) }
+        ensures failed { self.new.failed ≡ self.old.failed }
+    {
+        self.sides.resync_all(&mut self.scratch);
     }
 
     /// The sides 0 and 1, and the mark disk.
@@ -164,10 +178,10 @@ impl<D: Disk> Mirror<D> {
 }
 
 impl<D: Disk> Store for Mirror<D> {
-    ghost use Rattle.std.specs.Prelude.{◌≡◌, None, OnErr, IsSome, false, length};
+    ghost use Rattle.std.specs.Prelude.{◌≡◌, None, OnErr, OnOk, IsSome, false, length};
     ghost use Rattle.aoe_disk.specs.Calls.{IsRange, Reads, SyncsTo};
     ghost use Rattle.aoe_store.specs.Store.{StoresTo};
-    ghost use Rattle.aoe_mirror.specs.Calls.{Blames, MirrorReads, MirrorSyncs, MirrorWrites};
+    ghost use Rattle.aoe_mirror.specs.Calls.{Blames, MirrorReads, MirrorSyncs, MirrorWrites, SyncsAndCopies};
     ghost use Rattle.aoe_mirror.specs.Mirror.{pair, state_of};
 
     ghost state = { λ m. state_of D.state m };
@@ -207,10 +221,13 @@ impl<D: Disk> Store for Mirror<D> {
         ensures mirror { MirrorSyncs result (pair D.state self.old) (pair D.state self.new) }
         ensures blames { Blames self.new.failed (pair D.state self.old) (pair D.state self.new) }
         ensures told { OnErr result (IsSome self.new.failed) }
+        ensures copied { OnOk result (SyncsAndCopies self.old.next self.new.next self.new.failed
+            (pair D.state self.old) (pair D.state self.new)) }
     {
         match self.sides.sync() {
             Ok(failed) => {
-                let copied = self.sides.resync(&mut self.scratch);
+                let (next, copied) = self.sides.resync(self.next, &mut self.scratch);
+                self.next = next;
                 self.failed = lowest(failed, copied);
                 Ok(())
             }

@@ -1,11 +1,12 @@
 //! Two disks that hold the sectors of one slot: one leads, and the other follows.
-ghost use Rattle.std.specs.Prelude.{◌≡◌, ◌≤◌, ◌<◌, ◌+◌, ◌-◌, ◌/◌, ◌⊎◌, ℕ, length, is_err, IfErr, IfSome, OnOk, Some, false, replicate, true};
+ghost use Rattle.std.specs.Prelude.{◌≡◌, ◌≤◌, ◌<◌, ◌+◌, ◌-◌, ◌/◌, ◌⊎◌, ℕ, length, is_err, IfErr, IfSome, MatchOption, None, OnOk, Some, false, replicate, true};
 ghost use Rattle.aoe_base.specs.Sizes.{scratch_bytes};
 ghost use Rattle.aoe_disk.specs.State.{IsDisk};
 ghost use Rattle.aoe_disk.specs.Calls.{IsRange, IsRun};
 ghost use Rattle.aoe_mirror.specs.Sides.{IsMark, IsMirror, Names, pair_of};
 ghost use Rattle.aoe_mirror.specs.Mirror.{first_of, second_of};
-ghost use Rattle.aoe_mirror.specs.Calls.{Blames, Copies, CopiesRun, FollowerReads, FollowerSyncs, Follows, Halts, Leads, MirrorReads, MirrorSyncs, MirrorWrites, SettlesLead, StaysLead, Swaps, TakesLead, WritesCopy, blamed_of};
+ghost use Rattle.aoe_mirror.specs.Marks.{AreSet, IsNextRun, count_of};
+ghost use Rattle.aoe_mirror.specs.Calls.{Blames, Copies, CopiesAll, CopiesNext, CopiesRun, FollowerReads, FollowerSyncs, Follows, Halts, Leads, MirrorReads, MirrorSyncs, MirrorWrites, SettlesLead, StaysLead, StaysWhole, Swaps, TakesLead, WritesCopy, blamed_of, copy_blamed};
 
 use crate::marks::Marks;
 use aoe_base::{Failed, SECTOR_LEN};
@@ -195,6 +196,7 @@ impl<D: Disk> Sides<D> {
     fn write_both(&mut self, at: u64, piece: &[u8]) -> Result<(), Failed>
         requires mirror { IsMirror (pair_of D.state self.old) }
         requires range { IsRange at (length piece.now) (D.state self.old.lead).sectors }
+        requires settled { self.old.settled ≡ true }
         ensures { MirrorWrites at piece.now result
             (pair_of D.state self.old) (pair_of D.state self.new) }
     {
@@ -268,6 +270,8 @@ impl<D: Disk> Sides<D> {
         ensures syncs { MirrorSyncs result (pair_of D.state self.old) (pair_of D.state self.new) }
         ensures blames { Blames (blamed_of result)
             (pair_of D.state self.old) (pair_of D.state self.new) }
+        ensures told { blamed_of result ≡ None
+            → StaysWhole (pair_of D.state self.old) (pair_of D.state self.new) }
     {
         match self.lead.sync() {
             Ok(()) => Ok(self.sync_follower()),
@@ -287,6 +291,8 @@ impl<D: Disk> Sides<D> {
         ensures syncs { MirrorSyncs result (pair_of D.state self.old) (pair_of D.state self.new) }
         ensures blames { Blames (blamed_of result)
             (pair_of D.state self.old) (pair_of D.state self.new) }
+        ensures told { blamed_of result ≡ None
+            → StaysWhole (pair_of D.state self.old) (pair_of D.state self.new) }
     {
         match self.settle() {
             Ok(()) => self.sync_both(),
@@ -324,22 +330,66 @@ impl<D: Disk> Sides<D> {
         }
     }
 
-    /// Copies the first run of stale sectors to the follower. The side that failed is told.
-    pub(crate) fn resync(&mut self, scratch: &mut [u8]) -> Result<(), u8>
+    // Copies a run of stale sectors to the follower: they are stale no more, or a side is told that
+    // failed.
+    fn resync_run(&mut self, at: usize, n: usize, scratch: &mut [u8]) -> Result<(), u8>
         requires mirror { IsMirror (pair_of D.state self.old) }
+        requires run { AreSet self.old.stale at n }
         requires scratch { length scratch.old ≡ scratch_bytes }
-        ensures copies { Copies (is_err result)
+        ensures copies { Copies at n (is_err result)
             (pair_of D.state self.old) (pair_of D.state self.new) }
         ensures blames { IfErr result
             (λ k. Blames (Some k) (pair_of D.state self.old) (pair_of D.state self.new)) }
     {
-        let Some((at, n)) = self.stale.first_run() else {
-            return Ok(());
-        };
         if let Err(side) = self.copy_run(at as u64, &mut scratch[..SECTOR_LEN * n]) {
             return Err(side);
         }
         self.stale.put_each(at, n, false);
         Ok(())
+    }
+
+    // The run of stale sectors that comes behind sector `from`, or where none is left there, the
+    // first of all.
+    fn next_run(&self, from: usize) -> Option<(usize, usize)>
+        ensures { MatchOption result (count_of self.now.stale ≡ 0)
+            (λ run. IsNextRun self.now.stale from run.0 run.1) }
+    {
+        if self.stale.count() == 0 {
+            return None;
+        }
+        if let Some(run) = self.stale.first_run(from) {
+            return Some(run);
+        }
+        self.stale.first_run(0)
+    }
+
+    /// Copies the next run of stale sectors from sector `from` on to the follower. Says where the
+    /// copy behind it goes on, and which side failed.
+    pub(crate) fn resync(&mut self, from: usize, scratch: &mut [u8]) -> (usize, Result<(), u8>)
+        requires mirror { IsMirror (pair_of D.state self.old) }
+        requires scratch { length scratch.old ≡ scratch_bytes }
+        ensures copies { CopiesNext from result.0 (is_err result.1)
+            (pair_of D.state self.old) (pair_of D.state self.new) }
+        ensures mirror { IsMirror (pair_of D.state self.new) }
+        ensures blames { Blames (copy_blamed result.1)
+            (pair_of D.state self.old) (pair_of D.state self.new) }
+    {
+        let Some((at, n)) = self.next_run(from) else {
+            return (from, Ok(()));
+        };
+        (at + n, self.resync_run(at, n, scratch))
+    }
+
+    /// Copies each run of stale sectors to the follower, also behind one of which the copy failed.
+    pub(crate) fn resync_all(&mut self, scratch: &mut [u8])
+        requires mirror { IsMirror (pair_of D.state self.old) }
+        requires scratch { length scratch.old ≡ scratch_bytes }
+        ensures { CopiesAll (pair_of D.state self.old) (pair_of D.state self.new) }
+    {
+        let mut from = 0;
+        'runs: while let Some((at, n)) = self.stale.first_run(from) {
+            let _ = self.resync_run(at, n, scratch);
+            from = at + n;
+        }
     }
 }

@@ -1,6 +1,6 @@
 -- A mirror as the slot of a shelf.
 use Rattle.std.proofs.Common.{◌≡◌, ◌≤◌, ◌⊎◌, ℕ, zero, suc, Bool, true, false, List, [], ◌∷◌, ◌++◌, length, length-append, Option, Some, None, IfSome, Result, Ok, Err, is_err, is_some, refl, sym, ap, subst, ◌∙◌, inl, inr, arith, eq-eqb, ne_eqb, get_or}
-use Rattle.std.proofs.lemmas.Bool.{both_ways, cases_Bool, cases_eq}
+use Rattle.std.proofs.lemmas.Bool.{both_ways, cases_eq, cases_lt}
 use Rattle.std.proofs.lemmas.Option.{same_Some}
 use Rattle.std.specs.Prelude.{IsSome, OnErr, slice_get}
 use Rattle.std.specs.Option.{option_map}
@@ -13,20 +13,21 @@ use Rattle.aoe_disk.specs.State.{BothTell, Contents, DiskState, is_loose}
 use Rattle.aoe_disk.proofs.Touching.{settles_calm, settles_kept}
 use Rattle.aoe_keep.specs.Found.{AlwaysFinds}
 use Rattle.aoe_keep.specs.Keep.{Kept}
-use Rattle.aoe_mirror.specs.Calls.{Answer, Blames, Copies, Counts, FollowerFailed, LeadFailed, MirrorSyncs}
+use Rattle.aoe_mirror.specs.Calls.{Answer, Blames, CopiesAll, Counts, MirrorSyncs, SideFailed}
 use Rattle.aoe_mirror.specs.Marks.{count_of}
 use Rattle.aoe_mirror.specs.Mirror.{Mirrored, Mounts, first_of, pair, second_of, state_of}
 use Rattle.aoe_mirror.specs.Sides.{IsMirror, Pair, both, disk_of, pair_of, seen, shown, side_of}
 use Rattle.aoe_mirror.specs.declared.sides.Sides.{Sides}
 use Rattle.aoe_mirror.proofs.Bits.{count_none}
+use Rattle.aoe_mirror.proofs.Passing.{side_from}
 use Rattle.aoe_mirror.proofs.Quiet.{calm_then, parts_in}
 use Rattle.aoe_mirror.proofs.Steps.{Holds, counts_then, holds_of, synced}
 use Rattle.aoe_mirror.proofs.Surviving.{survives}
-use Rattle.aoe_mirror.proofs.Syncing.{Quiet, blame_follower, blame_lead, same_calm, sync_ok, synced_quiet}
+use Rattle.aoe_mirror.proofs.Syncing.{Quiet, sync_ok, synced_quiet}
 use Rattle.aoe_mirror.proofs.Told.{told_if, told_mono, told_then, told_to}
 use Rattle.aoe_mirror.proofs.Whole.{seen_at}
 use Rattle.aoe_serve.specs.Exporting.{FindsAll, HasRun, Outside, SyncsSlot, Tells, first_failed}
-use Rattle.aoe_serve.specs.Mirroring.{AreEqual, CopiesAll, EndsMirror, HasFailed, IsBegun, IsMirrored, IsOf, IsSince, LeavesAlone, RanMirror, SideFailed, faults_of, has_ended}
+use Rattle.aoe_serve.specs.Mirroring.{AreEqual, EndsMirror, HasFailed, IsBegun, IsMirrored, IsOf, IsSince, LeavesAlone, RanMirror, faults_of, has_ended}
 use Rattle.aoe_serve.specs.Slots.{EachSlot, Slot, slot_of, slots_of}
 use Rattle.aoe_serve.specs.declared.over_mirror.MirrorDisks.{MirrorDisks}
 use Rattle.aoe_serve.specs.declared.over_mirror.MirrorEnd.{MirrorEnd}
@@ -35,74 +36,6 @@ use Rattle.aoe_serve.proofs.EndLemmas.{run_ends}
 use Rattle.aoe_shelf.specs.Calls.{TakesLast}
 use Rattle.aoe_target.specs.Mounted.{Mounted}
 use Rattle.aoe_target.specs.declared.station.Station.{Station}
-
--- Which side failed.
-
-pub side_failed : (old new : Pair) → old.side ≤ 1 → LeadFailed old new ⊎ FollowerFailed old new → SideFailed old new
-side_failed old new le (inl lead) = elim (cases_eq old.side 1) [
-  | inl one ↦ inr (blame_lead old new 1 le (sym one) lead).1
-  | inr other ↦ inl (blame_lead old new 0 le (omega (arith, other, le)) lead).1
-]
-side_failed old new le (inr follower) = elim (cases_eq old.side 1) [
-  | inl one ↦ inl (blame_follower old new 0 le (omega (arith, one)) follower).1
-  | inr other ↦ inr (blame_follower old new 1 le (omega (arith, other, le)) follower).1
-]
-
--- a fault of a later part is one of the whole
-pub side_from : (old mid new : Pair) → Counts old mid → Counts mid new → SideFailed mid new → SideFailed old new
-side_from old mid new before after (inl first) =
-    inl (rose-later (disk_of old 0).faults (disk_of mid 0).faults (disk_of new 0).faults (before 0 (omega arith)) (after 0 (omega arith)) first)
-side_from old mid new before after (inr second) =
-    inr (rose-later (disk_of old 1).faults (disk_of mid 1).faults (disk_of new 1).faults (before 1 (omega arith)) (after 1 (omega arith)) second)
-
--- Copying what is stale.
-
-pub record Copying (old new : Pair) : Type 0 where
-  pub mirror : IsMirror new
-  pub sectors : new.lead.sectors ≡ old.lead.sectors
-  pub calm : BothTell Calms (shown old).contents (shown new).contents
-  pub later : (shown old).faults ≤ (shown new).faults
-  pub side : new.side ≡ old.side
-  pub counts : Counts old new
-
-pub copying_begun : (p : Pair) → IsMirror p → Copying p p
-copying_begun p m = record { mirror = m; sectors = refl; calm = same_calm (shown p); later = omega arith; side = refl; counts = λ k le. omega arith }
-
-pub copying_then : (failed : Bool) (old mid new : Pair) → Copying old mid → Copies failed mid new → Copying old new
-copying_then failed old mid new c s = record {
-  mirror = s.mirror;
-  sectors = s.run.sectors ∙ c.sectors;
-  calm = told_then Calms Calms Calms (shown old).contents (shown mid).contents (shown new).contents c.calm s.calm calm_then;
-  later = let before = c.later in let after = s.run.later in omega (arith, before, after);
-  side = s.side ∙ c.side;
-  counts = counts_then old mid new c.counts s.counts;
-}
-
-pub copied_all : (old new : Pair) → Copying old new → count_of new.stale ≤ 0 → CopiesAll false old new
-copied_all old new c none = record {
-  mirror = c.mirror;
-  sectors = c.sectors;
-  calm = c.calm;
-  later = c.later;
-  side = c.side;
-  counts = c.counts;
-  whole = λ e. omega (arith, none);
-  cause = λ e. cc;
-}
-
-pub copied_part : (old mid new : Pair) → Copying old mid → Copies true mid new → CopiesAll true old new
-copied_part old mid new c s =
-    let t = copying_then true old mid new c s in
-    record {
-      mirror = t.mirror;
-      sectors = t.sectors;
-      calm = t.calm;
-      later = t.later;
-      side = t.side;
-      counts = t.counts;
-      whole = λ e. cc;
-      cause = λ e. side_from old mid new c.counts s.counts (side_failed mid new c.mirror.mark.side (s.cause refl));
-    }
 
 -- Since the disks were handed in.
 
@@ -150,9 +83,9 @@ mounted_since state given s m (suc zero) le =
 mounted_since state given s m (suc (suc zero)) le = m.reads.run.later
 mounted_since state given s m (suc (suc (suc k))) le = absurd (omega (arith, le))
 
-pub begun_since : {D : Type 0} (state : D → DiskState) (given : MirrorDisks D) (s : Sides D) (failed : Bool) (begun : Pair)
-    → Mounts state given.one given.two given.mark s → CopiesAll failed (pair_of state s) begun → IsSince (faults_of state given) begun
-begun_since state given s failed begun m c = record {
+pub begun_since : {D : Type 0} (state : D → DiskState) (given : MirrorDisks D) (s : Sides D) (begun : Pair)
+    → Mounts state given.one given.two given.mark s → CopiesAll (pair_of state s) begun → IsSince (faults_of state given) begun
+begun_since state given s begun m c = record {
   mirror = c.mirror;
   counts = λ k le. let before = mounted_since state given s m k le in let after = c.counts k le in omega (arith, before, after);
 }
@@ -184,10 +117,10 @@ ends_synced well (Ok v) old new not ok s = record {
   whole = λ is _. absurd (both_ways well not is);
 }
 
-pub ends_copied : (well failed : Bool) (r : Answer) (old mid new : Pair) → IsMirror old → is_err r ≡ false → MirrorSyncs r old mid → CopiesAll failed mid new
+pub ends_copied : (well : Bool) (r : Answer) (old mid new : Pair) → IsMirror old → is_err r ≡ false → MirrorSyncs r old mid → CopiesAll mid new
     → EndsMirror well None old new
-ends_copied well failed (Err e) old mid new m ok s c = cc
-ends_copied well failed (Ok v) old mid new m ok s c =
+ends_copied well (Err e) old mid new m ok s c = cc
+ends_copied well (Ok v) old mid new m ok s c =
     let later : (shown old).faults ≤ (shown new).faults = let a = s.syncs.call.later in let b = c.later in omega (arith, a, b) in
     let calm : BothTell Calms (shown old).contents (shown new).contents = told_then Calms Calms Calms (shown old).contents (shown mid).contents
     (shown new).contents
@@ -204,9 +137,9 @@ ends_copied well failed (Ok v) old mid new m ok s c =
       mirror = c.mirror;
       counts = counts_then old mid new s.counts c.counts;
       blames = tt;
-      whole = λ _ _. elim (cases_Bool failed) [
-        | inl bad ↦ inr (side_from old mid new s.counts c.counts (c.cause bad))
-        | inr fine ↦ inl (c.whole fine)
+      whole = λ _ _. elim (cases_lt 0 c.fails) [
+        | inl some ↦ inr (side_from old mid new s.counts c.counts (c.cause some))
+        | inr none ↦ inl (omega (arith, none, c.left))
       ];
     }
 

@@ -4,11 +4,10 @@ use Rattle.std.specs.Option.{option_map}
 use Rattle.aoe_base.specs.Faults.{Rose}
 use Rattle.aoe_base.specs.declared.failure.Failed.{Failed}
 use Rattle.aoe_disk.specs.Calls.{SyncsTo}
-use Rattle.aoe_disk.specs.Sectors.{Calms}
-use Rattle.aoe_disk.specs.State.{BothTell, Contents, DiskState, is_loose, sector}
+use Rattle.aoe_disk.specs.State.{Contents, DiskState, is_loose, sector}
 use Rattle.aoe_keep.specs.Keep.{HasMounted, IsRefused, Kept}
 use Rattle.aoe_lists.specs.Settings.{Settings}
-use Rattle.aoe_mirror.specs.Calls.{Blames, Counts, DiskFailed}
+use Rattle.aoe_mirror.specs.Calls.{Blames, CopiesAll, Counts, SideFailed}
 use Rattle.aoe_mirror.specs.Marks.{count_of}
 use Rattle.aoe_mirror.specs.Mirror.{Mirrored, Mounts, Refuses}
 use Rattle.aoe_mirror.specs.Sides.{IsMirror, Pair, Survives, both, disk_of, pair_of, shown, side_of}
@@ -29,21 +28,6 @@ use Rattle.aoe_serve.specs.declared.plan.RunEnd.{RunEnd}
 use Rattle.aoe_serve.specs.declared.plan.RunEnd.TheVariants as end
 use Rattle.aoe_target.specs.Mounted.{Mounted}
 use Rattle.aoe_target.specs.declared.station.Station.{Station}
-
--- a side failed
-abbrev pub SideFailed : Pair → Pair → Type 0
-SideFailed old new = DiskFailed old new 0 ⊎ DiskFailed old new 1
-
--- stale sectors were copied until none was left, or until a copy failed
-pub record CopiesAll (failed : Bool) (old new : Pair) : Type 0 where
-  pub mirror : IsMirror new
-  pub sectors : new.lead.sectors ≡ old.lead.sectors
-  pub calm : BothTell Calms (shown old).contents (shown new).contents
-  pub later : (shown old).faults ≤ (shown new).faults
-  pub side : new.side ≡ old.side
-  pub counts : Counts old new
-  pub whole : failed ≡ false → count_of new.stale ≡ 0
-  pub cause : failed ≡ true → SideFailed old new
 
 -- The last sync, and where it was Ok and the frames ended well the copying after it: whether the disk is told that failed, and whether
 -- nothing is stale.
@@ -73,8 +57,7 @@ pub record IsSince (faults : ℕ → ℕ) (p : Pair) : Type 0 where
 pub record IsBegun {D : Type 0} (state : D → DiskState) (given : MirrorDisks D) (kept : Kept D) (begun : Pair) : Type 0 where
   pub sides : Sides D
   pub mounts : Mounts state given.one given.two given.mark sides
-  pub failed : Bool
-  pub copies : CopiesAll failed (pair_of state sides) begun
+  pub copies : CopiesAll (pair_of state sides) begun
   pub keep : HasMounted (state given.keep) (state kept.disk) kept.lists
 
 -- these disks are the mirror's

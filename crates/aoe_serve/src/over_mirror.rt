@@ -5,7 +5,7 @@ ghost use Rattle.aoe_mirror.specs.Mirror.{pair, state_of};
 ghost use Rattle.aoe_mirror.specs.Sides.{IsMirror};
 ghost use Rattle.aoe_serve.specs.Exporting.{AtFirst, CanExport, is_served};
 ghost use Rattle.aoe_serve.specs.Files.{named};
-ghost use Rattle.aoe_serve.specs.Mirroring.{CopiesAll, EndedAs, EndsMirror, IsBegun, IsMirrored, IsSince, LeavesAlone, RanMirror, Stops, faults_of, has_ended};
+ghost use Rattle.aoe_serve.specs.Mirroring.{EndedAs, EndsMirror, IsBegun, IsMirrored, IsSince, LeavesAlone, RanMirror, Stops, faults_of, has_ended};
 
 use crate::run::run;
 use crate::{AnswerEnd, ExportOptions, Plan, RunEnd, ServeEnd};
@@ -128,19 +128,6 @@ impl<D: Disk, G: Given> Store for Counted<D, G> {
     }
 }
 
-/// Copies stale sectors until none is left, or until a copy fails.
-fn copy_stale<D: Disk>(mirror: &mut Mirror<D>) -> Result<(), Failed>
-    requires { IsMirror (pair D.state mirror.old) }
-    ensures copies { CopiesAll (is_err result) (pair D.state mirror.old) (pair D.state mirror.new) }
-{
-    'runs: while mirror.stale() > 0 {
-        if let Err(Failed) = mirror.resync() {
-            return Err(Failed);
-        }
-    }
-    Ok(())
-}
-
 /// Mounts the keep, and then the mirror, whose stale sectors are copied as far as that goes. Where one
 /// of them isn't mounted the disks are given back.
 fn mount<D: Disk>(
@@ -186,7 +173,7 @@ fn mount<D: Disk>(
             ));
         }
     };
-    let _ = copy_stale(&mut mirror);
+    mirror.resync_all();
     Ok((mirror, keep))
 }
 
@@ -210,7 +197,7 @@ fn finish<D: Disk>(mirror: &mut Mirror<D>, well: bool) -> Option<u8>
         return mirror.failed();
     }
     if well {
-        let _ = copy_stale(mirror);
+        mirror.resync_all();
     }
     None
 }
@@ -295,10 +282,11 @@ fn run_over<D: Disk + Drop, G: Given, S: Source, K: Sink, L: Link>(
 
 /// Exports a mirror of two disks as the only slot of a shelf, for one run.
 ///
-/// The keep is mounted, and then the mirror (`aoe_mirror`), whose stale sectors are copied until none
-/// is left or a copy fails. Where one of the two isn't mounted, nothing is read or sent. Else the plan
-/// is run over the slot, and the mirror is synced, however the run ended. Where that and the run went
-/// well, what is stale then is copied, too. Each disk is given back, also where nothing was run.
+/// The keep is mounted, and then the mirror (`aoe_mirror`), each run of whose stale sectors is copied,
+/// also behind one of which the copy fails. Where one of the two isn't mounted, nothing is read or
+/// sent. Else the plan is run over the slot, and the mirror is synced, however the run ended. Where
+/// that and the run went well, what is stale then is copied, too. Each disk is given back, also where
+/// nothing was run.
 ///
 /// A mirror holds nothing back and syncs for a flush alone, so `options.cache` is 0 and `options.durable`
 /// isn't set.

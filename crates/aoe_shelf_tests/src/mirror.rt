@@ -4,15 +4,17 @@ use aoe_store::Store;
 use std::alloc::Global;
 use std::test::Fail;
 
-/// What is done to a mirror of 16 sectors, or what it then has.
+/// What is done to a mirror, or what it then has.
 #[derive(Clone, Copy)]
 enum Step {
     /// Fills a sector with a byte.
     Fills(u64, u8),
     /// The first and the last byte of a sector.
     Has(u64, [u8; 2]),
-    /// Copies a run of stale sectors, after which so many are stale.
-    Copies(u64),
+    /// Copies a run of stale sectors, after which so many are stale, or fails.
+    Copies(Option<u64>),
+    /// Copies each run of stale sectors, after which so many are stale.
+    CopiesAll(u64),
     Syncs,
     /// The side that leads, and how many sectors of the other one are stale.
     Leads(u8, u64),
@@ -34,7 +36,11 @@ fn goes(mirror: &mut Mirror<MemDisk>, step: Step) -> bool {
     match step {
         Step::Fills(at, byte) => at < mirror.sectors() && mirror.write(at, &[byte; 512]).is_ok(),
         Step::Has(at, bytes) => ends(mirror, at) == Some(bytes),
-        Step::Copies(left) => mirror.resync() == Ok(left),
+        Step::Copies(left) => mirror.resync().ok() == left,
+        Step::CopiesAll(left) => {
+            mirror.resync_all();
+            mirror.stale() == left
+        }
         Step::Syncs => mirror.sync().is_ok(),
         Step::Leads(side, stale) => mirror.lead() == side && mirror.stale() == stale,
         Step::Failed(disk) => mirror.failed() == disk,
@@ -51,10 +57,11 @@ fn all_go(mirror: &mut Mirror<MemDisk>, steps: &[Step]) -> bool {
     true
 }
 
-/// Two sides of 16 zero sectors, of each of which the call with this number fails, and a mark disk.
-fn mirror(alloc: Global, one: u32, two: u32) -> Result<Mirror<MemDisk>, Fail> {
-    let mut first = MemDisk::new(alloc, 16)?;
-    let mut second = MemDisk::new(alloc, 16)?;
+/// Two sides of as many zero sectors, of each of which the call with this number fails, and a mark
+/// disk.
+fn mirror(alloc: Global, sectors: u64, one: u32, two: u32) -> Result<Mirror<MemDisk>, Fail> {
+    let mut first = MemDisk::new(alloc, sectors.min(192))?;
+    let mut second = MemDisk::new(alloc, sectors.min(192))?;
     first.fail_at(one.max(1));
     second.fail_at(two.max(1));
     match Mirror::mount(alloc, first, second, MemDisk::new(alloc, 1)?) {
@@ -78,18 +85,47 @@ fn refused(alloc: Global, sectors: [u64; 3]) -> Result<Option<MirrorRefusal>, Fa
 fn outlives_a_failure_of_either_side(rt: HostRuntime) -> Result<(), Fail> {
     let steps = [
         Step::Leads(0, 16),
-        Step::Copies(0),
+        Step::Copies(Some(0)),
         Step::Fills(3, 0x5a),
         Step::Leads(1, 1),
         Step::Has(3, [0x5a, 0x5a]),
-        Step::Copies(0),
+        Step::Copies(Some(0)),
         Step::Has(3, [0x5a, 0x5a]),
         Step::Failed(None),
         Step::Syncs,
         Step::Failed(None),
     ];
-    let mut mirror = mirror(rt.alloc(), 2, 6)?;
+    let mut mirror = mirror(rt.alloc(), 16, 2, 6)?;
     assert!(rt; all_go(&mut mirror, &steps));
+    Ok(())
+}
+
+// Three runs of 64 sectors are stale, and the copy of one of them fails: the others are copied.
+#[test]
+fn copies_behind_a_run_that_fails(rt: HostRuntime) -> Result<(), Fail> {
+    let steps = [
+        Step::Copies(None),
+        Step::Copies(Some(128)),
+        Step::Copies(Some(64)),
+        Step::Copies(Some(0)),
+    ];
+    let mut one_by_one = mirror(rt.alloc(), 192, 9, 1)?;
+    let mut at_once = mirror(rt.alloc(), 192, 2, 9)?;
+    let mut by_syncs = mirror(rt.alloc(), 192, 9, 2)?;
+    let at_once_steps = [Step::CopiesAll(64), Step::CopiesAll(0)];
+    let sync_steps = [
+        Step::Syncs,
+        Step::Failed(Some(1)),
+        Step::Syncs,
+        Step::Failed(None),
+        Step::Syncs,
+        Step::Leads(0, 64),
+        Step::Syncs,
+        Step::Leads(0, 0),
+    ];
+    assert!(rt; all_go(&mut one_by_one, &steps));
+    assert!(rt; all_go(&mut at_once, &at_once_steps));
+    assert!(rt; all_go(&mut by_syncs, &sync_steps));
     Ok(())
 }
 

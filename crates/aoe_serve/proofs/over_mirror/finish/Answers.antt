@@ -7,7 +7,7 @@ returns-in-Err g c = rw c.failed.ensures (ends_failed c.args.well _ c.sync.resul
     c.sync.ensures.told c.sync.ensures.blames)
 
 pub returns-then-well : goal.returns-then-well
-returns-then-well g c = ends_copied c.args.well _ c.sync.result _ _ _ c.requires (ap is_err c.in_default.is) c.sync.ensures.mirror c.copy_stale.ensures.copies
+returns-then-well g c = ends_copied c.args.well c.sync.result _ _ _ c.requires (ap is_err c.in_default.is) c.sync.ensures.mirror c.resync_all.ensures.copies
 
 pub returns-else-well : goal.returns-else-well
 returns-else-well g c = ends_synced c.args.well c.sync.result _ _ c.if-well.false (ap is_err c.in_default.is) c.sync.ensures.mirror

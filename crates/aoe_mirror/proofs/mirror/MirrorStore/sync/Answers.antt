@@ -1,32 +1,49 @@
-use Rattle.std.proofs.Common.{inl, inr}
+use Rattle.aoe_mirror.specs.Calls.{copy_blamed}
 use Rattle.aoe_mirror.specs.Sides.{pair_of}
-use Rattle.aoe_mirror.proofs.Syncing.{blames_before, blames_then, copied_syncs, err_syncs, told_blames}
+use Rattle.aoe_mirror.proofs.Copying.{copied_is}
+use Rattle.aoe_mirror.proofs.Syncing.{blames_before, blames_then, copied_syncs, err_syncs, lowest_blames, next_counts, ok_syncs}
 use Rattle.aoe_mirror.proofs.mirror.MirrorStore.sync.Goals as goal
 
 pub returns-in-Ok-clause-syncs : goal.returns-in-Ok-clause-syncs
 returns-in-Ok-clause-syncs g c =
     let old = pair_of g.D.Disk.state c.self.inside.sides in
     let mid = pair_of g.D.Disk.state c.sync.new.self in
-    let new = pair_of g.D.Disk.state c.resync-copied.new.self in
-    rw (← c.self.view_is) ((copied_syncs _ _ _ old mid new c.self.invariant.mirror c.in-Ok.ensures.syncs c.resync-copied.ensures.copies).syncs)
+    let new = pair_of g.D.Disk.state c.resync-next.new.self in
+    rw (← c.self.view_is)
+    ((copied_syncs _ _ _ _ _ old mid new c.self.invariant.mirror c.in-Ok.ensures.syncs c.resync-next.ensures.copies).syncs)
 
 pub returns-in-Ok-clause-mirror : goal.returns-in-Ok-clause-mirror
 returns-in-Ok-clause-mirror g c =
     let old = pair_of g.D.Disk.state c.self.inside.sides in
     let mid = pair_of g.D.Disk.state c.sync.new.self in
-    let new = pair_of g.D.Disk.state c.resync-copied.new.self in
-    rw (← c.self.view_is) (copied_syncs _ _ _ old mid new c.self.invariant.mirror c.in-Ok.ensures.syncs c.resync-copied.ensures.copies)
+    let new = pair_of g.D.Disk.state c.resync-next.new.self in
+    rw (← c.self.view_is) (copied_syncs _ _ _ _ _ old mid new c.self.invariant.mirror c.in-Ok.ensures.syncs c.resync-next.ensures.copies)
 
 pub returns-in-Ok-clause-blames : goal.returns-in-Ok-clause-blames
 returns-in-Ok-clause-blames g c =
     let old = pair_of g.D.Disk.state c.self.inside.sides in
     let mid = pair_of g.D.Disk.state c.sync.new.self in
-    let new = pair_of g.D.Disk.state c.resync-copied.new.self in
-    rw (← c.self.view_is) (elim c.lowest-self-inside.ensures.either [
-      | inl same ↦ rw same (blames_before _ old mid new c.resync-copied.ensures.copies.counts c.in-Ok.ensures.blames)
-      | inr other ↦ blames_then _ old mid new c.in-Ok.ensures.syncs.counts c.resync-copied.ensures.copies.counts
-          (told_blames c.resync-copied.result _ mid new other c.resync-copied.ensures.blames)
-    ])
+    let new = pair_of g.D.Disk.state c.resync-next.new.self in
+    let counts = next_counts _ _ _ mid new c.resync-next.ensures.copies in
+    rw (← c.self.view_is, c.lowest-self-inside.ensures) (lowest_blames c.in-Ok.failed (copy_blamed c.resync-next.result.1) old new
+    (blames_before c.in-Ok.failed old mid new counts c.in-Ok.ensures.blames)
+    (blames_then (copy_blamed c.resync-next.result.1) old mid new c.in-Ok.ensures.syncs.counts counts c.resync-next.ensures.blames))
+
+pub returns-in-Ok-clause-copied : goal.returns-in-Ok-clause-copied
+returns-in-Ok-clause-copied g c =
+    let old = pair_of g.D.Disk.state c.self.inside.sides in
+    let mid = pair_of g.D.Disk.state c.sync.new.self in
+    rw (← c.self.view_is) (record {
+      synced = mid;
+      in_sync = c.in-Ok.failed;
+      in_copy = copy_blamed c.resync-next.result.1;
+      sync = ok_syncs _ _ old mid c.in-Ok.ensures.syncs;
+      copy = rw (copied_is c.resync-next.result.1) c.resync-next.ensures.copies;
+      told = c.lowest-self-inside.ensures;
+      unfailed = c.in-Ok.ensures.told;
+      sync_blames = c.in-Ok.ensures.blames;
+      copy_blames = c.resync-next.ensures.blames;
+    })
 
 pub returns-in-Err-clause-mirror : goal.returns-in-Err-clause-mirror
 returns-in-Err-clause-mirror g c =

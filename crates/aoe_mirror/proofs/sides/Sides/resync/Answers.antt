@@ -1,31 +1,21 @@
-use Rattle.std.proofs.Common.{◌≡◌, ◌*◌, ap, is_err, length, take, arith}
-use Rattle.std.proofs.lemmas.List.{length-take-le}
+use Rattle.std.proofs.Common.{inl, inr, refl}
 use Rattle.aoe_mirror.specs.Sides.{pair_of}
-use Rattle.aoe_mirror.proofs.Copying.{copy_blames, done_copies, failed_copies, none_copies}
+use Rattle.aoe_mirror.proofs.Bits.{next_set}
+use Rattle.aoe_mirror.proofs.Copying.{copied_blames}
 use Rattle.aoe_mirror.proofs.sides.Sides.resync.Goals as goal
 
+pub resync_run-requires-clause-run : goal.resync_run-requires-clause-run
+resync_run-requires-clause-run g c = next_set c.args.self.now.stale c.args.from c.in-Some.at c.in-Some.n c.in-Some.ensures
+
 pub returns-in_default-clause-copies : goal.returns-in_default-clause-copies
-returns-in_default-clause-copies g c = rw c.first_run.ensures.same
-    (none_copies (pair_of g.D.Disk.state c.args.self.now) c.requires.mirror c.in_default.ensures.run)
-
-pub returns-in-Err-clause-copies : goal.returns-in-Err-clause-copies
-returns-in-Err-clause-copies g c =
-    let size : length (take (512 * c.in-Some.n) c.args.scratch.now) ≡ 512 * c.in-Some.n =
-    length-take-le (512 * c.in-Some.n) c.args.scratch.now (omega (arith, c.in-Some.ensures.run.most, c.requires.scratch)) in
-    failed_copies (pair_of g.D.Disk.state c.args.self.now) c.requires.mirror c.in-Some.at c.in-Some.n c.in-Some.ensures.run c.copy_run.result
-    (pair_of g.D.Disk.state c.copy_run.new.self) (rw (size, c.first_run.ensures.same) at c.copy_run.ensures) (ap is_err c.in-Err.is)
-
-pub returns-in-Err-clause-blames : goal.returns-in-Err-clause-blames
-returns-in-Err-clause-blames g c =
-    let size : length (take (512 * c.in-Some.n) c.args.scratch.now) ≡ 512 * c.in-Some.n =
-    length-take-le (512 * c.in-Some.n) c.args.scratch.now (omega (arith, c.in-Some.ensures.run.most, c.requires.scratch)) in
-    rw c.in-Err.is at (copy_blames (pair_of g.D.Disk.state c.args.self.now) c.requires.mirror c.in-Some.at c.in-Some.n c.in-Some.ensures.run c.copy_run.result
-    (pair_of g.D.Disk.state c.copy_run.new.self) (rw (size, c.first_run.ensures.same) at c.copy_run.ensures))
+returns-in_default-clause-copies g c = inl (c.in_default.ensures, refl, refl)
 
 pub returns-clause-copies : goal.returns-clause-copies
-returns-clause-copies g c =
-    let size : length (take (512 * c.in-Some.n) c.args.scratch.now) ≡ 512 * c.in-Some.n =
-    length-take-le (512 * c.in-Some.n) c.args.scratch.now (omega (arith, c.in-Some.ensures.run.most, c.requires.scratch)) in
-    rw c.put_each.ensures (done_copies
-    (pair_of g.D.Disk.state c.args.self.now) c.requires.mirror c.in-Some.at c.in-Some.n c.in-Some.ensures.run c.copy_run.result
-    (pair_of g.D.Disk.state c.copy_run.new.self) (rw (size, c.first_run.ensures.same) at c.copy_run.ensures) (ap is_err c.in_default-copy_run.is))
+returns-clause-copies g c = inr (c.in-Some.at, c.in-Some.n, c.in-Some.ensures, refl, c.resync_run.ensures.copies)
+
+pub returns-clause-mirror : goal.returns-clause-mirror
+returns-clause-mirror g c = c.resync_run.ensures.copies.mirror
+
+pub returns-clause-blames : goal.returns-clause-blames
+returns-clause-blames g c = copied_blames c.resync_run.result (pair_of g.D.Disk.state c.args.self.now)
+    (pair_of g.D.Disk.state c.resync_run.new.self) c.resync_run.ensures.blames

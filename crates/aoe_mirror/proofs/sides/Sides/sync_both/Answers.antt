@@ -1,7 +1,7 @@
 use Rattle.std.proofs.Common.{ap, is_err, inl, inr, refl, sym}
 use Rattle.std.proofs.lemmas.Bool.{both_ways}
 use Rattle.aoe_mirror.specs.Sides.{pair_of}
-use Rattle.aoe_mirror.proofs.Syncing.{blame_lead, stays_blames, stays_syncs, takes_blames, takes_failed, takes_syncs, through_blames, through_syncs}
+use Rattle.aoe_mirror.proofs.Syncing.{blame_lead, follower_stays, stays_blames, stays_syncs, takes_blames, takes_failed, takes_syncs, through_blames, through_syncs}
 use Rattle.aoe_mirror.proofs.sides.Sides.sync_both.Goals as goal
 
 pub returns-in-Ok-clause-syncs : goal.returns-in-Ok-clause-syncs
@@ -64,3 +64,6 @@ returns-in-Err-sync_other-clause-blames g c =
             rw c.in-Err-sync_other.is refl,
           )
     ]
+
+pub returns-in-Ok-clause-told : goal.returns-in-Ok-clause-told
+returns-in-Ok-clause-told g c = follower_stays c.sync_follower.result _ (pair_of g.D.Disk.state c.sync_follower.new.self) c.sync_follower.ensures

@@ -10,7 +10,7 @@ returns-in-Ok g c =
     let f = c.follow.ensures in
     subst (MirrorWrites c.args.at c.args.piece.now (Ok tt) old) (sym f.is)
     (through_writes c.args.at c.args.piece.now old c.requires.mirror c.requires.range (g.D.Disk.state c.write.new.self) c.write.result
-    (ap is_err c.in-Ok.is) c.write.ensures f.answer f.written f.write (Ok tt) refl)
+    (ap is_err c.in-Ok.is) c.write.ensures f.answer f.written f.write (Ok tt) refl c.requires.settled)
 
 pub returns-in-Err : goal.returns-in-Err
 returns-in-Err g c =
