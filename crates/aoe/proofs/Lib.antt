@@ -4,7 +4,6 @@ mod CopyLemmas
 mod Exits
 mod OnSlots
 mod Refusals
-mod StreamLemmas
 mod Switched
 mod Mirrors
 mod Upkeeps

@@ -1,45 +1,15 @@
 //! What a service's log gets on standard error, where the environment asks for it.
-use crate::files::FileDisk;
-use crate::until::Until;
-use crate::wire::Wire;
 use aoe_args::{PortWords, Serve};
 use aoe_base::put_macs;
 use aoe_disk::Disk;
 use aoe_keep::Keep;
+use aoe_system::{FileDisk, FileLog, Until, Wire, say};
 use aoe_wire::WireLink;
 use std::alloc::AllocError;
-use std::io::Write;
-use std::{env, io};
+use std::env;
 
 /// The variable of the environment that asks for it by the value 1.
 const ASKED: &str = "AOE_LOG";
-
-/// Says a text on standard error.
-pub fn say(rt: &HostRuntime, text: &[u8]) {
-    let mut stderr = rt.stderr();
-    let _ = stderr.write_all(text);
-}
-
-/// Says the failed calls of a file.
-#[derive(Drop)]
-pub struct FileLog {
-    rt: HostRuntime,
-    name: String,
-}
-
-impl FileLog {
-    /// Says that a call failed, and why; or that it wasn't made, behind a sync that failed.
-    pub fn say(&self, call: &str, why: Option<&io::Error>) {
-        let name = self.name.as_str();
-        let text = match why {
-            Some(error) => format!(in self.rt.alloc(); "aoe: {name}: {call} failed: {error}\n"),
-            None => format!(in self.rt.alloc(); "aoe: {name}: {call} failed behind a sync\n"),
-        };
-        if let Ok(text) = text {
-            say(&self.rt, text.as_bytes());
-        }
-    }
-}
 
 /// The log of a run. Its first line is gathered while files and links are opened. What it has no memory for
 /// isn't said.
@@ -99,7 +69,7 @@ impl Log {
             disk
         };
         if let Ok(name) = format!(in rt.alloc(); "{name}") {
-            disk.log_to(FileLog { rt, name });
+            disk.log_to(FileLog::new(&rt, name));
         }
         disk
     }

@@ -5,55 +5,45 @@
 //! the standard streams and a clock; the text of its [`Status`] goes to standard error.
 //!
 //! `aoe` (`top`, with `plan`, `mirror`, `tools`, `live`, `switch`, `upkeep` and `audit`) opens nothing and says no status;
-//! its contract is what the program promises. What a file, a socket, a stream and a clock do is in adapters (`files`,
-//! `wire`, `until`, `streams`, `clock`), which tell the proofs nothing of content; `progress` shows how far a
-//! mirror's start is. The program catches no signal and starts no thread.
+//! its contract is what the program promises. What a file, a socket, a stream and a clock do is in `aoe_system`, which
+//! tells the proofs nothing of content. The program catches no signal and starts no thread.
 #![tactic(auto)]
 
 ghost use Rattle.std.specs.Prelude.{◌≡◌, ◌==◌, All, IfOk, IsSome, length, map, string_bytes};
 ghost use Rattle.std.specs.List.{slice_split};
 ghost use Rattle.aoe_args.specs.Words.{file_names, port_words};
 
-mod arguments;
 mod audit;
-mod clock;
-mod files;
-mod flow;
 mod live;
 mod log;
 mod mirror;
 mod plan;
-mod progress;
 mod status;
-mod streams;
 mod switch;
+mod teller;
 mod tools;
 mod top;
-mod until;
 mod upkeep;
-mod wire;
 
 use aoe_args::{
     Command, PortWords, Wrong, files_of, is_told, ports_of, read_words, slip_of, stop_of,
 };
 use aoe_base::{Blob, NoMemory};
+use aoe_system::{
+    FileDisk, FileRefusal, Flow, Input, KeepDoubt, Output, SystemClock, Until, Wire, input_sectors,
+    say, words,
+};
 use aoe_tap::{OpenRefusal as TapRefusal, TapMedium};
 use aoe_udp::{OpenRefusal, UdpMedium};
 use aoe_wire::WireLink;
-use arguments::words;
-use clock::SystemClock;
-use files::{FileDisk, FileRefusal, KeepDoubt};
-use flow::{Flow, Teller, input_sectors};
-use log::{Log, say};
+use log::Log;
 use status::Status;
 use std::fs::File;
 use std::io;
 use std::io::{BufReader, ErrorKind};
 use std::process::ExitCode;
-use streams::{Input, Output};
+use teller::Teller;
 use top::aoe;
-use until::Until;
-use wire::Wire;
 
 /// How much of standard input is read at a time, in bytes.
 const READ_AHEAD: usize = 65536;

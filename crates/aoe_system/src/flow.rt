@@ -1,6 +1,5 @@
 //! How far a copy has come, for whoever waits for it. It decides nothing.
 use aoe_base::SECTOR_LEN;
-use aoe_copy::Watch;
 use std::cell::Cell;
 use std::fs;
 use std::io::{IsTerminal, Write};
@@ -97,6 +96,17 @@ impl Flow {
     /// How many sectors, from the first one on, are copied.
     pub fn reached(&self) -> u64 {
         self.reached.get()
+    }
+
+    /// So many sectors are to be copied in all.
+    pub fn plan(&self, sectors: u64) {
+        self.sectors.set(Some(sectors));
+    }
+
+    /// So many sectors, from the first one on, are copied. It is said once a period.
+    pub fn reach(&self, sectors: u64) {
+        self.reached.set(sectors);
+        self.say_in_time();
     }
 
     /// Whether it is to be said again at a time. Then it is said next a period later.
@@ -213,29 +223,6 @@ impl Flow {
         if self.place == Place::Terminal {
             let _ = self.rt.stderr().write_all(b"\n");
         }
-    }
-}
-
-/// Tells a flow what the copy comes to.
-#[derive(Drop)]
-pub struct Teller<'a> {
-    flow: &'a Flow,
-}
-
-impl<'a> Teller<'a> {
-    pub fn new(flow: &'a Flow) -> Teller<'a> {
-        Teller { flow }
-    }
-}
-
-impl Watch for Teller<'_> {
-    fn planned(&mut self, sectors: u64) {
-        self.flow.sectors.set(Some(sectors));
-    }
-
-    fn reached(&mut self, sectors: u64) {
-        self.flow.reached.set(sectors);
-        self.flow.say_in_time();
     }
 }
 

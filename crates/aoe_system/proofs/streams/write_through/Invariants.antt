@@ -1,5 +1,5 @@
 use Rattle.std.specs.Io.KnownBytes.{Keeps}
-use Rattle.aoe.proofs.streams.write_through.Given as goal
+use Rattle.aoe_system.proofs.streams.write_through.Given as goal
 
 -- what was interrupted took nothing
 abbrev pub invariant-tries : goal.invariant-tries

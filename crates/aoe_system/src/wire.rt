@@ -8,14 +8,14 @@ use aoe_wire::{Given, Medium, Taken};
 
 /// What carries the frames of a link.
 #[derive(Drop)]
-pub(crate) enum Wire {
+pub enum Wire {
     Udp(UdpMedium),
     Tap(TapMedium),
 }
 
 impl Wire {
     /// How many frames of AoE were dropped because something of them is left to another.
-    pub(crate) fn offloaded(&self) -> u64 {
+    pub fn offloaded(&self) -> u64 {
         match self {
             Wire::Udp(_) => 0,
             Wire::Tap(tap) => tap.offloaded(),
