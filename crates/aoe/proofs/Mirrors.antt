@@ -297,7 +297,7 @@ runs-mirror state asked t a b r given back disks disks' were are ran stopped sta
 
 -- A command that is a mirror has four disks.
 
-of-mirror : {P : Mirror → Type 0} (c : Command) → is_mirror (Some c) ≡ true → ((asked : Mirror) → c ≡ command.Mirror asked → P asked)
+of-mirror : {P : Mirror → Type 0} (c : Command) → is_mirror c ≡ true → ((asked : Mirror) → c ≡ command.Mirror asked → P asked)
     → (asked : Mirror) × P asked
 of-mirror (command.Answer x) e p = absurd cc
 of-mirror (command.Serve x) e p = absurd cc
@@ -315,7 +315,7 @@ of-mirror (command.Audit x) e p = absurd cc
 
 pub within-mirror : {D S K L : Type 0} (state : D → DiskState) (c : Command) (t : Tells S K L) (s : Status) (a b : Outside S K L)
     (disks disks' : List (Option D)) → ((asked : Mirror) → c ≡ command.Mirror asked → RunsMirror state asked t s a b disks disks')
-    → is_mirror (Some c) ≡ true → (disk : ℕ) → s ≡ status.DiskFault disk → disk < length disks
+    → is_mirror c ≡ true → (disk : ℕ) → s ≡ status.DiskFault disk → disk < length disks
 within-mirror state c t s a b disks disks' mirrors is disk e =
     let r = (of-mirror {P = λ asked. RunsMirror state asked t s a b disks disks'} c is mirrors).1 in
     let few = (r.blames disk e).0 in

@@ -362,7 +362,7 @@ data Runs {D S K L : Type 0} (state : D → DiskState) (t : Tells S K L) (s : St
   over_one : length disks ≡ 1 → ((disk : ℕ) → s ≡ status.DiskFault disk → disk ≡ 0) → Runs state t s a b disks disks'
 
 runs-of : {D S K L : Type 0} (state : D → DiskState) (command : Command) (t : Tells S K L) (s : Status) (a b : Outside S K L) (disks disks' : List (Option D))
-    → is_mirror (Some command) ≡ false → length disks ≡ file_count command
+    → is_mirror command ≡ false → length disks ≡ file_count command
     → Ran state command t s a b disks disks' → Runs state t s a b disks disks'
 runs-of state (command.Answer answer) t s a b disks disks' other count run = over_files _ _ run
 runs-of state (command.Serve serve) t s a b disks disks' other count run = over_files _ _ run
@@ -380,8 +380,8 @@ runs-of state (command.Audit asked) t s a b disks disks' other count run = over_
 
 module _ {D S K L : Type 0} (state : D → DiskState) (command : Command) (t : Tells S K L) (s : Status) (a b : Outside S K L) (disks disks' : List (Option D))
     (run : refused_slot s ≡ None → s ≢ status.NoMemory → Ran state command t s a b disks disks')
-    (refused_if : is_mirror (Some command) ≡ false → (slot : ℕ) → refused_slot s ≡ Some slot → Refused state s slot disks disks')
-    (count : length disks ≡ file_count command) (other : is_mirror (Some command) ≡ false) where
+    (refused_if : is_mirror command ≡ false → (slot : ℕ) → refused_slot s ≡ Some slot → Refused state s slot disks disks')
+    (count : length disks ≡ file_count command) (other : is_mirror command ≡ false) where
   refused : (slot : ℕ) → refused_slot s ≡ Some slot → Refused state s slot disks disks'
   refused = refused_if other
 
@@ -487,7 +487,7 @@ module _ {D S K L : Type 0} (state : D → DiskState) (command : Command) (t : T
 -- Which command it was.
 
 -- a command that exports pairs of files is no mirror
-pub pairs-only : (command : Command) → exports (Some command) ≡ true → is_mirror (Some command) ≡ false
+pub pairs-only : (command : Command) → exports command ≡ true → is_mirror command ≡ false
 pairs-only (command.Answer asked) e = refl
 pairs-only (command.Serve asked) e = refl
 pairs-only (command.Mirror asked) e = absurd cc
@@ -502,22 +502,6 @@ pairs-only (command.Switch asked) e = absurd cc
 pairs-only (command.Keep action) e = absurd cc
 pairs-only (command.Audit asked) e = absurd cc
 
--- what is so of the command that the arguments spell is so of the one that was read
-pub of-command : (P : Option Command → Type 0) (o o' : Option Command) (command : Command) → o ≡ Some command → o ≡ o' → P o' → P (Some command)
-of-command P o o' command is same p = subst P (sym same ∙ is) p
-
-pub ran-of : {D S K L : Type 0} (state : D → DiskState) (t : Tells S K L) (s : Status) (a b : Outside S K L) (disks disks' : List (Option D))
-    (o o' : Option Command) (command : Command) → o ≡ Some command → o ≡ o'
-    → (refused_slot s ≡ None → s ≢ status.NoMemory → Ran state command t s a b disks disks')
-    → IfSome o' (λ asked. refused_slot s ≡ None → s ≢ status.NoMemory → Ran state asked t s a b disks disks')
-ran-of state t s a b disks disks' o o' command is same run =
-    subst (λ (x : Option Command). IfSome x (λ asked. refused_slot s ≡ None → s ≢ status.NoMemory → Ran state asked t s a b disks disks')) (sym is ∙ same) run
-
-pub same-command : (o o' : Option Command) (command asked : Command) → o ≡ Some command → o ≡ o' → o' ≡ Some asked → command ≡ asked
-same-command o o' command asked is same spelled = let both : (let x : Option Command = Some command in x) ≡ Some asked = sym is ∙ same ∙ spelled in cc
-
 pub ran-as : {D S K L : Type 0} (state : D → DiskState) (t : Tells S K L) (s : Status) (a b : Outside S K L) (disks disks' : List (Option D))
-    (o o' : Option Command) (command asked : Command) → o ≡ Some command → o ≡ o' → o' ≡ Some asked
-    → Ran state command t s a b disks disks' → Ran state asked t s a b disks disks'
-ran-as state t s a b disks disks' o o' command asked is same spelled run =
-    subst (λ (x : Command). Ran state x t s a b disks disks') (same-command o o' command asked is same spelled) run
+    (command asked : Command) → command ≡ asked → Ran state command t s a b disks disks' → Ran state asked t s a b disks disks'
+ran-as state t s a b disks disks' command asked is run = subst (λ (x : Command). Ran state x t s a b disks disks') is run

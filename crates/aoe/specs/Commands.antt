@@ -36,49 +36,49 @@ abbrev pub mirror_options : Mirrors → ExportOptions
 mirror_options mirror = record { first = mirror.id; ports = record { items = mirror.port ∷ [] }; mtu = mirror.mtu; cache = 0; durable = false }
 
 -- it exports files as slots, a pair of disks each: a file and its keep
-abbrev pub exports : Option Command → Bool
-exports (Some (Answer asked)) = true
-exports (Some (Serve asked)) = true
+abbrev pub exports : Command → Bool
+exports (Answer asked) = true
+exports (Serve asked) = true
 exports command = false
 
 -- it exports two sides as one slot
-abbrev pub is_mirror : Option Command → Bool
-is_mirror (Some (Mirror asked)) = true
+abbrev pub is_mirror : Command → Bool
+is_mirror (Mirror asked) = true
 is_mirror command = false
 
 -- its one disk is the keep of a slot that no shelf serves
-abbrev pub is_over_keep : Option Command → Bool
-is_over_keep (Some (Keep action)) = true
-is_over_keep (Some (Audit asked)) = true
+abbrev pub is_over_keep : Command → Bool
+is_over_keep (Keep action) = true
+is_over_keep (Audit asked) = true
 is_over_keep command = false
 
 -- it asks by the first link
-abbrev pub is_tool : Option Command → Bool
-is_tool (Some (Ask tool)) = true
-is_tool (Some (Get asked)) = true
-is_tool (Some (LongGet asked)) = true
-is_tool (Some (Put asked)) = true
+abbrev pub is_tool : Command → Bool
+is_tool (Ask tool) = true
+is_tool (Get asked) = true
+is_tool (LongGet asked) = true
+is_tool (Put asked) = true
 is_tool command = false
 
 -- it runs over two links
-abbrev pub is_live : Option Command → Bool
-is_live (Some (Live asked)) = true
+abbrev pub is_live : Command → Bool
+is_live (Live asked) = true
 is_live command = false
 
 -- it writes out what it has before it has all
-abbrev pub is_long_get : Option Command → Bool
-is_long_get (Some (LongGet asked)) = true
+abbrev pub is_long_get : Command → Bool
+is_long_get (LongGet asked) = true
 is_long_get command = false
 
 -- it takes frames of links and the clock, and serves nothing
-abbrev pub uses_clock : Option Command → Bool
+abbrev pub uses_clock : Command → Bool
 uses_clock command = is_tool command || is_live command
 
 -- it reads the source and no stream of frames: a script, sectors, or a capture
-abbrev pub reads_input : Option Command → Bool
-reads_input (Some Replay) = true
-reads_input (Some (Audit asked)) = true
-reads_input (Some (Put asked)) = true
+abbrev pub reads_input : Command → Bool
+reads_input Replay = true
+reads_input (Audit asked) = true
+reads_input (Put asked) = true
 reads_input command = false
 
 -- the target with this minor, over a disk of so many sectors

@@ -1,17 +1,17 @@
 //! The program: its commands, from their arguments to their status.
 //!
-//! In order: [`files_of`], [`ports_of`] and [`stop_of`] of `aoe_args` say what to open and what to look
-//! for; files are opened and locked, and then sockets and tap files; [`aoe`] runs the command over them,
-//! the standard streams and a clock; the text of its [`Status`] goes to standard error.
+//! In order: [`read_words`] of `aoe_args` says which command it is, and what to open and to look for; files are
+//! opened and locked, and then sockets and tap files; [`aoe`] runs the command over them, the standard
+//! streams and a clock; the text of its [`Status`] goes to standard error.
 //!
 //! `aoe` (`top`, with `plan`, `mirror`, `tools`, `live`, `switch`, `upkeep` and `audit`) opens nothing and says no status;
 //! its contract is what the program promises. What a file, a socket, a stream and a clock do is in `aoe_system`, which
 //! tells the proofs nothing of content. The program catches no signal and starts no thread.
 #![tactic(auto)]
 
-ghost use Rattle.std.specs.Prelude.{◌≡◌, ◌==◌, All, IfOk, IsSome, length, map, string_bytes};
-ghost use Rattle.std.specs.List.{slice_split};
-ghost use Rattle.aoe_args.specs.Words.{file_names, port_words};
+ghost use Rattle.std.specs.Prelude.{◌≡◌, ◌≢◌, ◌==◌, ◌↔◌, ◌⊎◌, All, Err, IfErr, IfOk, IsSome, None, Some, false, length, map, string_bytes};
+ghost use Rattle.std.specs.List.{list_all, slice_split};
+ghost use Rattle.aoe_args.specs.Words.{IsInRange, command, file_count, is_word, link_count};
 
 mod audit;
 mod live;
@@ -25,9 +25,7 @@ mod tools;
 mod top;
 mod upkeep;
 
-use aoe_args::{
-    Command, PortWords, Wrong, files_of, is_told, ports_of, read_words, slip_of, stop_of,
-};
+use aoe_args::{Command, CommandLine, PortWords, Wrong, read_words, slip_of};
 use aoe_base::{Blob, NoMemory};
 use aoe_system::{
     FileDisk, FileRefusal, Flow, Input, KeepDoubt, Output, SystemClock, Until, Wire, input_sectors,
@@ -38,6 +36,7 @@ use aoe_udp::{OpenRefusal, UdpMedium};
 use aoe_wire::WireLink;
 use log::Log;
 use status::Status;
+use std::alloc::Global;
 use std::fs::File;
 use std::io;
 use std::io::{BufReader, ErrorKind};
@@ -122,10 +121,10 @@ fn hold_streams(rt: &HostRuntime) -> io::Result<(File, File, File)> {
 
 /// Whether the file with this number is to be a keep: the last of a mirror's four, the only one of
 /// `audit` and `keep`, and of any other command each second one.
-fn is_keep(command: Option<&Command>, number: usize) -> bool {
+fn is_keep(command: &Command, number: usize) -> bool {
     match command {
-        Some(Command::Mirror(_)) => number == 3,
-        Some(Command::Audit(_) | Command::Keep(_)) => true,
+        Command::Mirror(_) => number == 3,
+        Command::Audit(_) | Command::Keep(_) => true,
         _ => number % 2 == 1,
     }
 }
@@ -134,7 +133,7 @@ fn is_keep(command: Option<&Command>, number: usize) -> bool {
 /// to a mirror's first two files is shown, and where there is a log it gets what fails.
 fn open_file(
     rt: &HostRuntime,
-    command: Option<&Command>,
+    command: &Command,
     number: usize,
     name: &str,
     log: &mut Option<Log>,
@@ -143,7 +142,7 @@ fn open_file(
         Ok(disk) => disk,
         Err(refusal) => return Err(tell_refused(rt, name.as_bytes(), refusal)),
     };
-    if matches!(command, Some(Command::Mirror(_))) && number < 2 {
+    if matches!(command, Command::Mirror(_)) && number < 2 {
         disk.show_copying(rt);
     }
     Ok(match log {
@@ -155,7 +154,7 @@ fn open_file(
 /// Opens the files with these names; the exit status where one can't be opened, which is said.
 fn open_all(
     rt: &HostRuntime,
-    command: Option<&Command>,
+    command: &Command,
     names: &[String],
     log: &mut Option<Log>,
 ) -> Result<Vec<Option<FileDisk>>, u8>
@@ -175,7 +174,7 @@ fn open_all(
 /// Looks at each file that is to be a keep; the exit status where one holds other data, which is said.
 fn look_at_keeps(
     rt: &HostRuntime,
-    command: Option<&Command>,
+    command: &Command,
     names: &[String],
     disks: &[Option<FileDisk>],
 ) -> Result<(), u8> {
@@ -318,14 +317,15 @@ fn say_slip(rt: &HostRuntime, words: &[String]) {
 /// a copy has come.
 fn run_over(
     rt: &HostRuntime,
-    words: &[String],
+    command: &Command,
     disks: &mut [Option<FileDisk>],
     links: &mut [Until<WireLink<Wire>>],
     flow: &Flow,
 ) -> Status
-    requires count { length disks.old ≡ length (file_names (map string_bytes words.now)) }
+    requires range { IsInRange command.now }
+    requires count { length disks.old ≡ file_count command.now }
     requires there { All IsSome disks.old }
-    requires links { length links.old ≡ length (port_words (map string_bytes words.now)) }
+    requires links { length links.old ≡ link_count command.now }
 {
     let Ok(reader) = BufReader::with_capacity(rt.alloc(), READ_AHEAD, rt.stdin()) else {
         return Status::NoMemory;
@@ -336,7 +336,7 @@ fn run_over(
     let mut watch = Teller::new(flow);
     let status = aoe(
         rt.alloc(),
-        words,
+        command,
         &mut source,
         &mut sink,
         disks,
@@ -349,10 +349,10 @@ fn run_over(
 }
 
 /// What is known of how far a command comes: of a copy it is told.
-fn flow_of(rt: &HostRuntime, command: Option<&Command>, is_told: bool) -> Flow {
+fn flow_of(rt: &HostRuntime, command: &Command, is_told: bool) -> Flow {
     match command {
-        Some(Command::Get(_) | Command::LongGet(_)) => Flow::new(rt, is_told, None),
-        Some(Command::Put(_)) => Flow::new(rt, is_told, input_sectors(rt)),
+        Command::Get(_) | Command::LongGet(_) => Flow::new(rt, is_told, None),
+        Command::Put(_) => Flow::new(rt, is_told, input_sectors(rt)),
         _ => Flow::nowhere(rt),
     }
 }
@@ -377,91 +377,105 @@ fn tell_reached(rt: &HostRuntime, command: &Command, is_sink: bool, reached: u64
 
 /// Says what there is to say of how a command ended, of which a copy reached so many sectors, and gives the
 /// exit status.
-fn tell_end(
-    rt: &HostRuntime,
-    words: &[String],
-    command: Option<&Command>,
-    status: Status,
-    reached: u64,
-) -> u8 {
+fn tell_end(rt: &HostRuntime, command: &Command, status: Status, reached: u64) -> u8 {
     let is_ok = matches!(status, Status::Ok);
-    let is_usage = matches!(status, Status::Usage);
     let is_sink = matches!(status, Status::SinkFault);
     let code = tell(rt, status);
-    if is_usage {
-        say_slip(rt, words);
-    }
-    if let Some(command) = command
-        && !is_ok
-    {
+    if !is_ok {
         tell_reached(rt, command, is_sink, reached);
     }
     code
 }
 
-/// Opens the files with these names and the links that these arguments name, runs the command that the
-/// arguments spell over them, and gives the exit status.
-fn run_named(
-    rt: &HostRuntime,
-    words: &[String],
-    names: &[String],
-    ends: &[PortWords],
-    stop: Option<String>,
-    is_told: bool,
-) -> u8
-    requires count { length names.now ≡ length (file_names (map string_bytes words.now)) }
-    requires links { length ends.now ≡ length (port_words (map string_bytes words.now)) }
+/// Opens the files and the links of a command line, runs its command over them, and gives the exit status.
+fn run_line(rt: &HostRuntime, line: CommandLine) -> u8
+    requires range { IsInRange line.command }
+    requires files { length line.files.items ≡ file_count line.command }
+    requires links { length line.links.items ≡ link_count line.command }
 {
-    let command = match read_words(rt.alloc(), words) {
-        Ok(command) => command,
-        Err(NoMemory) => return tell(rt, Status::NoMemory),
-    };
+    let CommandLine {
+        command,
+        files,
+        links: ends,
+        stop,
+        is_told,
+    } = line;
     let mut log = Log::asked(rt);
-    let mut disks = match open_all(rt, command.as_ref(), names, &mut log) {
+    let mut disks = match open_all(rt, &command, files.as_slice(), &mut log) {
         Ok(disks) => disks,
         Err(code) => return code,
     };
-    if let Err(code) = look_at_keeps(rt, command.as_ref(), names, disks.as_slice()) {
+    if let Err(code) = look_at_keeps(rt, &command, files.as_slice(), disks.as_slice()) {
         return code;
     }
-    let flow = flow_of(rt, command.as_ref(), is_told);
-    let mut links = match open_links(rt, ends, stop, &flow) {
+    let flow = flow_of(rt, &command, is_told);
+    let mut links = match open_links(rt, ends.as_slice(), stop, &flow) {
         Ok(links) => links,
         Err(code) => return code,
     };
-    if let (Some(log), Some(Command::Serve(serve))) = (&mut log, &command) {
-        log.start(serve, ends);
+    if let (Some(log), Command::Serve(serve)) = (&mut log, &command) {
+        log.start(serve, ends.as_slice());
     }
-    let status = run_over(rt, words, disks.as_mut_slice(), links.as_mut_slice(), &flow);
+    let status = run_over(
+        rt,
+        &command,
+        disks.as_mut_slice(),
+        links.as_mut_slice(),
+        &flow,
+    );
     tell_offloaded(rt, links.as_slice());
     if let (Some(log), [link]) = (&log, links.as_slice())
-        && matches!(command, Some(Command::Serve(_)))
+        && matches!(command, Command::Serve(_))
     {
         log.end(disks.as_slice(), link);
     }
-    tell_end(rt, words, command.as_ref(), status, flow.reached())
+    tell_end(rt, &command, status, flow.reached())
+}
+
+/// What the arguments spell; the status where they spell no command, and where there is no memory to read
+/// them.
+fn line_of(alloc: Global, words: &[String]) -> Result<CommandLine, Status>
+    ensures usage { (result ≡ Err Status.Usage) ↔ (command (map string_bytes words.now) ≡ None)
+        × (result ≢ Err Status.NoMemory) }
+    ensures words { list_all is_word (map string_bytes words.now) ≡ false
+        → result ≡ Err Status.Usage }
+    ensures status { IfErr result (λ status. (status ≡ Status.Usage)
+        ⊎ (status ≡ Status.NoMemory)) }
+    ensures command { IfOk result (λ line. command (map string_bytes words.now)
+        ≡ Some line.command) }
+    ensures range { IfOk result (λ line. IsInRange line.command) }
+    ensures files { IfOk result (λ line. length line.files.items ≡ file_count line.command) }
+    ensures links { IfOk result (λ line. length line.links.items ≡ link_count line.command) }
+{
+    match read_words(alloc, words) {
+        Ok(Some(line)) => Ok(line),
+        Ok(None) => Err(Status::Usage),
+        Err(NoMemory) => Err(Status::NoMemory),
+    }
+}
+
+/// Says a status, and of one that tells of the arguments why they are no command; gives the exit status.
+fn tell_unread(rt: &HostRuntime, words: &[String], status: Status) -> u8 {
+    let is_usage = matches!(status, Status::Usage);
+    let code = tell(rt, status);
+    if is_usage {
+        say_slip(rt, words);
+    }
+    code
 }
 
 /// Runs the command that the arguments spell on its files, its links and the standard streams, and gives
 /// the exit status.
 fn run_words(rt: &HostRuntime, words: &[String]) -> u8 {
-    let Ok(names) = files_of(rt.alloc(), words) else {
-        return tell(rt, Status::NoMemory);
-    };
-    let Ok(ends) = ports_of(rt.alloc(), words) else {
-        return tell(rt, Status::NoMemory);
-    };
-    let Ok(stop) = stop_of(rt.alloc(), words) else {
-        return tell(rt, Status::NoMemory);
-    };
-    let Ok(is_told) = is_told(rt.alloc(), words) else {
-        return tell(rt, Status::NoMemory);
+    let line = match line_of(rt.alloc(), words) {
+        Ok(line) => line,
+        Err(status) => return tell_unread(rt, words, status),
     };
     let _streams = match hold_streams(rt) {
         Ok(streams) => streams,
         Err(error) => return tell_failed(rt, ROOT.as_bytes(), &error, 5),
     };
-    run_named(rt, words, names.as_slice(), ends.as_slice(), stop, is_told)
+    run_line(rt, line)
 }
 
 /// Runs the command that the program's arguments spell, and gives the exit status. Arguments that aren't

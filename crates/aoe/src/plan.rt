@@ -7,7 +7,7 @@ ghost use Rattle.aoe.specs.Ending.{after_syncs, ended_by, excess_of, kept_out, m
 
 use crate::status::{Status, What};
 use aoe_args::{Answer, Mirror, Serve};
-use aoe_base::{Mac, Ports, TargetId};
+use aoe_base::{Mac, Ports, TargetId, copy_of};
 use aoe_keep::MountRefusal;
 use aoe_mirror::MirrorRefusal;
 use aoe_net::NetLimit;
@@ -66,17 +66,17 @@ fn limit(number: Option<u32>) -> u64
 }
 
 /// The slots of `serve`, and what is done with them.
-pub(crate) fn serve_plan(serve: Serve) -> (ExportOptions, Plan)
-    requires { CanServe serve }
-    ensures plan { result ≡ serve_plan serve }
-    ensures possible { CanExport result.0 result.1 (2 * serve.slots) 1 }
+pub(crate) fn serve_plan(serve: &Serve) -> (ExportOptions, Plan)
+    requires { CanServe serve.now }
+    ensures plan { result ≡ serve_plan serve.now }
+    ensures possible { CanExport result.0 result.1 (2 * serve.now.slots) 1 }
 {
     let options = ExportOptions {
         first: TargetId {
             major: serve.shelf,
             minor: 0,
         },
-        ports: serve.ports,
+        ports: copy_of(&serve.ports),
         mtu: serve.mtu,
         cache: serve.cache,
         durable: serve.durable,

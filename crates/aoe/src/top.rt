@@ -1,6 +1,5 @@
 //! The call that the program makes.
-ghost use Rattle.std.specs.Prelude.{◌≡◌, ◌≢◌, ◌≤◌, ◌<◌, ◌+◌, ◌↔◌, ◌⊎◌, List, ℕ, false, true, All, length, map, string_bytes, IfSome, IsSome, None, Some};
-ghost use Rattle.std.specs.List.{list_all};
+ghost use Rattle.std.specs.Prelude.{◌≡◌, ◌≢◌, ◌≤◌, ◌<◌, ◌+◌, ◌↔◌, List, ℕ, false, true, All, length, IfSome, IsSome, None, Some};
 ghost use Rattle.aoe_io.specs.Stream.{stream, IsFrame};
 ghost use Rattle.aoe_lists.specs.Settings.{Settings};
 ghost use Rattle.aoe_base.specs.Sizes.{most_streamed};
@@ -9,7 +8,7 @@ ghost use Rattle.aoe_world.specs.Replay.{IsFaultless};
 ghost use Rattle.aoe_script.specs.Lines.{refusal, script_of};
 ghost use Rattle.aoe_soak.specs.Soak.{soaked};
 ghost use Rattle.aoe_tools.specs.Runs.{told};
-ghost use Rattle.aoe_args.specs.Words.{CanSoak, IsInRange, command, file_count, file_names, is_word, link_count, port_words};
+ghost use Rattle.aoe_args.specs.Words.{CanSoak, IsInRange, file_count, link_count};
 ghost use Rattle.aoe_args.specs.declared.command.Answer.{Answer as Answers};
 ghost use Rattle.aoe_args.specs.declared.command.Audit.{Audit as Audits};
 ghost use Rattle.aoe_args.specs.declared.command.Serve.{Serve as Serves};
@@ -38,8 +37,7 @@ use crate::status::Status;
 use crate::switch::run_switch;
 use crate::tools::{run_get, run_long_get, run_put, run_tool};
 use crate::upkeep::run_keep;
-use aoe_args::{Command, Soak, read_words};
-use aoe_base::NoMemory;
+use aoe_args::{Command, Soak};
 use aoe_copy::Watch;
 use aoe_disk::Disk;
 use aoe_io::{Clock, Link, Sink, Source};
@@ -122,7 +120,7 @@ fn run_soak<K: Sink>(alloc: Global, asked: Soak, sink: &mut K) -> Status
 /// Runs a command: over its files and links, or the script that the source gives.
 fn run_command<S: Source, K: Sink, D: Disk + Drop, L: Link, C: Clock, W: Watch>(
     alloc: Global,
-    command: Command,
+    command: &Command,
     source: &mut S,
     sink: &mut K,
     disks: &mut [Option<D>],
@@ -130,83 +128,81 @@ fn run_command<S: Source, K: Sink, D: Disk + Drop, L: Link, C: Clock, W: Watch>(
     clock: &mut C,
     watch: &mut W,
 ) -> Status
-    requires range { IsInRange command }
-    requires count { length disks.old ≡ file_count command }
+    requires range { IsInRange command.now }
+    requires count { length disks.old ≡ file_count command.now }
     requires there { All IsSome disks.old }
-    requires links { length links.old ≡ link_count command }
-    ensures run { refused_slot result ≡ None → result ≢ Status.NoMemory → Ran D.state command
+    requires links { length links.old ≡ link_count command.now }
+    ensures run { refused_slot result ≡ None → result ≢ Status.NoMemory → Ran D.state command.now
         record { left = S.left; held = K.held; turns = L.turns; given = L.given; taken = L.taken } result
         record { source = source.old; sink = sink.old; links = links.old } record { source = source.new; sink = sink.new; links = links.new }
         disks.old disks.new }
-    ensures refused { is_mirror (Some command) ≡ false → (slot : ℕ) → refused_slot result ≡ Some slot
+    ensures refused { is_mirror command.now ≡ false → (slot : ℕ) → refused_slot result ≡ Some slot
         → Refused D.state result slot disks.old disks.new }
-    ensures unread { is_mirror (Some command) ≡ false → IsSome (refused_slot result)
+    ensures unread { is_mirror command.now ≡ false → IsSome (refused_slot result)
         → (source.new ≡ source.old) × (sink.new ≡ sink.old) × (links.new ≡ links.old) }
-    ensures mirrors { (asked : Mirrors) → command ≡ Command.Mirror asked → RunsMirror D.state asked
+    ensures mirrors { (asked : Mirrors) → command.now ≡ Command.Mirror asked → RunsMirror D.state asked
         record { left = S.left; held = K.held; turns = L.turns; given = L.given; taken = L.taken } result
         record { source = source.old; sink = sink.old; links = links.old } record { source = source.new; sink = sink.new; links = links.new }
         disks.old disks.new }
-    ensures keeps { (action : KeepAction) → command ≡ Command.Keep action
+    ensures keeps { (action : KeepAction) → command.now ≡ Command.Keep action
         → RunsKeep D.state action result (K.held sink.old) (K.held sink.new) disks.old disks.new }
-    ensures audits { (asked : Audits) → command ≡ Command.Audit asked
+    ensures audits { (asked : Audits) → command.now ≡ Command.Audit asked
         → RunsAudit D.state asked result (S.left source.old) (S.left source.new) (K.held sink.old)
         (K.held sink.new) disks.old disks.new }
-    ensures memory { result ≡ Status.NoMemory → (reads_input (Some command) ≡ false
-        → source.new ≡ source.old) × (is_long_get (Some command) ≡ false → sink.new ≡ sink.old)
-        × (is_mirror (Some command) ≡ false → is_over_keep (Some command) ≡ false → disks.new ≡ disks.old) × (uses_clock (Some command) ≡ false → links.new ≡ links.old) }
-    ensures asks { (tool : Tool) → command ≡ Command.Ask tool → Asked K.held (λ a b. told C.least C.answers L.turns L.given L.taken clock.old clock.new a b) tool result sink.old sink.new links.old links.new }
-    ensures gets { (asked : Gets) → command ≡ Command.Get asked → IsGot K.held (λ a b. told C.least C.answers L.turns L.given L.taken clock.old clock.new a b) asked result sink.old sink.new links.old links.new }
-    ensures copies { (asked : LongGets) → command ≡ Command.LongGet asked → IsCopied K.held (λ a b. told C.least C.answers L.turns L.given L.taken clock.old clock.new a b) asked result sink.old sink.new links.old links.new }
-    ensures puts { (asked : Puts) → command ≡ Command.Put asked → IsPut S.left (λ a b. told C.least C.answers L.turns L.given L.taken clock.old clock.new a b) asked result source.old source.new links.old links.new }
-    ensures lives { (asked : Lives) → command ≡ Command.Live asked → AtBoth (λ one one' two two'. RunsLive asked result (K.held sink.old) (K.held sink.new)
+    ensures memory { result ≡ Status.NoMemory → (reads_input command.now ≡ false
+        → source.new ≡ source.old) × (is_long_get command.now ≡ false → sink.new ≡ sink.old)
+        × (is_mirror command.now ≡ false → is_over_keep command.now ≡ false → disks.new ≡ disks.old) × (uses_clock command.now ≡ false → links.new ≡ links.old) }
+    ensures asks { (tool : Tool) → command.now ≡ Command.Ask tool → Asked K.held (λ a b. told C.least C.answers L.turns L.given L.taken clock.old clock.new a b) tool result sink.old sink.new links.old links.new }
+    ensures gets { (asked : Gets) → command.now ≡ Command.Get asked → IsGot K.held (λ a b. told C.least C.answers L.turns L.given L.taken clock.old clock.new a b) asked result sink.old sink.new links.old links.new }
+    ensures copies { (asked : LongGets) → command.now ≡ Command.LongGet asked → IsCopied K.held (λ a b. told C.least C.answers L.turns L.given L.taken clock.old clock.new a b) asked result sink.old sink.new links.old links.new }
+    ensures puts { (asked : Puts) → command.now ≡ Command.Put asked → IsPut S.left (λ a b. told C.least C.answers L.turns L.given L.taken clock.old clock.new a b) asked result source.old source.new links.old links.new }
+    ensures lives { (asked : Lives) → command.now ≡ Command.Live asked → AtBoth (λ one one' two two'. RunsLive asked result (K.held sink.old) (K.held sink.new)
         (ends C.answers L.turns L.given L.taken one two clock.old) (ends C.answers L.turns L.given L.taken one' two' clock.new)
         × AreBlamed result (L.faults one) (L.faults one') (L.faults two) (L.faults two')) links.old links.new }
-    ensures clock { uses_clock (Some command) ≡ false → clock.new ≡ clock.old }
+    ensures clock { uses_clock command.now ≡ false → clock.new ≡ clock.old }
     ensures usage { result ≢ Status.Usage }
     ensures there { All IsSome disks.new }
     ensures source { Blamed (result ≡ Status.SourceFault) (S.faults source.old)
         (S.faults source.new) }
     ensures sink { Blamed (result ≡ Status.SinkFault) (K.faults sink.old) (K.faults sink.new) }
-    ensures first { is_live (Some command) ≡ false
+    ensures first { is_live command.now ≡ false
         → AtFirst (λ a b. Blamed (result ≡ Status.LinkFault 0) (L.faults a)
         (L.faults b)) links.old links.new }
-    ensures alone { is_live (Some command) ≡ false → (link : ℕ) → result ≡ Status.LinkFault link
+    ensures alone { is_live command.now ≡ false → (link : ℕ) → result ≡ Status.LinkFault link
         → link ≡ 0 }
-    ensures soaks { (asked : Soaks) → command ≡ Command.Soak asked
+    ensures soaks { (asked : Soaks) → command.now ≡ Command.Soak asked
         → IsFaultless (K.faults sink.old) (K.faults sink.new)
         → HasReplayed (soaked asked.seed asked.count) result }
-    ensures replays { (text : List ℕ) → command ≡ Command.Replay → S.left source.old ≡ Some text → refusal text ≡ None
+    ensures replays { (text : List ℕ) → command.now ≡ Command.Replay → S.left source.old ≡ Some text → refusal text ≡ None
         → IsFaultless (S.faults source.old) (S.faults source.new) → IsFaultless (K.faults sink.old) (K.faults sink.new) → HasReplayed (script_of text) result }
 {
     match command {
         Command::Answer(answer) => {
-            let (options, plan) = answer_plan(answer);
+            let (options, plan) = answer_plan(*answer);
             run_files(alloc, options, plan, source, sink, disks, links)
         }
         Command::Serve(serve) => {
             let (options, plan) = serve_plan(serve);
             run_files(alloc, options, plan, source, sink, disks, links)
         }
-        Command::Mirror(asked) => run_mirror(alloc, asked, source, sink, disks, links),
+        Command::Mirror(asked) => run_mirror(alloc, *asked, source, sink, disks, links),
         Command::Replay => run_script(alloc, source, sink),
-        Command::Soak(asked) => run_soak(alloc, asked, sink),
+        Command::Soak(asked) => run_soak(alloc, *asked, sink),
         Command::Live(asked) => {
             let (one, two) = links.split_at_mut(1);
-            run_live(alloc, &asked, sink, &mut one[0], &mut two[0], clock)
+            run_live(alloc, asked, sink, &mut one[0], &mut two[0], clock)
         }
         Command::Switch(asked) => run_switch(alloc, asked.ports.as_slice(), source, sink),
-        Command::Ask(tool) => run_tool(alloc, &tool, sink, &mut links[0], clock),
-        Command::Get(asked) => run_get(alloc, &asked, sink, &mut links[0], clock),
-        Command::LongGet(asked) => {
-            run_long_get(alloc, &asked, sink, &mut links[0], clock, watch)
-        }
-        Command::Put(asked) => run_put(alloc, &asked, source, &mut links[0], clock, watch),
-        Command::Keep(action) => run_keep(alloc, action, sink, disks),
-        Command::Audit(asked) => run_audit(alloc, &asked, source, sink, disks),
+        Command::Ask(tool) => run_tool(alloc, tool, sink, &mut links[0], clock),
+        Command::Get(asked) => run_get(alloc, asked, sink, &mut links[0], clock),
+        Command::LongGet(asked) => { run_long_get(alloc, asked, sink, &mut links[0], clock, watch) }
+        Command::Put(asked) => run_put(alloc, asked, source, &mut links[0], clock, watch),
+        Command::Keep(action) => run_keep(alloc, *action, sink, disks),
+        Command::Audit(asked) => run_audit(alloc, asked, source, sink, disks),
     }
 }
 
-/// Runs the command that the arguments behind the program's name spell.
+/// Runs a command over its files and links, the standard streams and the clock.
 ///
 /// `answer SHELF SLOT FILE KEEP` answers each frame that the source's stream brings, as the target
 /// SHELF.SLOT over the first disk and behind the port that `--port` names, with at most one frame on
@@ -257,14 +253,13 @@ fn run_command<S: Source, K: Sink, D: Disk + Drop, L: Link, C: Clock, W: Watch>(
 ///
 /// Of `answer` and `serve` the second disk of each pair is the keep of the target's lists. All keeps are mounted first, and
 /// where one is refused nothing is read, written or sent. At the end each store is synced, however
-/// the run ended. There are as many disks as `files_of` names, and as many links as `ports_of`.
+/// the run ended.
 ///
-/// Memory is taken while the arguments are read, and for the shelf and its stores before the first keep is
-/// mounted; then no more. A replay takes memory until its text is written, and so does a tool; `keep` takes
-/// it for its line.
+/// Memory is taken for the shelf and its stores before the first keep is mounted; then no more. A replay
+/// takes memory until its text is written, and so does a tool; `keep` takes it for its line.
 pub fn aoe<S: Source, K: Sink, D: Disk + Drop, L: Link, C: Clock, W: Watch>(
     alloc: Global,
-    words: &[String],
+    command: &Command,
     source: &mut S,
     sink: &mut K,
     disks: &mut [Option<D>],
@@ -272,108 +267,91 @@ pub fn aoe<S: Source, K: Sink, D: Disk + Drop, L: Link, C: Clock, W: Watch>(
     clock: &mut C,
     watch: &mut W,
 ) -> Status
-    requires count { length disks.old ≡ length (file_names (map string_bytes words.now)) }
+    requires range { IsInRange command.now }
+    requires count { length disks.old ≡ file_count command.now }
     requires there { All IsSome disks.old }
-    requires links { length links.old ≡ length (port_words (map string_bytes words.now)) }
-    ensures usage { (result ≡ Status.Usage) ↔ (command (map string_bytes words.now) ≡ None)
-        × (result ≢ Status.NoMemory) }
-    ensures words { list_all is_word (map string_bytes words.now) ≡ false → result ≡ Status.Usage }
-    ensures unchanged { result ≡ Status.Usage → (source.new ≡ source.old) × (sink.new ≡ sink.old)
-        × (disks.new ≡ disks.old) × (links.new ≡ links.old) }
+    requires links { length links.old ≡ link_count command.now }
+    ensures usage { result ≢ Status.Usage }
 
     // A keep is refused, or the run is one of the shelf law, or the history of a script is lawful and read as was written.
-    ensures refused { is_mirror (command (map string_bytes words.now)) ≡ false → (slot : ℕ)
-        → refused_slot result ≡ Some slot → Refused D.state result slot disks.old disks.new }
-    ensures unread { is_mirror (command (map string_bytes words.now)) ≡ false
-        → IsSome (refused_slot result)
+    ensures refused { is_mirror command.now ≡ false → (slot : ℕ) → refused_slot result ≡ Some slot
+        → Refused D.state result slot disks.old disks.new }
+    ensures unread { is_mirror command.now ≡ false → IsSome (refused_slot result)
         → (source.new ≡ source.old) × (sink.new ≡ sink.old) × (links.new ≡ links.old) }
-    ensures run { IfSome (command (map string_bytes words.now)) (λ asked. refused_slot result ≡ None → result ≢ Status.NoMemory → Ran D.state asked
+    ensures run { refused_slot result ≡ None → result ≢ Status.NoMemory → Ran D.state command.now
         record { left = S.left; held = K.held; turns = L.turns; given = L.given; taken = L.taken } result
         record { source = source.old; sink = sink.old; links = links.old } record { source = source.new; sink = sink.new; links = links.new }
-        disks.old disks.new) }
-    ensures settled { exports (command (map string_bytes words.now)) ≡ true → (slot : ℕ)
-        → result ≡ Status.Ok → OnSlot (λ _ file' _ _. IfSome
-        (D.state file').contents NothingLoose) slot disks.old disks.new }
+        disks.old disks.new }
+    ensures settled { exports command.now ≡ true → (slot : ℕ) → result ≡ Status.Ok
+        → OnSlot (λ _ file' _ _. IfSome (D.state file').contents NothingLoose) slot disks.old disks.new }
     ensures there { All IsSome disks.new }
 
-    // A mirror of two sides is the store of one slot, or there was no memory to read its command.
-    ensures mirrors { (asked : Mirrors) → command (map string_bytes words.now) ≡ Some (Command.Mirror asked)
-        → (result ≡ Status.NoMemory) × (disks.new ≡ disks.old) ⊎ RunsMirror D.state asked
+    // A mirror of two sides is the store of one slot.
+    ensures mirrors { (asked : Mirrors) → command.now ≡ Command.Mirror asked → RunsMirror D.state asked
         record { left = S.left; held = K.held; turns = L.turns; given = L.given; taken = L.taken } result
         record { source = source.old; sink = sink.old; links = links.old } record { source = source.new; sink = sink.new; links = links.new }
         disks.old disks.new }
 
-    // A keep is shown or changed while no shelf runs over it, or there was no memory to read its command.
-    ensures keeps { (action : KeepAction) → command (map string_bytes words.now) ≡ Some (Command.Keep action)
-        → (result ≡ Status.NoMemory) × (sink.new ≡ sink.old) × (disks.new ≡ disks.old)
-        ⊎ RunsKeep D.state action result (K.held sink.old) (K.held sink.new) disks.old disks.new }
+    // A keep is shown or changed while no shelf runs over it.
+    ensures keeps { (action : KeepAction) → command.now ≡ Command.Keep action
+        → RunsKeep D.state action result (K.held sink.old) (K.held sink.new) disks.old disks.new }
 
-    // A capture of a target's wire is judged by the lists of its keep, or there was no memory to read its command.
-    ensures audits { (asked : Audits) → command (map string_bytes words.now) ≡ Some (Command.Audit asked)
-        → (result ≡ Status.NoMemory) × (source.new ≡ source.old) × (sink.new ≡ sink.old) × (disks.new ≡ disks.old)
-        ⊎ RunsAudit D.state asked result (S.left source.old) (S.left source.new) (K.held sink.old) (K.held sink.new) disks.old disks.new }
+    // A capture of a target's wire is judged by the lists of its keep.
+    ensures audits { (asked : Audits) → command.now ≡ Command.Audit asked
+        → RunsAudit D.state asked result (S.left source.old) (S.left source.new) (K.held sink.old)
+        (K.held sink.new) disks.old disks.new }
 
     // When a fault is told: an object whose fault isn't told had none, and one whose fault is told had one, since the first trouble ends
     // the run. Of a command that exports files as slots, the faults of files and keeps, and when a keep is refused.
     ensures source { Blamed (result ≡ Status.SourceFault) (S.faults source.old)
         (S.faults source.new) }
     ensures sink { Blamed (result ≡ Status.SinkFault) (K.faults sink.old) (K.faults sink.new) }
-    ensures link { is_live (command (map string_bytes words.now)) ≡ false
+    ensures link { is_live command.now ≡ false
         → AtFirst (λ a b. Blamed (result ≡ Status.LinkFault 0) (L.faults a) (L.faults b)) links.old links.new }
-    ensures one_link { is_live (command (map string_bytes words.now)) ≡ false → (link : ℕ)
-        → result ≡ Status.LinkFault link → link ≡ 0 }
+    ensures one_link { is_live command.now ≡ false → (link : ℕ) → result ≡ Status.LinkFault link
+        → link ≡ 0 }
     ensures disk_fault { (disk : ℕ) → result ≡ Status.DiskFault disk → disk < length disks.old }
-    ensures file_fault { exports (command (map string_bytes words.now)) ≡ true → (slot : ℕ) → result ≡ Status.DiskFault (file_at slot)
+    ensures file_fault { exports command.now ≡ true → (slot : ℕ) → result ≡ Status.DiskFault (file_at slot)
         → OnSlot (λ file file' _ _. Rose (D.state file).faults (D.state file').faults) slot disks.old disks.new }
-    ensures keep_fault { exports (command (map string_bytes words.now)) ≡ true → (slot : ℕ) → result ≡ Status.DiskFault (keep_at slot)
+    ensures keep_fault { exports command.now ≡ true → (slot : ℕ) → result ≡ Status.DiskFault (keep_at slot)
         → OnSlot (λ _ _ keep keep'. Rose (D.state keep).faults (D.state keep').faults) slot disks.old disks.new }
-    ensures keep_small { exports (command (map string_bytes words.now)) ≡ true → (slot sectors : ℕ)
+    ensures keep_small { exports command.now ≡ true → (slot sectors : ℕ)
         → OnSlot (λ _ _ keep _. (result ≡ Status.KeepSmall (keep_at slot) sectors) ↔ IsSmall (D.state keep) result slot sectors) slot disks.old disks.new }
-    ensures keep_bad { exports (command (map string_bytes words.now)) ≡ true → (slot bad : ℕ) → OnSlot (λ _ _ keep _. IfSome (D.state keep).contents (λ c.
+    ensures keep_bad { exports command.now ≡ true → (slot bad : ℕ) → OnSlot (λ _ _ keep _. IfSome (D.state keep).contents (λ c.
         (result ≡ Status.KeepBad (keep_at slot) bad) ↔ IsBad (D.state keep) c result slot bad)) slot disks.old disks.new }
-    ensures memory { result ≡ Status.NoMemory → (reads_input (command (map string_bytes words.now)) ≡ false → source.new ≡ source.old)
-        × (is_long_get (command (map string_bytes words.now)) ≡ false → sink.new ≡ sink.old) × (is_mirror (command (map string_bytes words.now)) ≡ false → is_over_keep (command (map string_bytes words.now)) ≡ false
-        → disks.new ≡ disks.old) × (uses_clock (command (map string_bytes words.now)) ≡ false → links.new ≡ links.old) }
+    ensures memory { result ≡ Status.NoMemory → (reads_input command.now ≡ false → source.new ≡ source.old)
+        × (is_long_get command.now ≡ false → sink.new ≡ sink.old)
+        × (is_mirror command.now ≡ false → is_over_keep command.now ≡ false → disks.new ≡ disks.old)
+        × (uses_clock command.now ≡ false → links.new ≡ links.old) }
 
-    // What a tool asks, when it ends and what it says; or there was no memory to read its command.
-    ensures asks { (tool : Tool) → command (map string_bytes words.now) ≡ Some (Command.Ask tool) → (result ≡ Status.NoMemory) × (links.new ≡ links.old)
-        ⊎ Asked K.held (λ a b. told C.least C.answers L.turns L.given L.taken clock.old clock.new a b) tool result sink.old sink.new links.old links.new }
-    ensures gets { (asked : Gets) → command (map string_bytes words.now) ≡ Some (Command.Get asked) → (result ≡ Status.NoMemory) × (links.new ≡ links.old)
-        ⊎ IsGot K.held (λ a b. told C.least C.answers L.turns L.given L.taken clock.old clock.new a b) asked result sink.old sink.new links.old links.new }
-    ensures copies { (asked : LongGets) → command (map string_bytes words.now) ≡ Some (Command.LongGet asked) → (result ≡ Status.NoMemory) × (sink.new ≡ sink.old) × (links.new ≡ links.old)
-        ⊎ IsCopied K.held (λ a b. told C.least C.answers L.turns L.given L.taken clock.old clock.new a b) asked result sink.old sink.new links.old links.new }
-    ensures puts { (asked : Puts) → command (map string_bytes words.now) ≡ Some (Command.Put asked) → (result ≡ Status.NoMemory) × (links.new ≡ links.old)
-        ⊎ IsPut S.left (λ a b. told C.least C.answers L.turns L.given L.taken clock.old clock.new a b) asked result source.old source.new links.old links.new }
-    ensures lives { (asked : Lives) → command (map string_bytes words.now) ≡ Some (Command.Live asked) → (result ≡ Status.NoMemory) × (links.new ≡ links.old)
-        ⊎ AtBoth (λ one one' two two'. RunsLive asked result (K.held sink.old) (K.held sink.new)
+    // What a tool asks, when it ends and what it says.
+    ensures asks { (tool : Tool) → command.now ≡ Command.Ask tool → Asked K.held (λ a b. told C.least C.answers L.turns L.given L.taken clock.old clock.new a b) tool result sink.old sink.new links.old links.new }
+    ensures gets { (asked : Gets) → command.now ≡ Command.Get asked → IsGot K.held (λ a b. told C.least C.answers L.turns L.given L.taken clock.old clock.new a b) asked result sink.old sink.new links.old links.new }
+    ensures copies { (asked : LongGets) → command.now ≡ Command.LongGet asked → IsCopied K.held (λ a b. told C.least C.answers L.turns L.given L.taken clock.old clock.new a b) asked result sink.old sink.new links.old links.new }
+    ensures puts { (asked : Puts) → command.now ≡ Command.Put asked → IsPut S.left (λ a b. told C.least C.answers L.turns L.given L.taken clock.old clock.new a b) asked result source.old source.new links.old links.new }
+    ensures lives { (asked : Lives) → command.now ≡ Command.Live asked → AtBoth (λ one one' two two'. RunsLive asked result (K.held sink.old) (K.held sink.new)
         (ends C.answers L.turns L.given L.taken one two clock.old) (ends C.answers L.turns L.given L.taken one' two' clock.new)
         × AreBlamed result (L.faults one) (L.faults one') (L.faults two) (L.faults two')) links.old links.new }
-    ensures clock { uses_clock (command (map string_bytes words.now)) ≡ false
-        → clock.new ≡ clock.old }
+    ensures clock { uses_clock command.now ≡ false → clock.new ≡ clock.old }
 
     // With no fault keeps that hold lists are mounted, and then a stream of frames is answered to its end, and a link is served;
     // and a script with no bad line is run.
-    ensures mounted { exports (command (map string_bytes words.now)) ≡ true → (slot : ℕ) (lists : Settings) → OnSlot (λ _ _ keep keep'. HasLists (D.state keep) lists
+    ensures mounted { exports command.now ≡ true → (slot : ℕ) (lists : Settings) → OnSlot (λ _ _ keep keep'. HasLists (D.state keep) lists
         → IsFaultless (D.state keep).faults (D.state keep').faults → refused_slot result ≢ Some slot) slot disks.old disks.new }
-    ensures answers { (asked : Answers) (frames : List (List ℕ)) → command (map string_bytes words.now) ≡ Some (Command.Answer asked) → refused_slot result ≡ None → result ≢ Status.NoMemory
+    ensures answers { (asked : Answers) (frames : List (List ℕ)) → command.now ≡ Command.Answer asked → refused_slot result ≡ None → result ≢ Status.NoMemory
         → S.left source.old ≡ Some (stream frames) → All IsFrame frames → length frames < most_streamed
         → IsFaultless (S.faults source.old) (S.faults source.new) → IsFaultless (K.faults sink.old) (K.faults sink.new)
         → ((slot : ℕ) → OnSlot (λ file file' _ _. IsFaultless (D.state file).faults (D.state file').faults) slot disks.old disks.new)
         → result ≡ Status.Ok }
-    ensures serves { (asked : Serves) → command (map string_bytes words.now) ≡ Some (Command.Serve asked) → refused_slot result ≡ None → result ≢ Status.NoMemory
+    ensures serves { (asked : Serves) → command.now ≡ Command.Serve asked → refused_slot result ≡ None → result ≢ Status.NoMemory
         → AtFirst (λ a b. IsFaultless (L.faults a) (L.faults b)) links.old links.new
         → ((slot : ℕ) → OnSlot (λ file file' _ _. IsFaultless (D.state file).faults (D.state file').faults) slot disks.old disks.new)
         → result ≡ Status.Ok }
-    ensures soaks { (asked : Soaks) → command (map string_bytes words.now) ≡ Some (Command.Soak asked)
-        → IsFaultless (K.faults sink.old) (K.faults sink.new) → HasReplayed (soaked asked.seed asked.count) result }
-    ensures replays { (text : List ℕ) → command (map string_bytes words.now) ≡ Some Command.Replay → S.left source.old ≡ Some text → refusal text ≡ None
+    ensures soaks { (asked : Soaks) → command.now ≡ Command.Soak asked
+        → IsFaultless (K.faults sink.old) (K.faults sink.new)
+        → HasReplayed (soaked asked.seed asked.count) result }
+    ensures replays { (text : List ℕ) → command.now ≡ Command.Replay → S.left source.old ≡ Some text → refusal text ≡ None
         → IsFaultless (S.faults source.old) (S.faults source.new) → IsFaultless (K.faults sink.old) (K.faults sink.new) → HasReplayed (script_of text) result }
 {
-    match read_words(alloc, words) {
-        Ok(Some(command)) => {
-            run_command(alloc, command, source, sink, disks, links, clock, watch)
-        }
-        Ok(None) => Status::Usage,
-        Err(NoMemory) => Status::NoMemory,
-    }
+    run_command(alloc, command, source, sink, disks, links, clock, watch)
 }

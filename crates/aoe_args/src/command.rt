@@ -311,3 +311,24 @@ pub enum PortWords {
         file: Blob,
     },
 }
+
+/// What a command line spells: a command, and what a program opens, looks for and says for it.
+#[derive(Drop)]
+pub struct CommandLine {
+    pub command: Command,
+
+    /// The names of the files that `answer`, `capture`, `serve`, `mirror`, `audit` or `keep` works on, in
+    /// their order; none for the other commands.
+    pub files: Vec<String>,
+
+    /// What names the links that the command works on: one for `serve` and for each tool, two for `live`,
+    /// none for the other commands.
+    pub links: Vec<PortWords>,
+
+    /// The name of the file whose coming ends the run: what `--stop` of `serve` gives, where it stands.
+    pub stop: Option<String>,
+
+    /// Whether it is told how far a copy has come where standard error is no terminal, too: `--progress`
+    /// of `get` and `put`.
+    pub is_told: bool,
+}

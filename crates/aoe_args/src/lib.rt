@@ -1,8 +1,8 @@
 //! The command line: what its arguments spell, or that they spell nothing.
 //!
-//! [`read_words`] gives the [`Command`] that the arguments spell. [`files_of`] and [`ports_of`]
-//! give what a program has to open for it, in the order in which it is named, [`stop_of`] the
-//! file whose coming ends the run, and [`is_told`] whether it tells how far it has come.
+//! [`read_words`] gives the [`CommandLine`] that the arguments spell: the [`Command`], the files and links
+//! that a program has to open for it, in the order in which they are named, the file whose coming ends
+//! the run, and whether the program tells how far it has come.
 //!
 //! The first argument is the command. An argument that begins with a hyphen is an option of it,
 //! `--name value` or `--name=value`; options may stand anywhere behind the command. Which argument
@@ -28,9 +28,9 @@ mod values;
 mod word;
 
 pub use command::{
-    Answer, Asking, Audit, Cfg, Command, Discover, Flush, Get, KeepAction, Live, LongGet, Mask,
-    Mirror, PortKinds, PortWords, Put, Reserve, Serve, Soak, Stat, Switch, Tool,
+    Answer, Asking, Audit, Cfg, Command, CommandLine, Discover, Flush, Get, KeepAction, Live,
+    LongGet, Mask, Mirror, PortKinds, PortWords, Put, Reserve, Serve, Soak, Stat, Switch, Tool,
 };
 pub use law::plain_words_law;
-pub use read::{files_of, is_told, ports_of, read_words, stop_of};
+pub use read::read_words;
 pub use slip::{Actions, Slip, Wrong, slip_of};

@@ -3,7 +3,7 @@ ghost use Rattle.std.specs.Prelude.{◌≡◌, ◌≢◌, ◌≤◌, length, fal
 ghost use Rattle.std.specs.List.{list_all};
 ghost use Rattle.clap.specs.Values.{kind_of};
 ghost use Rattle.clap.specs.Words.{found_of, rows_of};
-ghost use Rattle.aoe_args.specs.Words.{CanRun, CanServe, Fits, IsFoundIn, IsInRange, answer_of, asked_of, audit_of, command, command_of, file_count, file_names, files_of, holds_back_durably, idle_of, is_durable, is_told, is_told_in, is_word, keep_action, keep_name, keep_of, link_count, links_of, list_tool_of, live_of, mirror_of, parsed, port_words, serve_of, serve_with, soak_of, spelled, stop_in, stop_name, switch_of, tool_of, with_rows};
+ghost use Rattle.aoe_args.specs.Words.{CanRun, CanServe, Fits, IsFoundIn, IsInRange, answer_of, asked_of, audit_of, command, command_of, file_count, file_names, files_of, holds_back_durably, idle_of, is_durable, is_told, is_told_in, is_word, keep_action, keep_name, keep_of, link_count, links_of, list_tool_of, live_of, mirror_of, parsed, port_words, serve_of, serve_with, soak_of, stop_in, stop_name, switch_of, tool_of};
 ghost use Rattle.aoe_args.specs.Values.{link};
 
 use crate::app::matches;
@@ -20,7 +20,8 @@ use crate::values::{
 };
 use crate::word::is_word;
 use crate::{
-    Answer, Audit, Command, KeepAction, Live, Mirror, PortWords, Serve, Soak, Switch, Tool,
+    Answer, Audit, Command, CommandLine, KeepAction, Live, Mirror, PortWords, Serve, Soak, Switch,
+    Tool,
 };
 use aoe_base::{LAST_MAJOR, LAST_MINOR, NoMemory, TargetId};
 use clap::ArgMatches;
@@ -47,13 +48,6 @@ const DEFAULT_IDLE: u32 = 3000;
 
 /// How many turns that end no command end `live` where nothing is said of it.
 const LIVE_TURNS: u32 = 5000;
-
-/// A command that arguments spell, with what clap found for it.
-#[derive(Drop)]
-struct Found<'a> {
-    command: Command,
-    matches: ArgMatches<'a>,
-}
 
 /// Whether every word can stand on a command line.
 fn are_words(words: &[String]) -> bool
@@ -356,47 +350,6 @@ fn command_of(name: &str, found: &ArgMatches) -> Option<Command>
     }
 }
 
-/// The command that these arguments of it spell, with what clap found for it.
-fn with_command<'a>(name: &'a str, matches: ArgMatches<'a>) -> Option<Found<'a>>
-    ensures value { option_map (λ s. (s.command, rows_of (found_of s.matches))) result
-        ≡ with_rows name.entry.now (rows_of (found_of matches.entry)) }
-    ensures fits { IfSome result (λ s. Fits (rows_of (found_of s.matches)) s.command) }
-{
-    let command = command_of(name, &matches)?;
-    Some(Found { command, matches })
-}
-
-/// The command that the arguments spell, with what clap found for it.
-fn spelled<'a>(alloc: Global, words: &'a [String]) -> Result<Option<Found<'a>>, NoMemory>
-    ensures value { IfOk result (λ r. option_map (λ s. (s.command, rows_of (found_of s.matches))) r
-        ≡ spelled (map string_bytes words.entry.now)) }
-    ensures fits { IfOk result (λ r. IfSome r (λ s. Fits
-        (rows_of (found_of s.matches)) s.command)) }
-    ensures words { list_all is_word (map string_bytes words.entry.now) ≡ false → result ≡ Ok None }
-{
-    match parsed(alloc, words)? {
-        Some((name, matches)) => Ok(with_command(name, matches)),
-        None => Ok(None),
-    }
-}
-
-/// The command that the arguments behind the program's name spell, or `None` where they spell none.
-/// Memory is asked for once each argument can stand on a command line.
-pub fn read_words(alloc: Global, words: &[String]) -> Result<Option<Command>, NoMemory>
-    ensures command { IfOk result (λ r. r ≡ command (map string_bytes words.now)) }
-    ensures range { IfOk result (λ r. IfSome r IsInRange) }
-    ensures files { IfOk result (λ r. IfSome r
-        (λ c. length (file_names (map string_bytes words.now)) ≡ file_count c)) }
-    ensures links { IfOk result (λ r. IfSome r
-        (λ c. length (port_words (map string_bytes words.now)) ≡ link_count c)) }
-    ensures words { list_all is_word (map string_bytes words.now) ≡ false → result ≡ Ok None }
-{
-    match spelled(alloc, words)? {
-        Some(found) => Ok(Some(found.command)),
-        None => Ok(None),
-    }
-}
-
 /// Copies of texts.
 fn copies(alloc: Global, texts: &[&str]) -> Result<Vec<String>, NoMemory>
     ensures { IfOk result (λ names. map string_bytes names.items
@@ -409,20 +362,17 @@ fn copies(alloc: Global, texts: &[&str]) -> Result<Vec<String>, NoMemory>
     Ok(names)
 }
 
-/// The names of the files that a command works on.
-fn files_in(alloc: Global, found: &Found) -> Result<Vec<String>, NoMemory>
+/// The names of the files that a command works on, in their order.
+fn files_of(alloc: Global, command: &Command, found: &ArgMatches) -> Result<Vec<String>, NoMemory>
     ensures { IfOk result (λ names. map string_bytes names.items
-        ≡ files_of found.now.command (rows_of (found_of found.now.matches))) }
+        ≡ files_of command.now (rows_of (found_of found.now))) }
 {
-    match found.command {
-        Command::Answer(_) | Command::Serve(_) | Command::Mirror(_) => match texts(
-            &found.matches,
-            "files",
-        ) {
+    match command {
+        Command::Answer(_) | Command::Serve(_) | Command::Mirror(_) => match texts(found, "files") {
             Some(texts) => copies(alloc, texts),
             None => Ok(Vec::new(alloc)),
         },
-        Command::Audit(_) | Command::Keep(_) => match keep_name(&found.matches) {
+        Command::Audit(_) | Command::Keep(_) => match keep_name(found) {
             Some(name) => copies(alloc, &[name]),
             None => Ok(Vec::new(alloc)),
         },
@@ -430,24 +380,16 @@ fn files_in(alloc: Global, found: &Found) -> Result<Vec<String>, NoMemory>
     }
 }
 
-/// The names of the files that `answer`, `capture`, `serve`, `mirror`, `audit` or `keep` works on, in
-/// their order; none for the other commands and where the arguments spell no command.
-pub fn files_of(alloc: Global, words: &[String]) -> Result<Vec<String>, NoMemory>
-    ensures { IfOk result (λ names. map string_bytes names.items
-        ≡ file_names (map string_bytes words.now)) }
-{
-    match spelled(alloc, words)? {
-        Some(found) => files_in(alloc, &found),
-        None => Ok(Vec::new(alloc)),
-    }
-}
-
 /// What names the links that a command works on.
-fn links_in(alloc: Global, found: &Found) -> Result<Vec<PortWords>, NoMemory>
+fn links_of(
+    alloc: Global,
+    command: &Command,
+    found: &ArgMatches,
+) -> Result<Vec<PortWords>, NoMemory>
     ensures { IfOk result (λ links. links.items
-        ≡ links_of found.now.command (rows_of (found_of found.now.matches))) }
+        ≡ links_of command.now (rows_of (found_of found.now))) }
 {
-    match found.command {
+    match command {
         Command::Answer(_)
         | Command::Mirror(_)
         | Command::Audit(_)
@@ -455,7 +397,7 @@ fn links_in(alloc: Global, found: &Found) -> Result<Vec<PortWords>, NoMemory>
         | Command::Soak(_)
         | Command::Switch(_)
         | Command::Keep(_) => Ok(Vec::new(alloc)),
-        Command::Live(_) => match two_ends(&found.matches) {
+        Command::Live(_) => match two_ends(found) {
             Some((one, two)) => all_links(alloc, &[one, two]),
             None => Ok(Vec::new(alloc)),
         },
@@ -463,7 +405,7 @@ fn links_in(alloc: Global, found: &Found) -> Result<Vec<PortWords>, NoMemory>
         | Command::Ask(_)
         | Command::Get(_)
         | Command::LongGet(_)
-        | Command::Put(_) => match link(&found.matches) {
+        | Command::Put(_) => match link(found) {
             Some(link) => all_links(alloc, &[link]),
             None => Ok(Vec::new(alloc)),
         },
@@ -471,61 +413,60 @@ fn links_in(alloc: Global, found: &Found) -> Result<Vec<PortWords>, NoMemory>
 }
 
 /// The name of the file whose coming ends the run of a command.
-fn stop_in<'a>(found: &Found<'a>) -> Option<&'a str>
-    ensures { option_map (λ name. name.now) result
-        ≡ stop_in found.now.command (rows_of (found_of found.now.matches)) }
-{
-    match found.command {
-        Command::Serve(_) => text(&found.matches, "stop"),
-        _ => None,
-    }
-}
-
-/// The name of the file whose coming ends the run: what `--stop` of `serve` gives, where it stands;
-/// none for the other commands and where the arguments spell no command.
-pub fn stop_of(alloc: Global, words: &[String]) -> Result<Option<String>, NoMemory>
+fn stop_of(alloc: Global, command: &Command, found: &ArgMatches) -> Result<Option<String>, NoMemory>
     ensures { IfOk result (λ name. option_map string_bytes name
-        ≡ stop_name (map string_bytes words.now)) }
+        ≡ stop_in command.now (rows_of (found_of found.now))) }
 {
-    let Some(found) = spelled(alloc, words)? else {
+    let Command::Serve(_) = command else {
         return Ok(None);
     };
-    match stop_in(&found) {
+    match text(found, "stop") {
         Some(name) => Ok(Some(String::from_str(alloc, name)?)),
         None => Ok(None),
     }
 }
 
 /// Whether it is told how far a command has come where standard error is no terminal, too.
-fn is_told_in(found: &Found) -> bool
-    ensures { result ≡ is_told_in found.now.command (rows_of (found_of found.now.matches)) }
+fn is_told_in(command: &Command, found: &ArgMatches) -> bool
+    ensures { result ≡ is_told_in command.now (rows_of (found_of found.now)) }
 {
-    match found.command {
-        Command::Get(_) | Command::LongGet(_) | Command::Put(_) => {
-            is_set(&found.matches, "progress")
-        }
+    match command {
+        Command::Get(_) | Command::LongGet(_) | Command::Put(_) => is_set(found, "progress"),
         _ => false,
     }
 }
 
-/// Whether it is told how far a copy has come where standard error is no terminal, too: `--progress`
-/// of `get` and `put`.
-pub fn is_told(alloc: Global, words: &[String]) -> Result<bool, NoMemory>
-    ensures { IfOk result (λ told. told ≡ is_told (map string_bytes words.now)) }
+/// What the arguments behind the program's name spell, or `None` where they spell no command. Memory is
+/// asked for once each argument can stand on a command line.
+pub fn read_words(alloc: Global, words: &[String]) -> Result<Option<CommandLine>, NoMemory>
+    ensures command { IfOk result (λ r. option_map (λ line. line.command) r
+        ≡ command (map string_bytes words.now)) }
+    ensures range { IfOk result (λ r. IfSome r (λ line. IsInRange line.command)) }
+    ensures files { IfOk result (λ r. IfSome r (λ line. map string_bytes line.files.items
+        ≡ file_names (map string_bytes words.now))) }
+    ensures file_count { IfOk result (λ r. IfSome r (λ line. length line.files.items
+        ≡ file_count line.command)) }
+    ensures links { IfOk result (λ r. IfSome r (λ line. line.links.items
+        ≡ port_words (map string_bytes words.now))) }
+    ensures link_count { IfOk result (λ r. IfSome r (λ line. length line.links.items
+        ≡ link_count line.command)) }
+    ensures stop { IfOk result (λ r. IfSome r (λ line. option_map string_bytes line.stop
+        ≡ stop_name (map string_bytes words.now))) }
+    ensures told { IfOk result (λ r. IfSome r (λ line. line.is_told
+        ≡ is_told (map string_bytes words.now))) }
+    ensures words { list_all is_word (map string_bytes words.now) ≡ false → result ≡ Ok None }
 {
-    match spelled(alloc, words)? {
-        Some(found) => Ok(is_told_in(&found)),
-        None => Ok(false),
-    }
-}
-
-/// What names the links that the command works on: one for `serve` and for each tool, two for
-/// `live`, none for the other commands and where the arguments spell no command.
-pub fn ports_of(alloc: Global, words: &[String]) -> Result<Vec<PortWords>, NoMemory>
-    ensures { IfOk result (λ links. links.items ≡ port_words (map string_bytes words.now)) }
-{
-    match spelled(alloc, words)? {
-        Some(found) => links_in(alloc, &found),
-        None => Ok(Vec::new(alloc)),
-    }
+    let Some((name, found)) = parsed(alloc, words)? else {
+        return Ok(None);
+    };
+    let Some(command) = command_of(name, &found) else {
+        return Ok(None);
+    };
+    Ok(Some(CommandLine {
+        files: files_of(alloc, &command, &found)?,
+        links: links_of(alloc, &command, &found)?,
+        stop: stop_of(alloc, &command, &found)?,
+        is_told: is_told_in(&command, &found),
+        command,
+    }))
 }

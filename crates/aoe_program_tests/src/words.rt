@@ -3,9 +3,8 @@ mod refused;
 mod slips;
 
 use aoe_args::{
-    Answer, Asking, Audit, Cfg, Command, Discover, Flush, Get, Live, LongGet, Mask, PortKinds,
-    PortWords, Put, Reserve, Serve, Soak, Stat, Switch, Tool, files_of, is_told, ports_of,
-    read_words, slip_of, stop_of,
+    Answer, Asking, Audit, Cfg, Command, CommandLine, Discover, Flush, Get, Live, LongGet, Mask,
+    PortKinds, PortWords, Put, Reserve, Serve, Soak, Stat, Switch, Tool, read_words, slip_of,
 };
 use aoe_base::{Blob, Mac, NoMemory, Ports, TargetId};
 use aoe_lists::Dir;
@@ -28,12 +27,12 @@ fn words_of(alloc: Global, line: &str) -> Result<Vec<String>, AllocError> {
 }
 
 /// What these words spell, without what is proved of it.
-fn read(alloc: Global, words: &[String]) -> Result<Option<Command>, NoMemory> {
+fn read(alloc: Global, words: &[String]) -> Result<Option<CommandLine>, NoMemory> {
     read_words(alloc, words)
 }
 
 /// What a line spells.
-fn read_line(alloc: Global, line: &str) -> Result<Option<Command>, Fail> {
+fn read_line(alloc: Global, line: &str) -> Result<Option<CommandLine>, Fail> {
     let words = words_of(alloc, line)?;
     Ok(read(alloc, words.as_slice())?)
 }
@@ -46,9 +45,9 @@ fn add_part(joined: &mut Vec<u8>, bytes: &[u8]) -> Result<(), AllocError> {
     joined.extend_from_slice(bytes)
 }
 
-/// Adds the names of the files that these words open.
-fn add_files(alloc: Global, words: &[String], joined: &mut Vec<u8>) -> Result<(), Fail> {
-    for name in &files_of(alloc, words)? {
+/// Adds the names of files.
+fn add_files(files: &[String], joined: &mut Vec<u8>) -> Result<(), Fail> {
+    for name in files {
         add_part(joined, name.as_bytes())?;
     }
     Ok(())
@@ -72,10 +71,10 @@ fn add_udp(
     Ok(())
 }
 
-/// Adds the links that these words open, each as `local>peers`, with `#` and the number of its VXLAN,
-/// or as the name of its tap file.
-fn add_links(alloc: Global, words: &[String], joined: &mut Vec<u8>) -> Result<(), Fail> {
-    for link in &ports_of(alloc, words)? {
+/// Adds links, each as `local>peers`, with `#` and the number of its VXLAN, or as the name of its tap
+/// file.
+fn add_links(alloc: Global, links: &[PortWords], joined: &mut Vec<u8>) -> Result<(), Fail> {
+    for link in links {
         match link {
             PortWords::Udp {
                 local,
@@ -88,31 +87,21 @@ fn add_links(alloc: Global, words: &[String], joined: &mut Vec<u8>) -> Result<()
     Ok(())
 }
 
-/// Adds the name of the file whose coming ends the run, behind an exclamation mark.
-fn add_stop(alloc: Global, words: &[String], joined: &mut Vec<u8>) -> Result<(), Fail> {
-    if let Some(name) = stop_of(alloc, words)? {
-        add_part(joined, b"!")?;
-        joined.extend_from_slice(name.as_bytes())?;
-    }
-    Ok(())
-}
-
-/// Adds that it is told how far the run has come, where it is.
-fn add_told(alloc: Global, words: &[String], joined: &mut Vec<u8>) -> Result<(), Fail> {
-    if is_told(alloc, words)? {
-        add_part(joined, b"told")?;
-    }
-    Ok(())
-}
-
-/// What a line opens, its files and then its links, what it looks for, and whether it is told how far it has come.
+/// What a line opens, its files and then its links, the file whose coming ends the run, behind an
+/// exclamation mark, and whether it is told how far the run has come.
 fn opened(alloc: Global, line: &str) -> Result<Vec<u8>, Fail> {
-    let words = words_of(alloc, line)?;
     let mut joined = Vec::new(alloc);
-    add_files(alloc, words.as_slice(), &mut joined)?;
-    add_links(alloc, words.as_slice(), &mut joined)?;
-    add_stop(alloc, words.as_slice(), &mut joined)?;
-    add_told(alloc, words.as_slice(), &mut joined)?;
+    if let Some(read) = read_line(alloc, line)? {
+        add_files(read.files.as_slice(), &mut joined)?;
+        add_links(alloc, read.links.as_slice(), &mut joined)?;
+        if let Some(name) = &read.stop {
+            add_part(&mut joined, b"!")?;
+            joined.extend_from_slice(name.as_bytes())?;
+        }
+        if read.is_told {
+            add_part(&mut joined, b"told")?;
+        }
+    }
     Ok(joined)
 }
 
@@ -129,7 +118,7 @@ fn long_line(alloc: Global, begin: &str, piece: &str, count: u32) -> Result<Stri
 fn spells(alloc: Global, line: &str, end: &str, command: &Command) -> Result<bool, Fail> {
     let whole = long_line(alloc, line, end, 1)?;
     let read = read_line(alloc, whole.as_str())?;
-    Ok(read.is_some_and(|read| read == *command))
+    Ok(read.is_some_and(|read| read.command == *command))
 }
 
 /// Each line spells the command beside it, with the same end behind all of them.
@@ -141,15 +130,13 @@ fn reads(rt: &impl Abort, alloc: Global, end: &str, cases: &[(&str, Command)]) -
     Ok(())
 }
 
-/// Whether a line with this end spells nothing and opens nothing.
+/// Whether a line with this end spells nothing.
 fn is_refused(alloc: Global, line: &str, end: &str) -> Result<bool, Fail> {
     let whole = long_line(alloc, line, end, 1)?;
-    let read = read_line(alloc, whole.as_str())?;
-    let opened = opened(alloc, whole.as_str())?;
-    Ok(read.is_none() && opened.is_empty())
+    Ok(read_line(alloc, whole.as_str())?.is_none())
 }
 
-/// Each line spells nothing and opens nothing, with the same end behind all of them.
+/// Each line spells nothing, with the same end behind all of them.
 fn refuses(rt: &impl Abort, alloc: Global, end: &str, lines: &[&str]) -> Result<(), Fail> {
     for line in lines {
         let refused = is_refused(alloc, line, end)?;
