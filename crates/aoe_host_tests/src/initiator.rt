@@ -60,8 +60,10 @@ fn attached(alloc: Global, remotes: &Ports) -> Result<Initiator, Fail>
     ensures few { IfOk result (λ host. length host.devices < 2) }
 {
     let mut host = Initiator::new(alloc, &one(A), LIFETIMES, ROOM, DEAD)?;
-    host.attach(DEVICE, remotes, 16, 2)?;
-    Ok(host)
+    match host.attach(DEVICE, remotes, 16, 2) {
+        Ok(_) => Ok(host),
+        Err(_) => Err(Fail::new("the device wasn't attached")),
+    }
 }
 
 /// What a host sends first.
