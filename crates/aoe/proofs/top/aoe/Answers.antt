@@ -1,6 +1,9 @@
-use Rattle.std.proofs.Common.{◌∙◌, false, true, ap, arith, inl, inr}
+use Rattle.std.proofs.Common.{◌≡◌, ◌∙◌, ℕ, ap, arith, inl, inr}
 use Rattle.std.proofs.lemmas.Bool.{cases_Bool}
 use Rattle.aoe_args.specs.Words.{link_count}
+use Rattle.aoe_args.specs.declared.command.Command.{Command}
+use Rattle.aoe_args.specs.declared.command.Command.TheVariants.{Serve}
+use Rattle.aoe_args.specs.declared.command.Serve.{Serve as Serves}
 use Rattle.aoe.specs.Commands.{is_live, is_mirror}
 use Rattle.aoe.proofs.Blame.{at-first}
 use Rattle.aoe.proofs.Complete.{answers, link-fine, serves}
@@ -9,9 +12,13 @@ use Rattle.aoe.proofs.Refusals.{disk-within, file-fault, keep-bad, keep-fault, k
 use Rattle.aoe_world.proofs.RunLemmas.{no_fault}
 use Rattle.aoe.proofs.top.aoe.Goals as goal
 
+-- serve has one link
+linked : (n : ℕ) (command : Command) (asked : Serves) → command ≡ Serve asked → n ≡ link_count command → n ≡ 1
+linked n command asked is count = count ∙ ap link_count is
+
 pub returns-clause-settled : goal.returns-clause-settled
 returns-clause-settled g c exported slot e =
-    settled _ _ _ _ _ _ _ _ c.run_command.ensures.run c.run_command.ensures.refused c.requires.count (pairs-only _ exported) slot e
+    settled _ _ _ _ _ _ _ _ c.run_command.ensures.run c.run_command.ensures.refused c.requires.count (pairs-only c.args.command.now exported) slot e
 
 pub returns-clause-disk_fault : goal.returns-clause-disk_fault
 returns-clause-disk_fault g c disk e = elim (cases_Bool (is_mirror c.args.command.now)) [
@@ -21,23 +28,23 @@ returns-clause-disk_fault g c disk e = elim (cases_Bool (is_mirror c.args.comman
 
 pub returns-clause-file_fault : goal.returns-clause-file_fault
 returns-clause-file_fault g c exported slot e =
-    file-fault _ _ _ _ _ _ _ _ c.run_command.ensures.run c.run_command.ensures.refused c.requires.count (pairs-only _ exported) slot e
+    file-fault _ _ _ _ _ _ _ _ c.run_command.ensures.run c.run_command.ensures.refused c.requires.count (pairs-only c.args.command.now exported) slot e
 
 pub returns-clause-keep_fault : goal.returns-clause-keep_fault
 returns-clause-keep_fault g c exported slot e =
-    keep-fault _ _ _ _ _ _ _ _ c.run_command.ensures.run c.run_command.ensures.refused c.requires.count (pairs-only _ exported) slot e
+    keep-fault _ _ _ _ _ _ _ _ c.run_command.ensures.run c.run_command.ensures.refused c.requires.count (pairs-only c.args.command.now exported) slot e
 
 pub returns-clause-keep_small : goal.returns-clause-keep_small
 returns-clause-keep_small g c exported slot sectors =
-    keep-small _ _ _ _ _ _ _ _ c.run_command.ensures.run c.run_command.ensures.refused c.requires.count (pairs-only _ exported) slot sectors
+    keep-small _ _ _ _ _ _ _ _ c.run_command.ensures.run c.run_command.ensures.refused c.requires.count (pairs-only c.args.command.now exported) slot sectors
 
 pub returns-clause-keep_bad : goal.returns-clause-keep_bad
 returns-clause-keep_bad g c exported slot bad =
-    keep-bad _ _ _ _ _ _ _ _ c.run_command.ensures.run c.run_command.ensures.refused c.requires.count (pairs-only _ exported) slot bad
+    keep-bad _ _ _ _ _ _ _ _ c.run_command.ensures.run c.run_command.ensures.refused c.requires.count (pairs-only c.args.command.now exported) slot bad
 
 pub returns-clause-mounted : goal.returns-clause-mounted
 returns-clause-mounted g c exported slot lists =
-    mounted _ _ _ _ _ _ _ _ c.run_command.ensures.run c.run_command.ensures.refused c.requires.count (pairs-only _ exported) slot lists
+    mounted _ _ _ _ _ _ _ _ c.run_command.ensures.run c.run_command.ensures.refused c.requires.count (pairs-only c.args.command.now exported) slot lists
 
 pub returns-clause-answers : goal.returns-clause-answers
 returns-clause-answers g c asked fs is unrefused some_memory left_is all few source sink fine =
@@ -50,4 +57,4 @@ returns-clause-serves g c asked is unrefused some_memory link fine =
     let r = ran-as _ _ _ _ _ _ _ _ _ is (c.run_command.ensures.run unrefused some_memory) in
     serves _ _ _ _ _ _ _ fine asked r
     (λ e. link-fine g.L.Link.faults _ _ link (at-first _ _ _ _ (λ a b blamed. blamed.cause e) (c.run_command.ensures.first (ap is_live is)))
-    (omega (arith, c.requires.links ∙ ap link_count is)))
+    (omega (arith, linked _ _ asked is c.requires.links)))
