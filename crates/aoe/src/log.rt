@@ -58,19 +58,17 @@ impl Log {
         }
     }
 
-    /// Adds a file, and gives it back. From then on each of its failed calls is said.
-    pub fn watch(&mut self, disk: FileDisk, name: &str, is_keep: bool) -> FileDisk {
+    /// Adds a file, and gives it back. Each of its failed calls is said.
+    pub fn watch(&mut self, mut disk: FileDisk, name: &str, is_keep: bool) -> FileDisk {
         let rt = self.rt;
-        let mut disk = if is_keep {
-            self.add_keep(disk, name)
-        } else {
-            let sectors = disk.sectors();
-            self.add_text(format!(in rt.alloc(); " {name} {sectors} sectors,"));
-            disk
-        };
         if let Ok(name) = format!(in rt.alloc(); "{name}") {
             disk.log_to(FileLog::new(&rt, name));
         }
+        if is_keep {
+            return self.add_keep(disk, name);
+        }
+        let sectors = disk.sectors();
+        self.add_text(format!(in rt.alloc(); " {name} {sectors} sectors,"));
         disk
     }
 

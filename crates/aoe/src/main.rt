@@ -38,9 +38,9 @@ use log::Log;
 use status::Status;
 use std::alloc::Global;
 use std::fs::File;
-use std::io;
 use std::io::{BufReader, ErrorKind};
 use std::process::ExitCode;
+use std::{fs, io};
 use teller::Teller;
 use top::aoe;
 
@@ -63,6 +63,14 @@ fn tell_name(rt: &HostRuntime, wrong: &[u8], name: &[u8], code: u8) -> u8 {
     say(rt, name);
     say(rt, b"\n");
     code
+}
+
+/// Says that the file which is to end the run is there already, and gives the exit status.
+fn tell_stopped(rt: &HostRuntime, name: &[u8]) -> u8 {
+    say(rt, b"aoe: ");
+    say(rt, name);
+    say(rt, b" is there already: remove it\n");
+    16
 }
 
 /// Says that what has this name can't be opened, and why, and gives the exit status.
@@ -388,6 +396,7 @@ fn tell_end(rt: &HostRuntime, command: &Command, status: Status, reached: u64) -
 }
 
 /// Opens the files and the links of a command line, runs its command over them, and gives the exit status.
+/// Nothing is opened where the file is there that would end the run at once.
 fn run_line(rt: &HostRuntime, line: CommandLine) -> u8
     requires range { IsInRange line.command }
     requires files { length line.files.items ≡ file_count line.command }
@@ -400,6 +409,11 @@ fn run_line(rt: &HostRuntime, line: CommandLine) -> u8
         stop,
         is_told,
     } = line;
+    if let Some(name) = &stop
+        && fs::exists(rt, name.as_str()).unwrap_or(false)
+    {
+        return tell_stopped(rt, name.as_bytes());
+    }
     let mut log = Log::asked(rt);
     let mut disks = match open_all(rt, &command, files.as_slice(), &mut log) {
         Ok(disks) => disks,

@@ -21,12 +21,14 @@ impl FileLog {
         FileLog { rt: *rt, name }
     }
 
-    /// Says that a call failed, and why; or that it wasn't made, behind a sync that failed.
+    /// Says that a call failed, and why; or that it wasn't made, since a sync failed before it.
     pub fn say(&self, call: &str, why: Option<&io::Error>) {
         let name = self.name.as_str();
         let text = match why {
             Some(error) => format!(in self.rt.alloc(); "aoe: {name}: {call} failed: {error}\n"),
-            None => format!(in self.rt.alloc(); "aoe: {name}: {call} failed behind a sync\n"),
+            None => format!(in self.rt.alloc();
+                "aoe: {name}: {call} wasn't made, since a sync failed\n"
+            ),
         };
         if let Ok(text) = text {
             say(&self.rt, text.as_bytes());
