@@ -1,3 +1,9 @@
+-- Kept: a status is a function of how the run ended (`status_of`).
+--
+-- Read `OnSlots`, `Exits`, `Refusals`, `Complete`.
+--
+-- A status touches `code_of`, `text_of`, `ended_by` or `replayed_as`, and the cases of
+-- `Refusals`.
 mod Blame
 mod Complete
 mod CopyLemmas

@@ -7,6 +7,18 @@
 //! `aoe` (`top`, with `plan`, `mirror`, `tools`, `live`, `switch`, `upkeep` and `audit`) opens nothing and says no status;
 //! its contract is what the program promises. What a file, a socket, a stream and a clock do is in `aoe_system`, which
 //! tells the proofs nothing of content. The program catches no signal and starts no thread.
+//!
+//! Promised, by [`aoe`]: what a run of each command is, by its status (`Ran`, `RunsTool`,
+//! `RunsLive`, `RunsMirror`, `RunsKeep`, `RunsAudit`). A run over files keeps the shelf law, and
+//! its disks outlive a loss of power (`RanFiles`); a history that `replay` prints is lawful and
+//! keeps the read law. Where a keep is refused nothing was read or sent. A fault of source, sink or
+//! link is told only if its count rose. Without a fault a stream is answered to its end, a link is
+//! served, and a good script is run as far as memory and the network allow. `line_of`: the status
+//! is `Usage` exactly where the arguments spell no command and there is memory to read them.
+//!
+//! Only tested, by the scripts of tests/: that the files and links are those of the arguments in
+//! their order, each status with its text, the log, `--stop`, and every fault of a stream, file,
+//! disk and socket (`check`, `datagrams`, `tools`, `wire`, `adapters`). Nothing is said of time.
 #![tactic(auto)]
 
 ghost use Rattle.std.specs.Prelude.{◌≡◌, ◌≢◌, ◌==◌, ◌↔◌, ◌⊎◌, All, Err, IfErr, IfOk, IsSome, None, Some, false, length, map, string_bytes};

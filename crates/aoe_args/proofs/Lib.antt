@@ -1,3 +1,4 @@
+-- Read `AppLemmas` (what clap finds and refuses is known) and `ParsedLemmas` first.
 mod AppLemmas
 mod FindLemmas
 mod LinkLemmas

@@ -1,16 +1,27 @@
 //! The command line: what its arguments spell, or that they spell nothing.
 //!
-//! [`read_words`] gives the [`CommandLine`] that the arguments spell: the [`Command`], the files and links
+//! [`read_words`] returns the [`CommandLine`] that the arguments spell: the [`Command`], the files and links
 //! that a program has to open for it, in the order in which they are named, the file whose coming ends
 //! the run, and whether the program tells how far it has come.
 //!
 //! The first argument is the command. An argument that begins with a hyphen is an option of it,
-//! `--name value` or `--name=value`; options may stand anywhere behind the command. Which argument
+//! `--name value` or `--name=value`; options may be anywhere after the command. Which argument
 //! goes to which place is the work of the crate `clap`; numbers and addresses are read as
 //! everywhere.
 //!
 //! It opens nothing. Arguments are a command or none; [`slip_of`] says what is wrong with those that
 //! are none.
+//!
+//! Promised: unless memory is short, `read_words` returns the command that the arguments spell by
+//! `command`, and none exactly where they spell none; with it the files (`file_names`), the links
+//! (`port_words`), the stop file (`stop_name`) and `is_told`. Its numbers are in their ranges
+//! (`IsInRange`). `slip_of` returns none exactly for a command; else the argument that it names is
+//! there, and its reason holds of it (`IsSlip`). Law `plain_words_law` has the four arguments of
+//! `answer`.
+//!
+//! Only tested: tables of arguments that are a command, and of those that are none, with their
+//! slips (`words` of aoe_program_tests, `tests/check`). Which of several slips is named, and that
+//! no other reason fits better, no clause says; nor is there a grammar beside that of `clap`.
 #![tactic(auto)]
 
 mod app;

@@ -8,6 +8,17 @@
 //! whether it is answered, and a reply tells what became of its request, so that there is one history
 //! at most that explains a capture. Memory is taken for each request that waits, and for each sector
 //! whose contents replies made known. Nothing is said of a device whose wire wasn't captured whole.
+//!
+//! Promised: as long as nothing was refused, a history that the shelf law allows explains the
+//! capture so far but for the requests that wait (`HasHeard`), and a yes of `finish` says that one
+//! explains all of it, with these counts (`IsYes`). A finding names its record: `Reply` and
+//! `Missing` come only where no history explains the capture, `Short` only for a frame of the
+//! protocol that wasn't captured whole (`IsCause`, `IsLeft`). Laws:
+//! `one_history_explains_a_capture` at most, and `a_judged_capture_is_judged_at_each_record`.
+//!
+//! Only tested: worked exchanges (`audit` of aoe_shelf_tests), and captures of other programs
+//! (`tests/audit`). Want of memory may hide a finding, and `Short` may come of a capture that has a
+//! history. How much memory is taken neither a clause nor a test says.
 #![tactic(auto)]
 
 mod audit;

@@ -1,3 +1,12 @@
+-- Kept: `IsMirror`, sides of one size that agree where nothing is stale, and a mark disk that
+-- names the lead once it is settled; before that each stale sector is loose on the lead.
+-- `AreMarks`: the count is that of the bits set, and none is below `lowest`. `Passes`, over all
+-- runs: below a sector at most 64 are stale for each failure so far.
+--
+-- Read `Bits`, `Told`, `Whole`, `Quiet`, `Steps`, then `Reading`, `Writing`, `Syncing`,
+-- `Copying`, `Passing`, `Surviving`.
+--
+-- A takeover is a write with the sides in the other order (`turned`).
 pub mod Bits
 pub mod Told
 pub mod Whole

@@ -7,14 +7,14 @@
 //!
 //! 1. [`Mirror::mount`] takes the three disks and all the memory that the mirror will ever use.
 //!    Every sector of the side that follows is stale then, since nothing tells what it missed.
-//!    Where the mirror can't be mounted it gives the disks back.
-//! 2. [`Mirror::resync_all`] copies each run of stale sectors, also behind one of which the copy
+//!    Where the mirror can't be mounted it returns the disks.
+//! 2. [`Mirror::resync_all`] copies each run of stale sectors, also after one of which the copy
 //!    fails; [`Mirror::resync`] copies one, and goes round.
 //! 3. `read` reads the lead, and the other side where that fails and nothing is stale there.
 //!    `write` and `sync` do both sides. Where the follower fails, what it missed is stale. Where
 //!    the lead fails and nothing is stale, the other side leads from then on, as soon as the mark
 //!    disk says so. A `sync` that is Ok ends with one `resync`.
-//! 4. [`Mirror::close`] gives the disks. Sync before.
+//! 4. [`Mirror::close`] returns the disks. Sync before.
 //!
 //! A bit for each sector is held, so a disk of 1 TB takes 244 MB, and one of 2^40 sectors 128 GB,
 //! which an allocator may refuse. A copy of 64 sectors goes through 32 kB that are taken at the
@@ -23,6 +23,19 @@
 //! It doesn't keep the stale marks on a disk, so every mounting copies all of the lead. It makes a
 //! failed call no second time, doesn't compare the sides, and doesn't tell a side that is wrong
 //! from one that is right where both answer. No two of the three disks may be one.
+//!
+//! Promised: the calls are those of a store over `shown`: the lead's sectors, each of which is the
+//! same on both sides where it isn't stale (`Agree`). A read fails only by `ReadCause`, a write or
+//! a sync only by `Cause`; after Ok the mark disk names the lead. `resync_all` leaves at most 64
+//! stale sectors for each failure (`CopiesAll`), and an Ok sync ends with the copy of a run
+//! (`SyncsAndCopies`). After a crash of all three disks the side that the mark disk names has the
+//! mirror's bytes in each sector that isn't loose (`Survives`). A disk that `failed` names did fail
+//! (`Blames`). A refused mounting names its cause (`Refuses`) and leaves the sides.
+//!
+//! Only tested: worked runs in which each side fails once (`mirror` of aoe_shelf_tests); files that
+//! are full, limited or taken away, and losses of power (`tests/mirror`, `tests/power-loss`).
+//! Neither a clause nor a test says that `failed` is the lowest of several disks that failed in the
+//! sync of the sides.
 #![tactic(auto)]
 
 mod marks;

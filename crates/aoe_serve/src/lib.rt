@@ -5,7 +5,7 @@
 //!   Neither takes memory. [`capture`] is `answer` with a capture file (`aoe_pcap`) of the frames and
 //!   their replies in place of the stream of the replies.
 //! - [`export`] makes a shelf of files for the time of one such run: it takes the memory of all
-//!   stores, mounts all keeps, runs the [`Plan`], syncs every store, and gives every disk back. A
+//!   stores, mounts all keeps, runs the [`Plan`], syncs every store, and returns every disk. A
 //!   store writes through, or holds back as many sectors as the [`ExportOptions`] says (`aoe_cache`).
 //! - [`run_slots`] is the middle of `export`: it runs a plan over the slots of a shelf that is there,
 //!   whatever their stores are, and syncs each store.
@@ -16,6 +16,19 @@
 //! A loop serves one source or one link, one frame after the other. It ends with the first fault of
 //! what carries its frames, and isn't begun again. It syncs sectors for a flush alone, and opens
 //! nothing: files and sockets are opened by the program.
+//!
+//! Promised: each frame comes to each slot in turn, by the shelf law, and the replies go out in
+//! that order (`Answered`, `Served`; `recorded` for a capture). `export` runs its plan over files
+//! and keeps as slots, syncs each store once and names the first that failed; each slot then holds
+//! what its frames left, and outlives a loss of power (`IsExported`, `EndsAfter`), with `durable`
+//! each done write too. `export_mirror` does so with a mirror; its sides end equal where all ended
+//! well and neither failed (`IsMirrored`). A refused run leaves source, sink and links as they
+//! were, and a fault of one is told only if its count rose. A `send` of `ShelfLink` never fails.
+//!
+//! Only tested: each call of source, sink, link and disk failing (`serve` of aoe_shelf_tests),
+//! files of a program that is killed or loses power (`tests/kill`, `tests/power-loss`,
+//! `tests/mirror`). No clause says in which order different objects are called, nor what memory is
+//! taken.
 #![tactic(auto)]
 
 mod backing;
