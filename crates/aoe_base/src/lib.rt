@@ -8,6 +8,16 @@
 //! contracts, and costs nothing when it runs.
 //!
 //! Only a `Blob` takes memory. Nothing here knows a frame, a device or a host.
+//!
+//! Promised: `read_mac`, `read_device` and `read_number` return what `mac_of`, `device_of` and
+//! `number_of` say of a text, and `None` where they say nothing. An address has one text, which
+//! reads back (`mac_reads_back`, `mac_spelling_is_one`); a text names a device exactly where
+//! `IsNameOf` says so (`device_law`), leading zeros allowed. `put_macs` and its like, if Ok,
+//! appended the defined text. `Span::overlaps` holds exactly where a sector is in both spans. A
+//! `Blob` has the bytes that its calls put in, and `Steps` counts what was added.
+//!
+//! Only tested: a table of numbers, the texts of `Failed` and `NoMemory`, and that `Steps` has no
+//! bytes (`aoe_program_tests`, base).
 #![tactic(auto)]
 
 mod address;

@@ -7,6 +7,18 @@
 //!
 //! A step changes no list by itself: the caller keeps the next ones first (`aoe_keep`), and then
 //! they are the present ones. No call takes memory.
+//!
+//! Promised: for any bytes the answer of `config_step`, `mask_step` and `reserve_step` is
+//! `config_answer`, `mask_answer` and `reserve_answer`. It is a Change exactly where a request
+//! succeeds and makes other lists; a mask edit is done whole or not at all (`mask_edit`). The
+//! reserves that are set are the given addresses, each once (`reserves_are_the_given_stations`).
+//! `admits` and `may_use` hold exactly where the list is empty or has the station, and a
+//! `SortedList` lets in the same stations as its list. `empty_config_args` has the arguments that
+//! `config_step` writes for a read of an empty string.
+//!
+//! Only tested: the codes of four commands and errors (`aoe_shelf_tests`, lists), a reservation
+//! taken by force (there, target), whole requests (tests/streams). No clause says that no call
+//! takes memory, or how long a search takes.
 #![tactic(auto)]
 
 mod answer;

@@ -2,11 +2,23 @@
 //!
 //! A [`PortKind`] says of which VLANs a port is. [`Switch::new`] takes all memory; then
 //! [`Switch::take`] takes a frame that came in at a port and says where it goes, and
-//! [`Switch::form`] gives it the form that such a port gives. [`run`] does both for the frames of a
-//! source's stream, and writes on a sink's what goes out.
+//! [`Switch::form`] makes it the frame that such a port sends. [`run`] does both for the frames of
+//! a source's stream, and writes on a sink's what goes out.
 //!
 //! Learnt addresses don't age, since the switch has no clock, and an address past the first 256 of
 //! a VLAN isn't learnt. Spanning trees, nested tags and untagged frames on trunks aren't covered.
+//!
+//! Promised: what a switch sends is a function of all frames that came in (`switched`, `learnt`),
+//! and `run` writes it for the frames of the source, all or a front by how it ended (`Ran`). VLANs
+//! are independent (`vlans_are_independent`): a frame goes only to other ports, of its VLAN
+//! (`frames_stay_in_their_vlan`), and a port of one VLAN sends what it would if no other had frames
+//! (`a_port_gives_frames_of_its_vlan`). A later run goes on where the earlier ended
+//! (`runs_follow_one_another`). `Switch::form` is `formed_at`, which keeps priority and drop mark.
+//!
+//! Only tested: frames with two tags and tags that are cut (`aoe_program_tests`, vlan), streams
+//! byte by byte (tests/check), and the same frames through a Linux bridge
+//! (examples/beside-a-bridge). No clause says how long a look-up takes, or that only `Switch::new`
+//! takes memory.
 #![tactic(auto)]
 
 mod laws;

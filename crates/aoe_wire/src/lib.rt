@@ -8,6 +8,16 @@
 //! A medium may tell contracts what its calls came to. A real one tells nothing, and what it does
 //! with the bytes is said by no contract. [`is_frame`] says which bytes are a frame of AoE, and
 //! [`time_of`] reads the clock for a medium.
+//!
+//! Promised: over a medium that shows its calls, `recv` makes the calls of one turn (`IsTurn`): it
+//! ends at a frame, at silence, at a fault, 10 ms after the first thing that was dropped, or where
+//! the clock can't be read then. `send` gives the frame to each peer in order, or up to the first
+//! fault (`GivesEach`); only an interrupted call is made again. `recv` sends nothing, and `send`
+//! takes nothing. An Err raised the count of faults, by one at most, and an Ok left it. `is_frame`
+//! is `is_aoe`.
+//!
+//! Only tested: the turns and sends of `UdpMedium` and `TapMedium`, which show no calls
+//! (tests/datagrams, tests/wire, tests/adapters). `time_of` has no clause.
 #![tactic(auto)]
 
 mod link;
