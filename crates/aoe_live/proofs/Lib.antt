@@ -1,3 +1,6 @@
+-- Kept: `Follows`, the world came by the lines so far, and `IsKept`, every entry was looked at.
+-- Read `LineLemmas`, `RecordLemmas`, `StepLemmas`, `TurnLemmas`, `RoundLemmas`, `OrderLemmas`,
+-- `TextLemmas`.
 mod EntryLemmas
 mod GoodLemmas
 mod GrownLemmas

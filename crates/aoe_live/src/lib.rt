@@ -1,10 +1,8 @@
 //! A shelf and a host of one process over two links, recorded as a script.
 //!
 //! [`live`] lets a host write, read and flush a device over two links, until each of its commands
-//! has its outcome, and gives the script of what happened: when a command was submitted, when time
-//! went by, and which frame came to whom. The history of the run follows the lines of that script and
-//! keeps the laws of histories, which is proved. That a replay of the script prints that history, and
-//! no other that follows its lines, isn't: a test shows it.
+//! has its outcome, and returns the script of what happened: when a command was submitted, when time
+//! went by, and which frame came to whom.
 //!
 //! ```text
 //!  host -- two ....... links ....... one -- shelf
@@ -16,6 +14,17 @@
 //!
 //! It prints no transcript and opens nothing: `replay` of `aoe_world` runs the script again, and the
 //! program opens the links.
+//!
+//! Promised: a script that [`live`] returns has the stated stations and the lines of its turns, in
+//! order (`Lives`, `Came`); its text reads back and isn't refused. A history follows those lines,
+//! is lawful and keeps the read law, and its frames are what the links took. Each command and the
+//! flush after them was submitted in order and has its outcome (`Finished`). A refusal says what
+//! came until then (too many quiet turns, a command given up, no room or no memory for a line), or
+//! names a link whose count of faults rose. This is of links and clocks that show what they do.
+//!
+//! Only tested: that a replay of a recorded script finishes all commands, over links in memory
+//! (live.rt of `aoe_sim_tests`) and over a network that loses and reorders frames
+//! (`tests/live-network`); the texts of a refusal. Not that a replay can have no other history.
 #![tactic(auto)]
 
 mod command;

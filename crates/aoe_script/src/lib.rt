@@ -2,10 +2,10 @@
 //! faults and crashes.
 //!
 //! 1. [`read_script`] makes a [`Script`] of a text, or tells its first bad line and why that is bad
-//!    ([`Why`]). [`read_line`] tells what one line says, whatever stands before it.
-//! 2. `Script::push` adds an [`Event`] where it may stand behind what is there.
-//! 3. `Script::setup` and `Script::event` give the lines by their places, from 0.
-//! 4. [`print_script`] gives the one text of a script, from which it can be read again.
+//!    ([`Why`]). [`read_line`] tells what one line says, whatever is before it.
+//! 2. `Script::push` adds an [`Event`] at the end, where nothing is wrong with it there.
+//! 3. `Script::setup` and `Script::event` return the lines by their places, from 0.
+//! 4. [`print_script`] returns the one text of a script, from which it can be read again.
 //!
 //! No line of a `Script` is bad: what it names is declared, and its numbers are in their ranges. A
 //! setup line can't be pushed, so a script that is made by `push` begins with the text of its setup
@@ -13,6 +13,17 @@
 //! too.
 //!
 //! It runs nothing: that is `aoe_world`.
+//!
+//! Promised: a line says what `line_of` says, whatever is before it. `read_script` returns the
+//! script that a text spells (`script_of`), or the first cause by which it is refused (`refusal`);
+//! it lacks memory only at a line before which nothing is wrong (`IsWanting`). `declare` and `push`
+//! add a line with which nothing is wrong (`setup_why`, `event_why`) where there is room, or leave
+//! the script as it was. Each `Script` is an `IsScript`. It has one text, `script_text`, which
+//! reads back and is refused for nothing but its length (`printed_script_reads_back`,
+//! `printed_line_reads_back`).
+//!
+//! Only tested: the texts of a refusal. A table of bad lines, pushed events and printed scripts
+//! (script.rt of `aoe_sim_tests`) and the bad lines of `tests/check` try what the definitions say.
 #![tactic(auto)]
 
 mod classes;

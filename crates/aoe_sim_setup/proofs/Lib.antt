@@ -1,3 +1,5 @@
+-- Read `ListLemmas`, `GoodLines`, `LineLemmas`, `SlotLemmas`, `HostLemmas`, `StationLemmas`,
+-- `SetupLemmas`, `EventLemmas`.
 pub mod EventLemmas
 pub mod GoodLines
 pub mod HostLemmas
