@@ -31,6 +31,16 @@
 //! Making a block takes the memory that it needs, and `pending` takes a copy of the part's bytes
 //! where it is written. The other calls take none. A part isn't asked for again: a block of which
 //! one failed never becomes whole, and its other parts can still end.
+//!
+//! Promised: the parts of a block are its range in order, each of as many sectors as a command may
+//! have, but for the last (`IsCut`), and `OutOfRange` comes exactly for a range that isn't within
+//! the device. `pending` returns the operation of the first part that wasn't handed, whose sectors
+//! a host doesn't refuse (`op_refusal`). `take` answers `took`: what was read is put in the place
+//! of its part, and a command that is no part changes nothing. `into_bytes` returns all parts in
+//! order. A block of which a part failed never becomes whole (`broken_law`).
+//!
+//! Only tested: nothing. `aoe_host_tests` (`block`) has a read whose parts end out of order, and
+//! ranges within a device and past its end.
 #![tactic(auto)]
 
 mod block;

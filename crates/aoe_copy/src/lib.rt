@@ -11,6 +11,17 @@
 //!
 //! Where `get` breaks off the sink has a front of the sectors, so that the same call with a later first
 //! sector goes on from there. What a `put` that broke off wrote isn't flushed.
+//!
+//! Promised: however `get` ends, its commands are reads one after the other with the tickets 1, 2,
+//! 3 and so on, at most 8 of them not yet given to the sink, and the sink took a front of the
+//! sectors, each from a response to the command with its ticket (`copied_law`, `Ends`). `put`
+//! writes an input of at most 16 MiB as `put_sectors` of `aoe_tools` does (`PutsAll`). A longer one
+//! it writes part by part in order, at most 8 commands without an outcome. Ok says that the parts
+//! are the whole input, that each was acknowledged before the flush was submitted, and then the
+//! flush (`put_law`, `IsWritten`, `EndsBy`).
+//!
+//! Only tested: that a copy ends once all is done, what a [`Watch`] is told and where a copy broke
+//! off (`aoe_host_tests`, `copies`; `tests/tools`). No clause bounds its memory or its tags.
 #![tactic(auto)]
 
 mod copy;

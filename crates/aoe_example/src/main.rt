@@ -1,6 +1,11 @@
 //! A host and a shelf in one process, to show the order of the library's calls: the host writes a sector,
 //! flushes, and reads the sector back. Between two processes something carries the frames; here they are
 //! handed over at once.
+//!
+//! Promised: nothing of its own. It tries the calls of `aoe_initiator` and `aoe_shelf` in their
+//! order.
+//!
+//! Only tested: that it prints the line in the file `stdout` of this crate.
 #![tactic(auto)]
 
 ghost use Rattle.std.specs.Prelude.{◌≡◌, ◌+◌, ◌<◌, ◌≤◌, IfOk, length};

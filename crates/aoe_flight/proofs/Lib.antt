@@ -1,3 +1,8 @@
+-- Kept, for every list of commands that were sent (`Recalls`): the table has those that fly or
+-- rest. A table forgets only what changes no answer: the law speaks of all commands, the code asks
+-- the table, and the `*-recalled` lemmas say that both answer alike. Each order of the table is
+-- tied to it by counts (`IsOrderOf`, in `IsIndexed`).
+-- Read `EntryLemmas`, `IndexLemmas`, `ChangeLemmas`, `TableLemmas`, `ValueLemmas`.
 mod ChangeLemmas
 pub mod CountLemmas
 mod EntryLemmas

@@ -7,6 +7,17 @@
 //! gives a command that was waited for too long.
 //!
 //! It doesn't know what the commands ask, nor to which device they go: a command is its ticket.
+//!
+//! Promised: `launch` gives the first tag after the last one that no flying or resting command has
+//! (`IsNextTag`), so no two of them have one tag, and it refuses only where `room` of them fly or
+//! rest. A finished command rests after its last send for the sum of both lifetimes (`rest_time`).
+//! `due` returns the flying command that was due first, `expired` the one with the lowest ticket
+//! that flew for too long, `match_tag` the one with a tag. These and `is_full` answer by all
+//! commands that were sent (`Recalls`). `due` counts one look at a command, and so does `expired`
+//! where it returns nothing.
+//!
+//! Only tested: nothing. `aoe_host_tests` (`flight`) has worked waits and rests. What a counted
+//! look does inside its module is read off the code.
 #![tactic(auto)]
 
 mod counted;

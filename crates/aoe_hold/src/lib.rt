@@ -9,6 +9,18 @@
 //! writes, flushes or edits, until no frame of an earlier write or edit in conflict can arrive any
 //! more: a frame that the network kept would undo it. What a table doesn't know is which commands
 //! are due again, which tags they have, and how many may be in flight: that is `aoe_flight`.
+//!
+//! Promised: `next_clear` returns the lowest ticket of the commands that are clear, or nothing
+//! where none is, by all commands that were entered, though the table has dropped some
+//! (`clear_tickets`, `Recalls`). Clear is just what `IsClear` says (`clear_law`): never sent, each
+//! earlier command in conflict finished, and, where it writes, flushes or edits, no frame of an
+//! earlier write or edit in conflict can arrive. `enter`, `sent` and `finished` change what
+//! `with_command`, `after_send` and `after_finish` say, and a refused `enter` changes nothing.
+//! The looks of `next_clear` and `enter_counted` at commands are bounded (`looks_back`).
+//!
+//! Only tested: nothing. `aoe_host_tests` (`holds`) enters a thousand writes of one sector. What a
+//! counted look does inside its module is read off the code, and no clause bounds the looks of
+//! `sent` and `finished`.
 #![tactic(auto)]
 
 mod command;

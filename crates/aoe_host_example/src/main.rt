@@ -1,5 +1,9 @@
 //! A host over UDP: reads sector 0 of the device e1.0, whose shelf is at 127.0.0.1:7001. A frame that is lost is sent
 //! again. It needs no file of proofs.
+//!
+//! Promised: nothing of its own. It tries the calls of `aoe_initiator` over a link of `aoe_udp`.
+//!
+//! Only tested: that it prints the line in the file `stdout` of this crate where no shelf answers.
 #![tactic(auto)]
 
 ghost use Rattle.std.specs.Prelude.{◌≡◌, ◌<◌, length};

@@ -20,6 +20,17 @@
 //! A host doesn't find devices: its user says which there are, how long they are and how many
 //! sectors they take in one command. It doesn't split what is longer, and it doesn't ask again
 //! what a device refused.
+//!
+//! Promised: the host law, for every log that a host matches (`Matches`). `pull` returns what may
+//! be sent next (`IsNext`), with the bytes of its operation (`IsFrameOf`), on the next path
+//! (`IsOnNextPath`), and nothing only where nothing may be sent (`IsQuiet`). `receive` ends a
+//! command exactly where the frame is a well-formed response to one that flies, with the outcome
+//! that it says (`Takes`). `advance` gives up just the commands that flew for too long
+//! (`GaveUpInTurn`). `submit` and `attach` refuse only for `submit_refusal`, `attach_refusal` or
+//! want of memory, and then change nothing.
+//!
+//! Only tested: nothing. `aoe_host_tests` (`initiator`) has worked runs with repeats, on one path
+//! and on two. That the other calls take no memory is neither promised nor tested.
 #![tactic(auto)]
 
 mod counted;

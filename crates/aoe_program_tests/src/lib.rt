@@ -2,6 +2,13 @@
 //! registers of ATA, streams, links, and the arguments.
 //!
 //! They stand beside the crates, since a crate with tests inside it is proved once more with them.
+//!
+//! Promised: nothing of its own. It tries `aoe_base`, `aoe_ata`, `aoe_io`, `aoe_udp` with
+//! `aoe_wire`, `aoe_pcap`, `aoe_vlan` and `aoe_args`.
+//!
+//! Only tested: worked registers, answers and pages, streams and capture files that break off,
+//! joined links, datagrams over the loopback, frames through a switch, lines that spell a command
+//! or none, and what is said of those that spell none.
 #![tactic(auto)]
 
 #[cfg(test)]

@@ -2,6 +2,14 @@
 //! target, a shelf, an audit of its wire, and the loops that serve it.
 //!
 //! They stand beside the crates, since a crate with tests inside it is proved once more with them.
+//!
+//! Promised: nothing of its own. It tries `aoe_lists`, `aoe_disk`, `aoe_store`, `aoe_cache`,
+//! `aoe_mirror`, `aoe_keep`, `aoe_target`, `aoe_shelf`, `aoe_audit`, `aoe_serve` and
+//! `aoe_pcap_audit`.
+//!
+//! Only tested: whole replies, device calls of worked writes, a loss of power at calls of a keep
+//! and in a flush, a mirror whose sides fail in turn, worked exchanges for an audit, and each call
+//! of a source, sink, link and disk that fails.
 #![tactic(auto)]
 
 #[cfg(test)]

@@ -1,3 +1,12 @@
+-- Kept, of a tool: what it sent is what is asked up to here, and what it knows is what the
+-- responses that counted say. Of a copy `Running`: the rounds so far made this host and this
+-- course.
+-- Read the specs Asking, One and Discovery, then `ListenLemmas`, `FoundLemmas`, `DiscoverLemmas`.
+-- For copies read the specs TransferAsks, TransferCourse, TransferSteps, TransferRun and
+-- TransferData, then in the order of a turn `AskLemmas`, `SubmitLemmas`, `SendingLemmas`,
+-- `HearLemmas`, `ExchangeLemmas`, `TurnLemmas`, `RunLemmas`, and `CopyLemmas`, `DataLemmas`,
+-- `CopiedLemmas`, `OtherLemmas`, `PutLemmas`.
+-- One more tool needs a question, `counted`, and what is said of the responses.
 mod AskLemmas
 mod CopiedLemmas
 pub mod CopyLemmas

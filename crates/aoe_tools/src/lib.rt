@@ -23,6 +23,19 @@
 //! A tool keeps nothing from one call to the next. It opens no socket and doesn't wait by itself: a
 //! turn lasts as long as the link's `recv`. A copy is of 32,768 sectors at most, and it isn't taken
 //! up again where it broke off.
+//!
+//! Promised: unless link or memory fails, what a tool asks, which responses count (`counted`), when
+//! it ends and what it returns are functions of its turns (`AsksOne`, `Discovers`, `Stats`). A
+//! copy's commands are the first of one for each part and, in `put`, the flush after them, with the
+//! tickets 1, 2, 3 and so on (`submitted_law`). Ok says that each succeeded, and with `verify` that
+//! all sectors came back equal (`copied_law`, `IsCompared`). `get` leaves the sink as it was unless
+//! it ends in Ok or a fault of the sink. Texts and statuses are those of the definitions
+//! (`found_text`, `text_of`, `code_of`).
+//!
+//! Only tested: the tools over datagrams (`tests/tools`) and beside vblade
+//! (`tests/against-vblade`). `aoe_host_tests` (`tools`, `copies`) has worked runs over links in
+//! memory. That a late answer to an earlier copy isn't taken for one to this copy is neither
+//! promised nor tested.
 #![tactic(auto)]
 
 mod asking;
