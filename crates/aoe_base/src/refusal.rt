@@ -3,7 +3,7 @@ ghost use Rattle.std.specs.Prelude.{◌≡◌};
 ghost use Rattle.aoe_base.specs.Refusal.{code_of_error};
 
 /// Why a target refuses a request (AoEr11, "Error").
-#[derive(Clone, Copy, PartialEq, Eq, Hash)]
+#[derive(Clone, Copy, Debug, PartialEq, Eq, Hash)]
 pub enum AoeError {
     /// 1: the command code is unknown.
     UnrecognizedCommand,

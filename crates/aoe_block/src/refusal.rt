@@ -1,7 +1,7 @@
 //! Why a block isn't made.
 
 /// Why a block isn't made.
-#[derive(Clone, Copy, PartialEq, Eq)]
+#[derive(Clone, Copy, Debug, PartialEq, Eq)]
 pub enum BlockRefusal {
     NoMemory,
 

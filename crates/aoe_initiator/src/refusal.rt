@@ -1,7 +1,7 @@
 //! Why a host refuses.
 
 /// Why a device isn't attached.
-#[derive(Clone, Copy, PartialEq, Eq)]
+#[derive(Clone, Copy, Debug, PartialEq, Eq)]
 pub enum AttachRefusal {
     NoMemory,
 
@@ -13,7 +13,7 @@ pub enum AttachRefusal {
 }
 
 /// Why a command isn't submitted.
-#[derive(Clone, Copy, PartialEq, Eq)]
+#[derive(Clone, Copy, Debug, PartialEq, Eq)]
 pub enum SubmitRefusal {
     NoMemory,
 

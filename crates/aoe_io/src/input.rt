@@ -12,7 +12,7 @@ use std::alloc::Global;
 const PIECE: usize = 65_536;
 
 /// Why a source wasn't read to its end.
-#[derive(Clone, Copy, PartialEq, Eq)]
+#[derive(Clone, Copy, Debug, PartialEq, Eq)]
 pub enum InputRefusal {
     /// An allocation was refused.
     NoMemory,

@@ -19,7 +19,7 @@ use crate::{AddressList, Answer, Args, Lists};
 use aoe_base::{AoeError, Mac, append};
 
 /// Why a mask edit was refused, as its reply's field MError says.
-#[derive(Clone, Copy, PartialEq, Eq)]
+#[derive(Clone, Copy, Debug, PartialEq, Eq)]
 pub enum MaskError {
     /// 1: no reason is given. No edit here ends with it.
     Unspecified,

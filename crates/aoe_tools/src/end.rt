@@ -7,7 +7,7 @@ use arrayvec::ArrayVec;
 use std::alloc::Global;
 
 /// Why a tool has no answer.
-#[derive(Clone, Copy, PartialEq, Eq)]
+#[derive(Clone, Copy, Debug, PartialEq, Eq)]
 pub enum ToolRefusal {
     /// An allocation was refused.
     NoMemory,
@@ -23,7 +23,7 @@ pub enum ToolRefusal {
 }
 
 /// How a device refuses.
-#[derive(Clone, Copy, PartialEq, Eq)]
+#[derive(Clone, Copy, Debug, PartialEq, Eq)]
 pub enum Refusal {
     /// By the field Error of its response's header.
     Aoe(u8),
@@ -42,7 +42,7 @@ pub enum Refusal {
 }
 
 /// How a tool that copies sectors ends without having copied them.
-#[derive(Clone, Copy, PartialEq, Eq)]
+#[derive(Clone, Copy, Debug, PartialEq, Eq)]
 pub enum CopyRefusal {
     /// As a tool that asks.
     Tool(ToolRefusal),
