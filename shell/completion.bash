@@ -8,11 +8,11 @@ _aoe() {
         return
     fi
     case $before in
-        --tap | --one-tap | --two-tap)
+        --tap | --one-tap | --two-tap) # shell/make: options with a file
             mapfile -t COMPREPLY < <(compgen -f -- "$word")
             return
             ;;
-        --durable | --verify | --progress | --long | --sectors) ;;
+        --durable | --verify | --progress | --long | --sectors) ;; # shell/make: options without a value
         --*) return ;;
     esac
     # The words of the synopsis that are no names of values: options and actions.
@@ -21,7 +21,7 @@ _aoe() {
     [ "$command" = switch ] && words="$words access: trunk:"
     if [ -z "$word" ] || [ "${word:0:1}" != - ]; then
         case $command in
-            answer | capture | serve | mirror | audit | keep) mapfile -t COMPREPLY < <(compgen -f -- "$word") ;;
+            answer | capture | serve | mirror | audit | keep) mapfile -t COMPREPLY < <(compgen -f -- "$word") ;; # shell/make: commands with files
         esac
     fi
     mapfile -t -O "${#COMPREPLY[@]}" COMPREPLY < <(compgen -W "$words --help" -- "$word")
