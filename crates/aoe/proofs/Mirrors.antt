@@ -1,6 +1,6 @@
 -- A run over a mirror, by its status.
-use Rattle.std.proofs.Common.{◌≡◌, ◌≢◌, ◌≤◌, ◌<◌, ◌⊎◌, ℕ, zero, suc, true, List, length, Option, Some, None, IfSome, Result, Ok, Err, refl, sym, ap, subst, ◌∙◌, arith, ne_eqb}
-use Rattle.std.proofs.lemmas.Bool.{OnTrue_at}
+use Rattle.std.proofs.Common.{◌≡◌, ◌≢◌, ◌≤◌, ◌<◌, ◌⊎◌, ℕ, zero, suc, true, List, length, Option, Some, None, IfSome, Result, Ok, Err, refl, sym, ap, subst, ◌∙◌, inl, inr, arith, eq-eqb, ne_eqb}
+use Rattle.std.proofs.lemmas.Bool.{OnTrue_at, cases_eq}
 use Rattle.std.specs.Prelude.{◌↔◌, All, IfErr, IfOk, IsSome, OnErr}
 use Rattle.aoe_base.specs.Faults.{Rose}
 use Rattle.aoe_disk.specs.State.{DiskState}
@@ -26,8 +26,8 @@ use Rattle.aoe_args.specs.declared.command.Command.{Command}
 use Rattle.aoe_args.specs.declared.command.Command.TheVariants as command
 use Rattle.aoe_args.specs.declared.command.Mirror.{Mirror}
 use Rattle.aoe.specs.Commands.{is_mirror, mirror_options, target_of}
-use Rattle.aoe.specs.Ending.{after_sync, ended_by, kept_out, mirrored_as, stopped_by}
-use Rattle.aoe.specs.Mirror.{ComesToSides, HasSides, RunsMirror, faults_at, four_of, is_kept_out, is_mirror_status}
+use Rattle.aoe.specs.Ending.{after_sync, ended_by, kept_out, left_stale, mirrored_as, stopped_by}
+use Rattle.aoe.specs.Mirror.{ComesToSides, HasSides, LeavesStale, RunsMirror, faults_at, four_of, is_kept_out, is_mirror_status}
 use Rattle.aoe.specs.declared.status.Status.{Status}
 use Rattle.aoe.specs.declared.status.Status.TheVariants as status
 
@@ -82,6 +82,60 @@ ran-well (Served serve.Ended) None e = (refl, refl)
 ran-well (Served serve.Ended) (Some k) e = absurd cc
 ran-well (Served serve.LinkFault) unsynced e = absurd cc
 
+ran-not-stale : (end : RunEnd) (unsynced : Option ℕ) (file sectors : ℕ) → after_sync (ended_by end) unsynced ≢ status.Stale file sectors
+ran-not-stale (Answered answer.Ended) None file sectors e = cc
+ran-not-stale (Answered answer.Ended) (Some k) file sectors e = cc
+ran-not-stale (Answered answer.SourceFault) unsynced file sectors e = cc
+ran-not-stale (Answered answer.SinkFault) unsynced file sectors e = cc
+ran-not-stale (Answered (answer.Stream at)) unsynced file sectors e = cc
+ran-not-stale (Answered answer.Limit) unsynced file sectors e = cc
+ran-not-stale (Served serve.Ended) None file sectors e = cc
+ran-not-stale (Served serve.Ended) (Some k) file sectors e = cc
+ran-not-stale (Served serve.LinkFault) unsynced file sectors e = cc
+
+-- a status that stays, and one that tells what is stale
+abbrev pub Left : Status → ℕ → ℕ → Type 0
+Left s file sectors = ((left_stale s file sectors ≡ s) × (s ≡ status.Ok → sectors ≡ 0))
+    ⊎ ((s ≡ status.Ok) × (sectors ≢ 0) × (left_stale s file sectors ≡ status.Stale file sectors))
+
+pub left-is : (s : Status) (file sectors : ℕ) → Left s file sectors
+left-is status.Ok file sectors = elim (cases_eq sectors 0) [
+  | inl none ↦ inl (rw (eq-eqb sectors 0 none) refl, λ _. none)
+  | inr some ↦ inr (refl, some, rw (ne_eqb sectors 0 some) refl)
+]
+left-is status.Usage file sectors = inl (refl, λ e. absurd cc)
+left-is (status.Script line cause) file sectors = inl (refl, λ e. absurd cc)
+left-is status.SourceFault file sectors = inl (refl, λ e. absurd cc)
+left-is status.SinkFault file sectors = inl (refl, λ e. absurd cc)
+left-is (status.DiskFault disk) file sectors = inl (refl, λ e. absurd cc)
+left-is (status.LinkFault link) file sectors = inl (refl, λ e. absurd cc)
+left-is status.NoMemory file sectors = inl (refl, λ e. absurd cc)
+left-is (status.KeepSmall disk room) file sectors = inl (refl, λ e. absurd cc)
+left-is (status.KeepBad disk slot) file sectors = inl (refl, λ e. absurd cc)
+left-is (status.Unanswered turns) file sectors = inl (refl, λ e. absurd cc)
+left-is (status.Refused r) file sectors = inl (refl, λ e. absurd cc)
+left-is (status.Stream offset) file sectors = inl (refl, λ e. absurd cc)
+left-is (status.Limit excess) file sectors = inl (refl, λ e. absurd cc)
+left-is (status.Audit number finding) file sectors = inl (refl, λ e. absurd cc)
+left-is status.CaptureHead file sectors = inl (refl, λ e. absurd cc)
+left-is (status.Capture number) file sectors = inl (refl, λ e. absurd cc)
+left-is (status.MirrorSides first second) file sectors = inl (refl, λ e. absurd cc)
+left-is status.MirrorMark file sectors = inl (refl, λ e. absurd cc)
+left-is (status.Stale k n) file sectors = inl (refl, λ e. absurd cc)
+
+-- where another status is told, nothing is told as stale
+pub left-told : (s told : Status) (file sectors : ℕ) → ((k n : ℕ) → told ≢ status.Stale k n) → left_stale s file sectors ≡ told → s ≡ told
+left-told s told file sectors other e = elim (left-is s file sectors) [
+  | inl same ↦ sym same.0 ∙ e
+  | inr stale ↦ absurd (other file sectors (sym e ∙ stale.2))
+]
+
+pub left-ok : (s : Status) (file sectors : ℕ) → left_stale s file sectors ≡ status.Ok → (s ≡ status.Ok) × (sectors ≡ 0)
+left-ok s file sectors e = elim (left-is s file sectors) [
+  | inl same ↦ (sym same.0 ∙ e, same.1 (sym same.0 ∙ e))
+  | inr stale ↦ let no : status.Stale file sectors ≡ status.Ok = sym stale.2 ∙ e in absurd cc
+]
+
 blamed-disk : (P : ℕ → Type 0) (unsynced : Option ℕ) (disk : ℕ) → IfSome unsynced P → unsynced ≡ Some disk → P disk
 blamed-disk P None disk p e = absurd cc
 blamed-disk P (Some k) disk p e = let same : k ≡ disk = cc in subst P same p
@@ -94,7 +148,7 @@ module _ {D S K L : Type 0} (state : D → DiskState) (name : ℕ → Station) (
   pub unequal : (r : Result MirrorEnd MirrorStop) → Law r → (first second : ℕ) → (mirrored_as r ≡ status.MirrorSides first second)
       ↔ (HasSides (state given.one) (state given.two) first second × ComesToSides (mirrored_as r))
   unequal (Ok e) law first second = (
-    λ told. absurd (ran-not-sides e.end e.unsynced first second told),
+    λ told. absurd (ran-not-sides e.end e.unsynced first second (left-told _ _ e.follower e.stale (λ k n x. cc) told)),
     λ is. absurd (is.0.2 (is.0.0 ∙ sym law.over.begins.mounts.size ∙ sym is.0.1)),
   )
   unequal (Err stop.NoMemory) law first second = (λ told. absurd cc, λ is. absurd (is.1.1 refl))
@@ -116,7 +170,7 @@ module _ {D S K L : Type 0} (state : D → DiskState) (name : ℕ → Station) (
   pub unmarked : (r : Result MirrorEnd MirrorStop) → Law r → (mirrored_as r ≡ status.MirrorMark)
       ↔ (((state given.two).sectors ≡ (state given.one).sectors) × ((state given.mark).sectors ≡ 0) × ComesToSides (mirrored_as r))
   unmarked (Ok e) law = (
-    λ told. absurd (ran-not-mark e.end e.unsynced told),
+    λ told. absurd (ran-not-mark e.end e.unsynced (left-told _ _ e.follower e.stale (λ k n x. cc) told)),
     λ is. absurd (let room = law.over.begins.mounts.room in omega (arith, room, is.1)),
   )
   unmarked (Err stop.NoMemory) law = (λ told. absurd cc, λ is. absurd (is.2.1 refl))
@@ -135,7 +189,8 @@ module _ {D S K L : Type 0} (state : D → DiskState) (name : ℕ → Station) (
   pub blames : (r : Result MirrorEnd MirrorStop) → Law r → (disk : ℕ) → mirrored_as r ≡ status.DiskFault disk
       → (disk ≤ 3) × Rose (faults_at state given disk) (faults_at state back disk)
   blames (Ok e) law disk told =
-      let failed = blamed-disk (λ k. (k ≤ 2) × HasFailed state given back k) e.unsynced disk law.blames (ran-unsynced e.end e.unsynced disk told) in
+      let synced = left-told (after_sync (ended_by e.end) e.unsynced) (status.DiskFault disk) e.follower e.stale (λ k n x. cc) told in
+      let failed = blamed-disk (λ k. (k ≤ 2) × HasFailed state given back k) e.unsynced disk law.blames (ran-unsynced e.end e.unsynced disk synced) in
       let few = failed.0 in
       (omega (arith, few), rw (ne_eqb disk 3 (λ same. absurd (omega (arith, same, few)))) failed.1)
   blames (Err stop.NoMemory) law disk told = absurd cc
@@ -153,8 +208,10 @@ module _ {D S K L : Type 0} (state : D → DiskState) (name : ℕ → Station) (
 
   pub equal : (r : Result MirrorEnd MirrorStop) → Law r → mirrored_as r ≡ status.Ok
       → IfSome (both (state back.one).contents (state back.two).contents) AreEqual
-      ⊎ (Rose (state given.one).faults (state back.one).faults ⊎ Rose (state given.two).faults (state back.two).faults)
-  equal (Ok e) law told = let well = ran-well e.end e.unsynced told in law.equal well.0 well.1
+  equal (Ok e) law told =
+      let left = left-ok (after_sync (ended_by e.end) e.unsynced) e.follower e.stale told in
+      let well = ran-well e.end e.unsynced left.0 in
+      law.equal well.1 left.1
   equal (Err stop.NoMemory) law told = absurd cc
   equal (Err (stop.Keep refusal.Failed)) law told = absurd cc
   equal (Err (stop.Keep (refusal.TooSmall sectors))) law told = absurd cc
@@ -163,6 +220,39 @@ module _ {D S K L : Type 0} (state : D → DiskState) (name : ℕ → Station) (
   equal (Err (stop.Mirror mirror.NoMark)) law told = absurd cc
   equal (Err (stop.Mirror mirror.Failed)) law told = absurd cc
   equal (Err (stop.Mirror mirror.NoMemory)) law told = absurd cc
+
+  abbrev pub Leaves : ℕ → ℕ → Type 0
+  Leaves file sectors = (file ≤ 1) × (0 < sectors) × LeavesStale sectors (both (state back.one).contents (state back.two).contents)
+      × (Rose (state given.one).faults (state back.one).faults ⊎ Rose (state given.two).faults (state back.two).faults)
+
+  left-over : (e : MirrorEnd) → IsMirrored state name t (plan.Answer format.Replies) e a b given back
+      → after_sync (ended_by e.end) e.unsynced ≡ status.Ok → e.stale ≢ 0 → Leaves e.follower e.stale
+  left-over e law ok some =
+      let well = ran-well e.end e.unsynced ok in
+      let follower = law.left.follower in (
+        omega (arith, follower),
+        omega (arith, some),
+        (law.over.ended.stale, sym law.left.stale, law.apart well.1),
+        law.copied well.0 well.1 (omega (arith, some)),
+      )
+
+  pub stale : (r : Result MirrorEnd MirrorStop) → Law r → (file sectors : ℕ) → mirrored_as r ≡ status.Stale file sectors → Leaves file sectors
+  stale (Ok e) law file sectors told = elim (left-is (after_sync (ended_by e.end) e.unsynced) e.follower e.stale) [
+    | inl same ↦ absurd (ran-not-stale e.end e.unsynced file sectors (sym same.0 ∙ told))
+    | inr left ↦
+        let is : status.Stale e.follower e.stale ≡ status.Stale file sectors = sym left.2 ∙ told in
+        let same : e.follower ≡ file = cc in
+        let many : e.stale ≡ sectors = cc in
+        rw (same, many) at (left-over e law left.0 left.1)
+  ]
+  stale (Err stop.NoMemory) law file sectors told = absurd cc
+  stale (Err (stop.Keep refusal.Failed)) law file sectors told = absurd cc
+  stale (Err (stop.Keep (refusal.TooSmall room))) law file sectors told = absurd cc
+  stale (Err (stop.Keep (refusal.BadKeep k))) law file sectors told = absurd cc
+  stale (Err (stop.Mirror (mirror.Unequal one two))) law file sectors told = absurd cc
+  stale (Err (stop.Mirror mirror.NoMark)) law file sectors told = absurd cc
+  stale (Err (stop.Mirror mirror.Failed)) law file sectors told = absurd cc
+  stale (Err (stop.Mirror mirror.NoMemory)) law file sectors told = absurd cc
 
   pub law-of : (r : Result MirrorEnd MirrorStop) → IfOk r (λ e. IsMirrored state name t (plan.Answer format.Replies) e a b given back)
       → IfErr r (λ why. Stops state why given back) → Law r
@@ -180,9 +270,15 @@ module _ {D S K L : Type 0} (state : D → DiskState) (name : ℕ → Station) (
   ended-status (Answered answer.Limit) unsynced old new ran = refl
   ended-status (Served x) unsynced old new ran = absurd ran
 
+  left-status : (s : Status) (file sectors : ℕ) → is_mirror_status s ≡ true → is_mirror_status (left_stale s file sectors) ≡ true
+  left-status s file sectors is = elim (left-is s file sectors) [
+    | inl same ↦ rw same.0 is
+    | inr left ↦ rw left.2 refl
+  ]
+
   pub mirror-status : (r : Result MirrorEnd MirrorStop) → IfOk r (λ e. IsMirrored state name t (plan.Answer format.Replies) e a b given back)
       → is_mirror_status (mirrored_as r) ≡ true
-  mirror-status (Ok e) ran = ended-status e.end e.unsynced _ _ ran.run.ran
+  mirror-status (Ok e) ran = left-status (after_sync (ended_by e.end) e.unsynced) e.follower e.stale (ended-status e.end e.unsynced _ _ ran.run.ran)
   mirror-status (Err stop.NoMemory) ran = refl
   mirror-status (Err (stop.Keep refusal.Failed)) ran = refl
   mirror-status (Err (stop.Keep (refusal.TooSmall sectors))) ran = refl
@@ -215,15 +311,21 @@ ran-memory (Served serve.Ended) (Some k) e = cc
 ran-memory (Served serve.LinkFault) unsynced e = cc
 
 pub wanted-memory : {P Q : Type 0} (s : Status) (r : Result MirrorEnd MirrorStop) → s ≡ mirrored_as r → OnErr r P → OnErr r Q → s ≡ status.NoMemory → P × Q
-wanted-memory s (Ok e) is p q told = absurd (ran-memory e.end e.unsynced (sym is ∙ told))
+wanted-memory s (Ok e) is p q told = absurd (ran-memory e.end e.unsynced (left-told _ _ e.follower e.stale (λ k n x. cc) (sym is ∙ told)))
 wanted-memory s (Err why) is p q told = (p, q)
 
-module _ (end : RunEnd) (unsynced : Option ℕ) where
-  ended-source : (after_sync (ended_by end) unsynced ≡ status.SourceFault) ↔ (end ≡ Answered answer.SourceFault)
-  ended-source = (λ told. grind (arith, told), λ e. ap (λ (y : RunEnd). after_sync (ended_by y) unsynced) e)
+module _ (end : RunEnd) (unsynced : Option ℕ) (file sectors : ℕ) where
+  ended-source : (left_stale (after_sync (ended_by end) unsynced) file sectors ≡ status.SourceFault) ↔ (end ≡ Answered answer.SourceFault)
+  ended-source = (
+    λ told. let synced = left-told (after_sync (ended_by end) unsynced) status.SourceFault file sectors (λ k n x. cc) told in grind (arith, synced),
+    λ e. ap (λ (y : RunEnd). left_stale (after_sync (ended_by y) unsynced) file sectors) e,
+  )
 
-  ended-sink : (after_sync (ended_by end) unsynced ≡ status.SinkFault) ↔ (end ≡ Answered answer.SinkFault)
-  ended-sink = (λ told. grind (arith, told), λ e. ap (λ (y : RunEnd). after_sync (ended_by y) unsynced) e)
+  ended-sink : (left_stale (after_sync (ended_by end) unsynced) file sectors ≡ status.SinkFault) ↔ (end ≡ Answered answer.SinkFault)
+  ended-sink = (
+    λ told. let synced = left-told (after_sync (ended_by end) unsynced) status.SinkFault file sectors (λ k n x. cc) told in grind (arith, synced),
+    λ e. ap (λ (y : RunEnd). left_stale (after_sync (ended_by y) unsynced) file sectors) e,
+  )
 
 stopped-source : (why : MirrorStop) → stopped_by why ≢ status.SourceFault
 stopped-source stop.NoMemory e = cc
@@ -246,11 +348,11 @@ stopped-sink (stop.Mirror mirror.Failed) e = cc
 stopped-sink (stop.Mirror mirror.NoMemory) e = cc
 
 pub source-told : (s : Status) (r : Result MirrorEnd MirrorStop) → s ≡ mirrored_as r → (s ≡ status.SourceFault) ↔ EndedAs r (Answered answer.SourceFault)
-source-told s (Ok e) is = (λ told. (ended-source e.end e.unsynced).0 (sym is ∙ told), λ ended. is ∙ (ended-source e.end e.unsynced).1 ended)
+source-told s (Ok e) is = (λ told. (ended-source e.end e.unsynced e.follower e.stale).0 (sym is ∙ told), λ ended. is ∙ (ended-source e.end e.unsynced e.follower e.stale).1 ended)
 source-told s (Err why) is = (λ told. absurd (stopped-source why (sym is ∙ told)), λ ended. absurd ended)
 
 pub sink-told : (s : Status) (r : Result MirrorEnd MirrorStop) → s ≡ mirrored_as r → (s ≡ status.SinkFault) ↔ EndedAs r (Answered answer.SinkFault)
-sink-told s (Ok e) is = (λ told. (ended-sink e.end e.unsynced).0 (sym is ∙ told), λ ended. is ∙ (ended-sink e.end e.unsynced).1 ended)
+sink-told s (Ok e) is = (λ told. (ended-sink e.end e.unsynced e.follower e.stale).0 (sym is ∙ told), λ ended. is ∙ (ended-sink e.end e.unsynced e.follower e.stale).1 ended)
 sink-told s (Err why) is = (λ told. absurd (stopped-sink why (sym is ∙ told)), λ ended. absurd ended)
 
 -- The four disks.
@@ -293,6 +395,7 @@ runs-mirror state asked t a b r given back disks disks' were are ran stopped sta
       unmarked = unmarked state name t a b given back r law;
       blames = blames state name t a b given back r law;
       equal = equal state name t a b given back r law;
+      stale = stale state name t a b given back r law;
     }
 
 -- A command that is a mirror has four disks.

@@ -51,6 +51,7 @@ code_of status.CaptureHead = 14
 code_of (status.Capture number) = 14
 code_of (status.MirrorSides first second) = 15
 code_of status.MirrorMark = 15
+code_of (status.Stale file sectors) = 18
 
 -- what is wrong with a line of a script, in a word
 abbrev pub word_of : Why → List ℕ
@@ -99,6 +100,7 @@ text_of (status.Capture number) = codes "aoe: capture record " ++ decimal number
 text_of (status.MirrorSides first second) =
     codes "aoe: mirror sides have " ++ (decimal first ++ (codes " and " ++ (decimal second ++ codes " sectors")))
 text_of status.MirrorMark = codes "aoe: mirror mark has no sector"
+text_of (status.Stale file sectors) = []
 
 -- the numbers of a slot's disks, in the order of the files' names
 abbrev pub file_at : ℕ → ℕ
@@ -179,8 +181,16 @@ abbrev pub after_sync : Status → Option ℕ → Status
 after_sync status.Ok (Some disk) = status.DiskFault disk
 after_sync s unsynced = s
 
+-- and what is stale then of a side is told where nothing failed
+abbrev pub stale_or_ok : ℕ → ℕ → Status
+stale_or_ok file sectors = if sectors == 0 then status.Ok else status.Stale file sectors
+
+abbrev pub left_stale : Status → ℕ → ℕ → Status
+left_stale status.Ok file sectors = stale_or_ok file sectors
+left_stale s file sectors = s
+
 abbrev pub mirrored_as : Result MirrorEnd MirrorStop → Status
-mirrored_as (Ok e) = after_sync (ended_by e.end) e.unsynced
+mirrored_as (Ok e) = left_stale (after_sync (ended_by e.end) e.unsynced) e.follower e.stale
 mirrored_as (Err why) = stopped_by why
 
 -- the slot of a disk that is a keep

@@ -1,10 +1,11 @@
 -- A run of `mirror`, by its status. Its disks are the sides 0 and 1, 2 that says which side leads, and 3 the keep.
-use Rattle.std.specs.Prelude.{ℕ, ◌≡◌, ◌≢◌, ◌≤◌, ◌==◌, ◌⊎◌, ◌↔◌, Bool, true, false, List, [], ◌∷◌, Option, Some, IfOk, IfErr, IfSome, Result, if◌then◌else◌}
+use Rattle.std.specs.Prelude.{ℕ, ◌≡◌, ◌≢◌, ◌≤◌, ◌<◌, ◌==◌, ◌⊎◌, ◌↔◌, Bool, true, false, List, [], ◌∷◌, Option, Some, IfOk, IfErr, IfSome, Result, if◌then◌else◌}
 use Rattle.aoe_base.specs.Faults.{Rose}
-use Rattle.aoe_disk.specs.State.{DiskState}
+use Rattle.aoe_disk.specs.State.{Contents, DiskState}
+use Rattle.aoe_mirror.specs.Marks.{count_of}
 use Rattle.aoe_mirror.specs.Sides.{both}
 use Rattle.aoe_serve.specs.Exporting.{Outside, Tells}
-use Rattle.aoe_serve.specs.Mirroring.{AreEqual, IsMirrored, Stops, faults_of}
+use Rattle.aoe_serve.specs.Mirroring.{AreEqual, AreEqualBut, IsMirrored, Stops, faults_of}
 use Rattle.aoe_serve.specs.declared.over_mirror.MirrorDisks.{MirrorDisks}
 use Rattle.aoe_serve.specs.declared.over_mirror.MirrorEnd.{MirrorEnd}
 use Rattle.aoe_serve.specs.declared.over_mirror.MirrorStop.{MirrorStop}
@@ -48,6 +49,10 @@ ComesToSides s = (is_kept_out s ≡ false) × (s ≢ status.NoMemory)
 abbrev pub HasSides : DiskState → DiskState → ℕ → ℕ → Type 0
 HasSides one two first second = (first ≡ one.sectors) × (second ≡ two.sectors) × (first ≢ second)
 
+-- two sides that are equal but for so many sectors
+abbrev pub LeavesStale : ℕ → Option (Contents × Contents) → Type 0
+LeavesStale sectors sides = (stale : List Bool) × (count_of stale ≡ sectors) × IfSome sides (AreEqualBut stale)
+
 -- What a run over a mirror takes, gives and leaves. Where nothing was run, nothing was read or written; each disk is as the cause says.
 pub record RunsMirror {D S K L : Type 0} (state : D → DiskState) (asked : Mirror) (t : Tells S K L) (s : Status) (a b : Outside S K L)
     (disks disks' : List (Option D)) : Type 0 where
@@ -66,6 +71,9 @@ pub record RunsMirror {D S K L : Type 0} (state : D → DiskState) (asked : Mirr
       ↔ (((state given.two).sectors ≡ (state given.one).sectors) × ((state given.mark).sectors ≡ 0) × ComesToSides s)
   -- a disk that is said to have failed did
   pub blames : (disk : ℕ) → s ≡ status.DiskFault disk → (disk ≤ 3) × Rose (faults_at state given disk) (faults_at state back disk)
-  -- where all went well, the sides are equal and settled, or one of them failed
+  -- where all went well, the sides are equal and settled
   pub equal : s ≡ status.Ok → IfSome (both (state back.one).contents (state back.two).contents) AreEqual
-      ⊎ (Rose (state given.one).faults (state back.one).faults ⊎ Rose (state given.two).faults (state back.two).faults)
+  -- where sectors are told as stale, they are equal and settled but for so many sectors, and one of them failed
+  pub stale : (file sectors : ℕ) → s ≡ status.Stale file sectors → (file ≤ 1) × (0 < sectors)
+      × LeavesStale sectors (both (state back.one).contents (state back.two).contents)
+      × (Rose (state given.one).faults (state back.one).faults ⊎ Rose (state given.two).faults (state back.two).faults)

@@ -395,9 +395,29 @@ fn tell_reached(rt: &HostRuntime, command: &Command, is_sink: bool, reached: u64
     }
 }
 
-/// Says what there is to say of how a command ended, of which a copy reached so many sectors, and gives the
-/// exit status.
-fn tell_end(rt: &HostRuntime, command: &Command, status: Status, reached: u64) -> u8 {
+/// Says how many sectors of a mirror have no second copy, and which file lacks them.
+fn tell_stale(rt: &HostRuntime, files: &[String], file: u32, sectors: u64) {
+    if let Some(name) = files.get(file as usize)
+        && let Ok(text) = format!(in rt.alloc();
+            "aoe: {sectors} sectors of {name} have no second copy\n"
+        )
+    {
+        say(rt, text.as_bytes());
+    }
+}
+
+/// Says what there is to say of how a command over these files ended, of which a copy reached so many
+/// sectors, and gives the exit status.
+fn tell_end(
+    rt: &HostRuntime,
+    command: &Command,
+    files: &[String],
+    status: Status,
+    reached: u64,
+) -> u8 {
+    if let Status::Stale { file, sectors } = status {
+        tell_stale(rt, files, file, sectors);
+    }
     let is_ok = matches!(status, Status::Ok);
     let is_sink = matches!(status, Status::SinkFault);
     let code = tell(rt, status);
@@ -455,7 +475,7 @@ fn run_line(rt: &HostRuntime, line: CommandLine) -> u8
     {
         log.end(disks.as_slice(), link);
     }
-    tell_end(rt, &command, status, flow.reached())
+    tell_end(rt, &command, files.as_slice(), status, flow.reached())
 }
 
 /// What the arguments spell; the status where they spell no command, and where there is no memory to read

@@ -3,7 +3,7 @@ ghost use Rattle.std.specs.Prelude.{◌≡◌, ◌≤◌, ◌*◌, [], ◌∷◌
 ghost use Rattle.aoe_args.specs.Words.{CanAnswer, CanMirror, CanServe};
 ghost use Rattle.aoe_serve.specs.Exporting.{CanExport};
 ghost use Rattle.aoe.specs.Commands.{answer_plan, format_of, limit, mirror_options, serve_plan};
-ghost use Rattle.aoe.specs.Ending.{after_syncs, ended_by, excess_of, kept_out, mirrored_as, net_excess, refused_as, replayed_as, status_of, stopped_by};
+ghost use Rattle.aoe.specs.Ending.{after_sync, after_syncs, ended_by, excess_of, kept_out, left_stale, mirrored_as, net_excess, refused_as, replayed_as, stale_or_ok, status_of, stopped_by};
 
 use crate::status::{Status, What};
 use aoe_args::{Answer, Mirror, Serve};
@@ -145,17 +145,53 @@ fn stopped_by(why: MirrorStop) -> Status
     }
 }
 
+/// The status of a run over a mirror: a disk that failed in the last sync is told where nothing else
+/// is.
+fn after_sync(status: Status, unsynced: Option<u8>) -> Status
+    ensures { result ≡ after_sync status unsynced }
+{
+    match (status, unsynced) {
+        (Status::Ok, Some(disk)) => Status::DiskFault {
+            disk: u32::from(disk),
+        },
+        (status, _) => status,
+    }
+}
+
+/// The status where nothing failed and so many sectors of this side are stale.
+fn stale_or_ok(file: u8, sectors: u64) -> Status
+    ensures { result ≡ stale_or_ok file sectors }
+{
+    if sectors == 0 {
+        Status::Ok
+    } else {
+        Status::Stale {
+            file: u32::from(file),
+            sectors,
+        }
+    }
+}
+
+/// The status of a run that left so many sectors of this side stale, which are told where nothing
+/// failed.
+fn left_stale(status: Status, file: u8, sectors: u64) -> Status
+    ensures { result ≡ left_stale status file sectors }
+{
+    match status {
+        Status::Ok => stale_or_ok(file, sectors),
+        status => status,
+    }
+}
+
 /// The status of a run over a mirror.
 pub(crate) fn mirrored_as(answer: Result<MirrorEnd, MirrorStop>) -> Status
     ensures { result ≡ mirrored_as answer }
 {
     match answer {
-        Ok(MirrorEnd { end, unsynced }) => match (ended_by(end), unsynced) {
-            (Status::Ok, Some(disk)) => Status::DiskFault {
-                disk: u32::from(disk),
-            },
-            (status, _) => status,
-        },
+        Ok(ended) => {
+            let status = after_sync(ended_by(ended.end), ended.unsynced);
+            left_stale(status, ended.follower, ended.stale)
+        }
         Err(why) => stopped_by(why),
     }
 }

@@ -52,6 +52,8 @@ pub enum Status {
     MirrorSides { first: u64, second: u64 },
     /// The disk that says which side of a mirror leads has no sector.
     MirrorMark,
+    /// So many sectors of a mirror have no second copy: the side with that number lacks them.
+    Stale { file: u32, sectors: u64 },
 }
 
 /// Which limit was exceeded.
@@ -95,15 +97,17 @@ impl Status {
             Status::Audit { .. } => 13,
             Status::CaptureHead | Status::Capture { .. } => 14,
             Status::MirrorSides { .. } | Status::MirrorMark => 15,
+            Status::Stale { .. } => 18,
         }
     }
 
-    /// What the program says on standard error, without a line feed; nothing where all went well.
+    /// What the program says on standard error, without a line feed; nothing where all went well, or
+    /// where it names a file.
     pub fn text(&self, alloc: Global) -> Result<Blob, NoMemory>
         ensures { IfOk result (λ text. text ≡ text_of self.now) }
     {
         match *self {
-            Status::Ok => Blob::of(alloc, b""),
+            Status::Ok | Status::Stale { .. } => Blob::of(alloc, b""),
             Status::Usage => Blob::of(alloc, b"aoe: usage"),
             Status::Script { line, why } => script_text(alloc, line, why),
             Status::SourceFault => Blob::of(alloc, b"aoe: source fault"),

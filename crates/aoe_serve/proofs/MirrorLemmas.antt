@@ -1,5 +1,5 @@
 -- A mirror as the slot of a shelf.
-use Rattle.std.proofs.Common.{◌≡◌, ◌≤◌, ◌⊎◌, ℕ, zero, suc, Bool, true, false, List, [], ◌∷◌, ◌++◌, length, length-append, Option, Some, None, IfSome, Result, Ok, Err, is_err, is_some, refl, sym, ap, subst, ◌∙◌, inl, inr, arith, eq-eqb, ne_eqb, get_or}
+use Rattle.std.proofs.Common.{◌≡◌, ◌≤◌, ◌<◌, ◌⊎◌, ℕ, zero, suc, Bool, true, false, List, [], ◌∷◌, ◌++◌, length, length-append, Option, Some, None, IfSome, Result, Ok, Err, is_err, is_some, refl, sym, ap, subst, ◌∙◌, inl, inr, arith, eq-eqb, ne_eqb, get_or}
 use Rattle.std.proofs.lemmas.Bool.{both_ways, cases_eq, cases_lt}
 use Rattle.std.proofs.lemmas.Option.{same_Some}
 use Rattle.std.specs.Prelude.{IsSome, OnErr, slice_get}
@@ -27,7 +27,7 @@ use Rattle.aoe_mirror.proofs.Syncing.{Quiet, sync_ok, synced_quiet}
 use Rattle.aoe_mirror.proofs.Told.{told_if, told_mono, told_then, told_to}
 use Rattle.aoe_mirror.proofs.Whole.{seen_at}
 use Rattle.aoe_serve.specs.Exporting.{FindsAll, HasRun, Outside, SyncsSlot, Tells, first_failed}
-use Rattle.aoe_serve.specs.Mirroring.{AreEqual, EndsMirror, HasFailed, IsBegun, IsMirrored, IsOf, IsSince, LeavesAlone, RanMirror, faults_of, has_ended}
+use Rattle.aoe_serve.specs.Mirroring.{AreEqual, AreEqualBut, EndsMirror, HasFailed, IsBegun, IsLeftStale, IsMirrored, IsOf, IsSince, LeavesAlone, RanMirror, faults_of, has_ended}
 use Rattle.aoe_serve.specs.Slots.{EachSlot, Slot, slot_of, slots_of}
 use Rattle.aoe_serve.specs.declared.over_mirror.MirrorDisks.{MirrorDisks}
 use Rattle.aoe_serve.specs.declared.over_mirror.MirrorEnd.{MirrorEnd}
@@ -183,6 +183,7 @@ pub record IsEnded {D : Type 0} (state : D → DiskState) (faults : ℕ → ℕ)
   pub since : IsSince faults (pair state left)
   pub ended : Mirrored D
   pub ends : EndsMirror (has_ended e.end) e.unsynced (pair state left) (pair state ended)
+  pub told : IsLeftStale e (pair state ended)
   pub disks : IsOf state back (pair state ended)
   pub kept : back.keep ≡ keep.disk
 
@@ -213,6 +214,7 @@ ran_mirror {D} state name faults t p e a b mirror kept back targets targets' sea
       since = x.since;
       ended = pair state x.ended;
       ends = x.ends;
+      left = x.told;
       store_back = refl;
       disks_back = x.disks;
       keep_back = ap state x.kept ∙ ap (λ (k : Kept D). state k.disk) x.alone.kept;
@@ -228,39 +230,47 @@ ran_mirror {D} state name faults t p e a b mirror kept back targets targets' sea
       };
     }
 
--- Sides that are equal.
+-- Sides that are equal where nothing is stale.
 
-swap_equal : (x y : Option Contents) → IfSome (both x y) AreEqual → IfSome (both y x) AreEqual
-swap_equal None None h = tt
-swap_equal None (Some b) h = tt
-swap_equal (Some a) None h = tt
-swap_equal (Some a) (Some b) h = record { same = λ s. sym (h.same s); first = h.second; second = h.first }
+swap_equal : (stale : List Bool) (x y : Option Contents) → IfSome (both x y) (AreEqualBut stale) → IfSome (both y x) (AreEqualBut stale)
+swap_equal stale None None h = tt
+swap_equal stale None (Some b) h = tt
+swap_equal stale (Some a) None h = tt
+swap_equal stale (Some a) (Some b) h = record { same = λ s off. sym (h.same s off); first = h.second; second = h.first }
 
-equal_if : (p : Pair) (x : Option (Contents × Contents)) → count_of p.stale ≡ 0 → IfSome (option_map (seen p.stale) x) Quiet → IfSome x (Holds p)
-    → IfSome x AreEqual
-equal_if p None whole quiet holds = tt
-equal_if p (Some sides) whole quiet holds =
-    let fresh = λ (s : ℕ). count_none p.stale s whole in
+equal_if : (p : Pair) (x : Option (Contents × Contents)) → IfSome (option_map (seen p.stale) x) Quiet → IfSome x (Holds p)
+    → IfSome x (AreEqualBut p.stale)
+equal_if p None quiet holds = tt
+equal_if p (Some sides) quiet holds =
     let parts = λ (s : ℕ). parts_in (is_loose sides.0.loose s) (is_loose sides.1.loose s) (is_loose p.stale s)
     (sym (seen_at p.lead.sectors p.stale sides s holds.0) ∙ quiet s) in
     record {
-      same = λ s. holds.1.same s (fresh s);
-      first = λ s. (parts s).0;
-      second = λ s. elim (parts s).1 [
+      same = λ s fresh. holds.1.same s fresh;
+      first = λ s fresh. (parts s).0;
+      second = λ s fresh. elim (parts s).1 [
         | inl off ↦ off
-        | inr on ↦ absurd (both_ways (is_loose p.stale s) (fresh s) on)
+        | inr on ↦ absurd (both_ways (is_loose p.stale s) fresh on)
       ];
     }
 
-equal_sides : {D : Type 0} (state : D → DiskState) (back : MirrorDisks D) (p : Pair) → IsMirror p → count_of p.stale ≡ 0
-    → IfSome (shown p).contents Quiet → IsOf state back p → IfSome (both (state back.one).contents (state back.two).contents) AreEqual
-equal_sides state back p m whole quiet is =
-    let equal : IfSome (both p.lead.contents p.follower.contents) AreEqual = equal_if p (both p.lead.contents p.follower.contents) whole quiet (holds_of p m) in
-    let so : IfSome (both (side_of p 0).contents (side_of p 1).contents) AreEqual = elim (cases_eq p.side 1) [
-      | inl one ↦ rw (ne_eqb 0 p.side (λ e. absurd (omega (arith, e, one))), eq-eqb 1 p.side (sym one)) (swap_equal p.lead.contents p.follower.contents equal)
+equal_sides : {D : Type 0} (state : D → DiskState) (back : MirrorDisks D) (p : Pair) → IsMirror p → IfSome (shown p).contents Quiet → IsOf state back p
+    → IfSome (both (state back.one).contents (state back.two).contents) (AreEqualBut p.stale)
+equal_sides state back p m quiet is =
+    let equal : IfSome (both p.lead.contents p.follower.contents) (AreEqualBut p.stale) =
+    equal_if p (both p.lead.contents p.follower.contents) quiet (holds_of p m) in
+    let so : IfSome (both (side_of p 0).contents (side_of p 1).contents) (AreEqualBut p.stale) = elim (cases_eq p.side 1) [
+      | inl one ↦ rw (ne_eqb 0 p.side (λ e. absurd (omega (arith, e, one))), eq-eqb 1 p.side (sym one))
+          (swap_equal p.stale p.lead.contents p.follower.contents equal)
       | inr other ↦ rw (eq-eqb 0 p.side (let le = m.mark.side in omega (arith, other, le)), ne_eqb 1 p.side (λ e. absurd (other (sym e)))) equal
     ] in
     rw (is.one, is.two) so
+
+-- where nothing is stale, everywhere
+equal_all : (stale : List Bool) (x : Option (Contents × Contents)) → count_of stale ≡ 0 → IfSome x (AreEqualBut stale) → IfSome x AreEqual
+equal_all stale None whole h = tt
+equal_all stale (Some sides) whole h =
+    let fresh = λ (s : ℕ). count_none stale s whole in
+    record { same = λ s. h.same s (fresh s); first = λ s. h.first s (fresh s); second = λ s. h.second s (fresh s) }
 
 -- A run from the mounting to the giving back.
 
@@ -292,6 +302,9 @@ pub mirrored : {D S K L : Type 0} (state : D → DiskState) (name : ℕ → Stat
 mirrored {D} state name faults t p e a b given back begun kept same begins r =
     let since : IsSince (faults_of state given) r.middle = subst (λ (f : ℕ → ℕ). IsSince f r.middle) same r.since in
     let finds : AlwaysFinds r.first.device.keep r.first.device.lists = rw (r.keep, r.lists) begins.keep.finds in
+    let apart : e.unsynced ≡ None → IfSome (both (state back.one).contents (state back.two).contents) (AreEqualBut r.ended.stale) = λ none.
+    equal_sides state back r.ended r.ends.mirror
+    (synced_quiet r.ends.answer (shown r.middle) (shown r.ended) (no_error e.unsynced (is_err r.ends.answer) r.ends.told none) r.ends.syncs) r.disks_back in
     record {
       first = r.first;
       last = r.last;
@@ -313,10 +326,11 @@ mirrored {D} state name faults t p e a b given back begun kept same begins r =
       run = r.run;
       ends = run_ends t p e.end a b (r.first ∷ []) r.run.middle (r.last ∷ []) r.run.results r.run.ran (finds_one r.first finds) r.run.synced;
       blames = blamed_one state given back r.middle r.ended since r.ends.counts r.disks_back e.unsynced r.ends.blames;
-      equal = λ well none. elim (r.ends.whole well none) [
-        | inl whole ↦ inl (equal_sides state back r.ended r.ends.mirror whole
-            (synced_quiet r.ends.answer (shown r.middle) (shown r.ended) (no_error e.unsynced (is_err r.ends.answer) r.ends.told none) r.ends.syncs)
-            r.disks_back)
-        | inr side ↦ inr (failed_side state given back r.middle r.ended since r.ends.counts r.disks_back side)
+      left = r.left;
+      apart = apart;
+      equal = λ none whole. equal_all r.ended.stale (both (state back.one).contents (state back.two).contents) (sym r.left.stale ∙ whole) (apart none);
+      copied = λ well none some. elim (r.ends.whole well none) [
+        | inl whole ↦ let told = r.left.stale in absurd (omega (arith, whole, told, some))
+        | inr side ↦ failed_side state given back r.middle r.ended since r.ends.counts r.disks_back side
       ];
     }

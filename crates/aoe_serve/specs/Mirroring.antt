@@ -1,5 +1,5 @@
 -- A mirror as the slot of a shelf. Its disks are numbered: the sides 0 and 1, and 2 the mark disk.
-use Rattle.std.specs.Prelude.{ℕ, ◌≡◌, ◌≤◌, ◌==◌, ◌⊎◌, Bool, true, false, List, [], ◌∷◌, get_or, is_err, is_some, Option, None, IfSome, Result, Ok, Err, if◌then◌else◌}
+use Rattle.std.specs.Prelude.{ℕ, ◌≡◌, ◌≤◌, ◌<◌, ◌-◌, ◌==◌, ◌⊎◌, Bool, true, false, List, [], ◌∷◌, get_or, is_err, is_some, Option, None, IfSome, Result, Ok, Err, if◌then◌else◌}
 use Rattle.std.specs.Option.{option_map}
 use Rattle.aoe_base.specs.Faults.{Rose}
 use Rattle.aoe_base.specs.declared.failure.Failed.{Failed}
@@ -100,6 +100,11 @@ pub record LeavesAlone {D : Type 0} (mirror : Mirrored D) (keep : Kept D) (targe
   pub store : mirror ≡ target.store
   pub kept : keep ≡ target.keep
 
+-- how many sectors are told as stale, and of which side
+pub record IsLeftStale (e : MirrorEnd) (ended : Pair) : Type 0 where
+  pub stale : e.stale ≡ count_of ended.stale
+  pub follower : e.follower ≡ 1 - ended.side
+
 -- The plan was run over a mirror and a keep, which were a slot: the mirror is synced then, and their disks are given back.
 pub record RanMirror {D S K L : Type 0} (state : D → DiskState) (name : ℕ → Station) (faults : ℕ → ℕ) (t : Tells S K L) (p : Plan) (e : MirrorEnd)
     (a b : Outside S K L) (begun : Pair) (kept : Kept D) (back : MirrorDisks D) : Type 0 where
@@ -113,10 +118,17 @@ pub record RanMirror {D S K L : Type 0} (state : D → DiskState) (name : ℕ �
   pub since : IsSince faults middle
   pub ended : Pair
   pub ends : EndsMirror (has_ended e.end) e.unsynced middle ended
+  pub left : IsLeftStale e ended
   pub store_back : last.device.store ≡ shown ended
   pub disks_back : IsOf state back ended
   pub keep_back : state back.keep ≡ last.device.keep
   pub run : HasRunAndSynced t p (exported_of e) a b (first ∷ []) (last ∷ [])
+
+-- two sides with equal sectors where nothing is stale, which no crash changes
+pub record AreEqualBut (stale : List Bool) (sides : Contents × Contents) : Type 0 where
+  pub same : (s : ℕ) → is_loose stale s ≡ false → sector sides.1.bytes s ≡ sector sides.0.bytes s
+  pub first : (s : ℕ) → is_loose stale s ≡ false → is_loose sides.0.loose s ≡ false
+  pub second : (s : ℕ) → is_loose stale s ≡ false → is_loose sides.1.loose s ≡ false
 
 -- two sides with equal sectors, which no crash changes
 pub record AreEqual (sides : Contents × Contents) : Type 0 where
@@ -131,7 +143,8 @@ EndedAs (Err why) end = ⊥
 
 -- A run over a mirror and its keep: the mirror was a slot, the plan was run over it, and then it was synced. At the end the slot holds
 -- what is known after the frames that came to it and the sync, and outlives a loss of power. A disk that is said to have failed did. Where
--- all ended well and no side failed, both sides are equal.
+-- the last sync was Ok both sides are equal but in the sectors that are told as stale; after a run that ended well there are none, or a side
+-- failed.
 pub record IsMirrored {D S K L : Type 0} (state : D → DiskState) (name : ℕ → Station) (t : Tells S K L) (p : Plan) (e : MirrorEnd)
     (a b : Outside S K L) (given back : MirrorDisks D) : Type 0 where
   pub first : Slot
@@ -141,8 +154,10 @@ pub record IsMirrored {D S K L : Type 0} (state : D → DiskState) (name : ℕ �
   pub ends : EachSlot (λ i x y. EndsAfter (at_slot i (arrivals_in t p e.end a b (first ∷ []) run.middle run.ran)) (get_or run.results i (Ok tt)) x y)
       (first ∷ []) (last ∷ [])
   pub blames : IfSome e.unsynced (λ k. (k ≤ 2) × HasFailed state given back k)
-  pub equal : has_ended e.end ≡ true → e.unsynced ≡ None
-      → IfSome (both (state back.one).contents (state back.two).contents) AreEqual ⊎ (HasFailed state given back 0 ⊎ HasFailed state given back 1)
+  pub left : IsLeftStale e over.ended
+  pub apart : e.unsynced ≡ None → IfSome (both (state back.one).contents (state back.two).contents) (AreEqualBut over.ended.stale)
+  pub equal : e.unsynced ≡ None → e.stale ≡ 0 → IfSome (both (state back.one).contents (state back.two).contents) AreEqual
+  pub copied : has_ended e.end ≡ true → e.unsynced ≡ None → 0 < e.stale → HasFailed state given back 0 ⊎ HasFailed state given back 1
 
 -- the sides are as they were
 abbrev pub SameSides : {D : Type 0} → MirrorDisks D → MirrorDisks D → Type 0

@@ -21,9 +21,10 @@
 //! that order (`Answered`, `Served`; `recorded` for a capture). `export` runs its plan over files
 //! and keeps as slots, syncs each store once and names the first that failed; each slot then holds
 //! what its frames left, and outlives a loss of power (`IsExported`, `EndsAfter`), with `durable`
-//! each done write too. `export_mirror` does so with a mirror; its sides end equal where all ended
-//! well and neither failed (`IsMirrored`). A refused run leaves source, sink and links as they
-//! were, and a fault of one is told only if its count rose. A `send` of `ShelfLink` never fails.
+//! each done write too. `export_mirror` does so with a mirror; its sides end equal but for the
+//! sectors that it tells as stale, and after a run that ended well there are some only if a side
+//! failed (`IsMirrored`). A refused run leaves source, sink and links as they were, and a fault of
+//! one is told only if its count rose. A `send` of `ShelfLink` never fails.
 //!
 //! Only tested: each call of source, sink, link and disk failing (`serve` of aoe_shelf_tests),
 //! files of a program that is killed or loses power (`tests/kill`, `tests/power-loss`,

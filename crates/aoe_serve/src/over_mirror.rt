@@ -1,6 +1,7 @@
 //! The call that exports a mirror.
-ghost use Rattle.std.specs.Prelude.{◌≡◌, ◌≤◌, ◌<◌, ◌+◌, ◌/◌, [], ◌∷◌, ℕ, IfErr, IfOk, IfSome, IsSome, None, OnErr, false, is_err, length, true};
+ghost use Rattle.std.specs.Prelude.{◌≡◌, ◌≤◌, ◌<◌, ◌+◌, ◌-◌, ◌/◌, [], ◌∷◌, ℕ, IfErr, IfOk, IfSome, IsSome, None, OnErr, false, is_err, length, true};
 ghost use Rattle.aoe_base.specs.Faults.{Blamed};
+ghost use Rattle.aoe_mirror.specs.Marks.{count_of};
 ghost use Rattle.aoe_mirror.specs.Mirror.{pair, state_of};
 ghost use Rattle.aoe_mirror.specs.Sides.{IsMirror};
 ghost use Rattle.aoe_serve.specs.Exporting.{AtFirst, CanExport, is_served};
@@ -38,6 +39,13 @@ pub struct MirrorEnd {
     /// Where the last sync failed, the lowest disk that failed in it: side 0, side 1, or 2 for the
     /// mark disk.
     pub unsynced: Option<u8>,
+
+    /// How many sectors have no second copy, since the side that follows may differ from the lead
+    /// in them.
+    pub stale: u64,
+
+    /// The side that follows, 0 or 1.
+    pub follower: u8,
 }
 
 /// Why nothing was run over a mirror.
@@ -202,6 +210,24 @@ fn finish<D: Disk>(mirror: &mut Mirror<D>, well: bool) -> Option<u8>
     None
 }
 
+/// How a run ended, with what is stale then of the mirror.
+fn told<D: Disk>(mirror: &Mirror<D>, end: RunEnd, unsynced: Option<u8>) -> MirrorEnd
+    requires { (pair D.state mirror.now).side ≤ 1 }
+    ensures { result ≡ record {
+      end = end;
+      unsynced = unsynced;
+      stale = count_of mirror.now.sides.stale;
+      follower = 1 - mirror.now.sides.side;
+    } }
+{
+    MirrorEnd {
+        end,
+        unsynced,
+        stale: mirror.stale(),
+        follower: 1 - mirror.lead(),
+    }
+}
+
 /// Adds a mirror and its keep as the only slot of a shelf.
 fn seat<D: Disk + Drop, G: Given>(
     shelf: &mut Shelf<Counted<D, G>, D>,
@@ -270,6 +296,7 @@ fn run_over<D: Disk + Drop, G: Given, S: Source, K: Sink, L: Link>(
     let end = run(shelf, plan, source, sink, links);
     let (mut mirror, keep) = leave(shelf);
     let unsynced = finish(&mut mirror, has_ended(end));
+    let ended = told(&mirror, end, unsynced);
     let (one, two, mark) = mirror.close();
     let disks = MirrorDisks {
         one,
@@ -277,7 +304,7 @@ fn run_over<D: Disk + Drop, G: Given, S: Source, K: Sink, L: Link>(
         mark,
         keep: keep.close(),
     };
-    (MirrorEnd { end, unsynced }, disks)
+    (ended, disks)
 }
 
 /// Exports a mirror of two disks as the only slot of a shelf, for one run.
@@ -285,8 +312,8 @@ fn run_over<D: Disk + Drop, G: Given, S: Source, K: Sink, L: Link>(
 /// The keep is mounted, and then the mirror (`aoe_mirror`), each run of whose stale sectors is copied,
 /// also behind one of which the copy fails. Where one of the two isn't mounted, nothing is read or
 /// sent. Else the plan is run over the slot, and the mirror is synced, however the run ended. Where
-/// that and the run went well, what is stale then is copied, too. Each disk is given back, also where
-/// nothing was run.
+/// that and the run went well, what is stale then is copied, too; what stays stale is told. Each disk is
+/// given back, also where nothing was run.
 ///
 /// A mirror holds nothing back and syncs for a flush alone, so `options.cache` is 0 and `options.durable`
 /// isn't set.

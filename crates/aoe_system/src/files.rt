@@ -203,6 +203,9 @@ impl FileDisk {
         ensures lost { self.new.is_lost ≡ self.old.is_lost }
     {
         self.faults = self.faults.saturating_add(1);
+        if let Some(progress) = &mut self.progress {
+            progress.fails();
+        }
         if let Some(log) = &self.log {
             log.say(call, why);
         }

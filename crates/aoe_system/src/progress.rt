@@ -6,16 +6,20 @@ use std::time::{Clock, Duration};
 /// How often it is said, in seconds.
 const PERIOD: u64 = 1;
 
-/// Watches the calls of one side. The copying writes runs of sectors one behind the other, from the first
-/// one on, and syncs each. What else is called shows that this side isn't copied to any more.
+/// Watches the calls of one side. The copying writes runs of sectors, each at or behind the end of the one
+/// before it, and syncs each. A run that can't be copied isn't written, or not synced, and the next one is
+/// written all the same. What else is called shows that this side isn't copied to any more.
 #[derive(Drop)]
 pub struct Progress {
     rt: HostRuntime,
 
-    /// The first sector that isn't written.
+    /// The first sector behind the runs that were tried.
+    tried: u64,
+
+    /// The sectors that were written and not synced.
     written: u64,
 
-    /// The first sector that isn't synced.
+    /// The sectors that were synced.
     synced: u64,
 
     /// The time at which it is said next.
@@ -31,6 +35,7 @@ impl Progress {
         }
         Some(Progress {
             rt: *rt,
+            tried: 0,
             written: 0,
             synced: 0,
             due: rt
@@ -43,21 +48,28 @@ impl Progress {
 
     /// Whether a write of these bytes from sector `at` on goes on with the copying.
     pub fn goes_on(&mut self, at: u64, piece: &[u8]) -> bool {
-        let is_next = at == self.written && self.written == self.synced;
+        let is_next = at >= self.tried;
         if is_next {
-            self.written = at.saturating_add((piece.len() / SECTOR_LEN) as u64);
+            self.written = (piece.len() / SECTOR_LEN) as u64;
+            self.tried = at.saturating_add(self.written);
         }
         is_next
     }
 
+    /// A call failed, so what was written isn't copied.
+    pub fn fails(&mut self) {
+        self.written = 0;
+    }
+
     /// Whether a sync goes on with the copying of so many sectors in all. What it ends is said.
     pub fn is_synced(&mut self, sectors: u64) -> bool {
-        if self.written == self.synced {
+        if self.written == 0 {
             return false;
         }
-        self.synced = self.written;
+        self.synced = self.synced.saturating_add(self.written);
+        self.written = 0;
         self.say_in_time(sectors);
-        self.synced < sectors
+        self.tried < sectors
     }
 
     /// Says it once a period.

@@ -1,3 +1,5 @@
+use Rattle.std.proofs.Common.{◌-◌, refl}
+use Rattle.aoe_mirror.specs.Marks.{count_of}
 use Rattle.aoe_mirror.specs.Mirror.{pair}
 use Rattle.aoe_serve.specs.Files.{named}
 use Rattle.aoe_serve.specs.Mirroring.{IsOf}
@@ -6,17 +8,26 @@ use Rattle.aoe_serve.specs.declared.over_mirror.MirrorEnd.{MirrorEnd}
 use Rattle.aoe_serve.proofs.MirrorLemmas.{is_of, ran_mirror}
 use Rattle.aoe_serve.proofs.over_mirror.run_over.Goals as goal
 
+pub told-ended-requires : goal.told-ended-requires
+told-ended-requires g c = c.finish-unsynced.ensures.mirror.mark.side
+
 pub returns-clause-ran : goal.returns-clause-ran
 returns-clause-ran g c =
     let state = g.D.Disk.state in
     let shelf = c.args.shelf.now in
     let ended = c.finish-unsynced.new.mirror in
-    let end : MirrorEnd = record { end = c.run-end.result; unsynced = c.finish-unsynced.result } in
+    let end : MirrorEnd = record {
+      end = c.run-end.result;
+      unsynced = c.finish-unsynced.result;
+      stale = count_of ended.sides.stale;
+      follower = 1 - ended.sides.side;
+    } in
     let back : MirrorDisks g.row.D.Denot =
     record { one = c.close-one.result.0; two = c.close-one.result.1; mark = c.close-one.result.2; keep = c.close.result } in
     let of : IsOf state back (pair state ended) =
     is_of state ended.sides c.finish-unsynced.ensures.mirror.mark.side back c.close-one.ensures.one c.close-one.ensures.two c.close-one.ensures.mark in
-    ran_mirror state (named shelf.major shelf.ports shelf.mtu c.args.minor) g.G.Given.faults _ c.args.plan end _ _ c.args.mirror c.args.keep back
+    rw c.told-ended.ensures
+    (ran_mirror state (named shelf.major shelf.ports shelf.mtu c.args.minor) g.G.Given.faults _ c.args.plan end _ _ c.args.mirror c.args.keep back
     c.seat.new.shelf.targets c.run-end.new.shelf.targets c.seat.ensures.targets c.run-end.ensures.run (record {
       left = c.leave-mirror.result.0;
       keep = c.leave-mirror.result.1;
@@ -24,6 +35,10 @@ returns-clause-ran g c =
       since = c.leave-mirror.ensures.since;
       ended = ended;
       ends = rw c.has_ended.ensures at c.finish-unsynced.ensures;
+      told = record { stale = refl; follower = refl };
       disks = of;
       kept = c.close.ensures;
-    })
+    }))
+
+pub returns-clause-link_blame : goal.returns-clause-link_blame
+returns-clause-link_blame g c = rw c.told-ended.ensures c.run-end.ensures.link_blame
