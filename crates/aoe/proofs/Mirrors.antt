@@ -7,9 +7,10 @@ use Rattle.aoe_disk.specs.State.{DiskState}
 use Rattle.aoe_keep.specs.declared.refusal.MountRefusal.{MountRefusal}
 use Rattle.aoe_keep.specs.declared.refusal.MountRefusal.TheVariants as refusal
 use Rattle.aoe_mirror.specs.declared.refusal.MirrorRefusal.TheVariants as mirror
+use Rattle.aoe_mirror.specs.Mirror.{ReadsMark}
 use Rattle.aoe_mirror.specs.Sides.{both}
 use Rattle.aoe_serve.specs.Exporting.{HasRun, Outside, Tells}
-use Rattle.aoe_serve.specs.Mirroring.{AreEqual, EndedAs, HasFailed, IsMirrored, Stops, has_ended}
+use Rattle.aoe_serve.specs.Mirroring.{AreEqual, EndedAs, HasFailed, IsMirrored, SameSides, Stops, has_ended}
 use Rattle.aoe_serve.specs.Slots.{Slot}
 use Rattle.aoe_serve.specs.declared.over_link.ServeEnd.TheVariants as serve
 use Rattle.aoe_serve.specs.declared.over_mirror.MirrorDisks.{MirrorDisks}
@@ -82,6 +83,17 @@ ran-well (Served serve.Ended) None e = (refl, refl)
 ran-well (Served serve.Ended) (Some k) e = absurd cc
 ran-well (Served serve.LinkFault) unsynced e = absurd cc
 
+ran-not-other : (end : RunEnd) (unsynced : Option ℕ) → after_sync (ended_by end) unsynced ≢ status.NotMark
+ran-not-other (Answered answer.Ended) None e = cc
+ran-not-other (Answered answer.Ended) (Some k) e = cc
+ran-not-other (Answered answer.SourceFault) unsynced e = cc
+ran-not-other (Answered answer.SinkFault) unsynced e = cc
+ran-not-other (Answered (answer.Stream at)) unsynced e = cc
+ran-not-other (Answered answer.Limit) unsynced e = cc
+ran-not-other (Served serve.Ended) None e = cc
+ran-not-other (Served serve.Ended) (Some k) e = cc
+ran-not-other (Served serve.LinkFault) unsynced e = cc
+
 ran-not-stale : (end : RunEnd) (unsynced : Option ℕ) (file sectors : ℕ) → after_sync (ended_by end) unsynced ≢ status.Stale file sectors
 ran-not-stale (Answered answer.Ended) None file sectors e = cc
 ran-not-stale (Answered answer.Ended) (Some k) file sectors e = cc
@@ -122,6 +134,7 @@ left-is (status.Capture number) file sectors = inl (refl, λ e. absurd cc)
 left-is (status.MirrorSides first second) file sectors = inl (refl, λ e. absurd cc)
 left-is status.MirrorMark file sectors = inl (refl, λ e. absurd cc)
 left-is (status.Stale k n) file sectors = inl (refl, λ e. absurd cc)
+left-is status.NotMark file sectors = inl (refl, λ e. absurd cc)
 
 -- where another status is told, nothing is told as stale
 pub left-told : (s told : Status) (file sectors : ℕ) → ((k n : ℕ) → told ≢ status.Stale k n) → left_stale s file sectors ≡ told → s ≡ told
@@ -164,6 +177,7 @@ module _ {D S K L : Type 0} (state : D → DiskState) (name : ℕ → Station) (
     λ is. rw (law.1.0, law.1.1, is.0.0, is.0.1) refl,
   )
   unequal (Err (stop.Mirror mirror.NoMark)) law first second = (λ told. absurd cc, λ is. absurd (is.0.2 (is.0.0 ∙ sym law.1.0 ∙ sym is.0.1)))
+  unequal (Err (stop.Mirror mirror.NotMark)) law first second = (λ told. absurd cc, λ is. absurd (is.0.2 (is.0.0 ∙ sym law.1.0 ∙ sym is.0.1)))
   unequal (Err (stop.Mirror mirror.Failed)) law first second = (λ told. absurd cc, λ is. absurd (is.0.2 (is.0.0 ∙ sym law.1.0 ∙ sym is.0.1)))
   unequal (Err (stop.Mirror mirror.NoMemory)) law first second = (λ told. absurd cc, λ is. absurd (is.1.1 refl))
 
@@ -184,7 +198,21 @@ module _ {D S K L : Type 0} (state : D → DiskState) (name : ℕ → Station) (
   )
   unmarked (Err (stop.Mirror mirror.NoMark)) law = (λ told. (law.1.0, law.1.1, (refl, λ e. cc)), λ is. refl)
   unmarked (Err (stop.Mirror mirror.Failed)) law = (λ told. absurd cc, λ is. absurd (let room = law.1.1 in omega (arith, room, is.1)))
+  unmarked (Err (stop.Mirror mirror.NotMark)) law = (λ told. absurd cc, λ is. absurd (let room = law.1.1 in omega (arith, room, is.1)))
   unmarked (Err (stop.Mirror mirror.NoMemory)) law = (λ told. absurd cc, λ is. absurd (is.2.1 refl))
+
+  pub other : (r : Result MirrorEnd MirrorStop) → Law r → mirrored_as r ≡ status.NotMark
+      → SameSides given back × ReadsMark None (state given.mark) (state back.mark)
+  other (Ok e) law told = absurd (ran-not-other e.end e.unsynced (left-told _ _ e.follower e.stale (λ k n x. cc) told))
+  other (Err stop.NoMemory) law told = absurd cc
+  other (Err (stop.Keep refusal.Failed)) law told = absurd cc
+  other (Err (stop.Keep (refusal.TooSmall sectors))) law told = absurd cc
+  other (Err (stop.Keep (refusal.BadKeep k))) law told = absurd cc
+  other (Err (stop.Mirror (mirror.Unequal one two))) law told = absurd cc
+  other (Err (stop.Mirror mirror.NoMark)) law told = absurd cc
+  other (Err (stop.Mirror mirror.NotMark)) law told = (law.0, law.1.2)
+  other (Err (stop.Mirror mirror.Failed)) law told = absurd cc
+  other (Err (stop.Mirror mirror.NoMemory)) law told = absurd cc
 
   pub blames : (r : Result MirrorEnd MirrorStop) → Law r → (disk : ℕ) → mirrored_as r ≡ status.DiskFault disk
       → (disk ≤ 3) × Rose (faults_at state given disk) (faults_at state back disk)
@@ -201,6 +229,7 @@ module _ {D S K L : Type 0} (state : D → DiskState) (name : ℕ → Station) (
   blames (Err (stop.Keep (refusal.BadKeep k))) law disk told = absurd cc
   blames (Err (stop.Mirror (mirror.Unequal one two))) law disk told = absurd cc
   blames (Err (stop.Mirror mirror.NoMark)) law disk told = absurd cc
+  blames (Err (stop.Mirror mirror.NotMark)) law disk told = absurd cc
   blames (Err (stop.Mirror mirror.Failed)) law disk told =
       let same : 2 ≡ disk = cc in
       subst (λ (k : ℕ). (k ≤ 3) × Rose (faults_at state given k) (faults_at state back k)) same (omega arith, OnTrue_at refl law.1.2.cause)
@@ -218,6 +247,7 @@ module _ {D S K L : Type 0} (state : D → DiskState) (name : ℕ → Station) (
   equal (Err (stop.Keep (refusal.BadKeep k))) law told = absurd cc
   equal (Err (stop.Mirror (mirror.Unequal one two))) law told = absurd cc
   equal (Err (stop.Mirror mirror.NoMark)) law told = absurd cc
+  equal (Err (stop.Mirror mirror.NotMark)) law told = absurd cc
   equal (Err (stop.Mirror mirror.Failed)) law told = absurd cc
   equal (Err (stop.Mirror mirror.NoMemory)) law told = absurd cc
 
@@ -251,6 +281,7 @@ module _ {D S K L : Type 0} (state : D → DiskState) (name : ℕ → Station) (
   stale (Err (stop.Keep (refusal.BadKeep k))) law file sectors told = absurd cc
   stale (Err (stop.Mirror (mirror.Unequal one two))) law file sectors told = absurd cc
   stale (Err (stop.Mirror mirror.NoMark)) law file sectors told = absurd cc
+  stale (Err (stop.Mirror mirror.NotMark)) law file sectors told = absurd cc
   stale (Err (stop.Mirror mirror.Failed)) law file sectors told = absurd cc
   stale (Err (stop.Mirror mirror.NoMemory)) law file sectors told = absurd cc
 
@@ -285,6 +316,7 @@ module _ {D S K L : Type 0} (state : D → DiskState) (name : ℕ → Station) (
   mirror-status (Err (stop.Keep (refusal.BadKeep k))) ran = refl
   mirror-status (Err (stop.Mirror (mirror.Unequal one two))) ran = refl
   mirror-status (Err (stop.Mirror mirror.NoMark)) ran = refl
+  mirror-status (Err (stop.Mirror mirror.NotMark)) ran = refl
   mirror-status (Err (stop.Mirror mirror.Failed)) ran = refl
   mirror-status (Err (stop.Mirror mirror.NoMemory)) ran = refl
 
@@ -334,6 +366,7 @@ stopped-source (stop.Keep (refusal.TooSmall sectors)) e = cc
 stopped-source (stop.Keep (refusal.BadKeep k)) e = cc
 stopped-source (stop.Mirror (mirror.Unequal one two)) e = cc
 stopped-source (stop.Mirror mirror.NoMark) e = cc
+stopped-source (stop.Mirror mirror.NotMark) e = cc
 stopped-source (stop.Mirror mirror.Failed) e = cc
 stopped-source (stop.Mirror mirror.NoMemory) e = cc
 
@@ -344,6 +377,7 @@ stopped-sink (stop.Keep (refusal.TooSmall sectors)) e = cc
 stopped-sink (stop.Keep (refusal.BadKeep k)) e = cc
 stopped-sink (stop.Mirror (mirror.Unequal one two)) e = cc
 stopped-sink (stop.Mirror mirror.NoMark) e = cc
+stopped-sink (stop.Mirror mirror.NotMark) e = cc
 stopped-sink (stop.Mirror mirror.Failed) e = cc
 stopped-sink (stop.Mirror mirror.NoMemory) e = cc
 
@@ -393,6 +427,7 @@ runs-mirror state asked t a b r given back disks disks' were are ran stopped sta
       stopped = stopped-same (λ why. Stops state why given back) a b r stopped stays;
       unequal = unequal state name t a b given back r law;
       unmarked = unmarked state name t a b given back r law;
+      other = other state name t a b given back r law;
       blames = blames state name t a b given back r law;
       equal = equal state name t a b given back r law;
       stale = stale state name t a b given back r law;

@@ -336,6 +336,7 @@ memory-wanting (status.Script line cause) e = absurd cc
 memory-wanting (status.MirrorSides first second) e = absurd cc
 memory-wanting status.MirrorMark e = absurd cc
 memory-wanting (status.Stale file sectors) e = absurd cc
+memory-wanting status.NotMark e = absurd cc
 
 -- A run of a command.
 

@@ -52,6 +52,7 @@ code_of (status.Capture number) = 14
 code_of (status.MirrorSides first second) = 15
 code_of status.MirrorMark = 15
 code_of (status.Stale file sectors) = 18
+code_of status.NotMark = 8
 
 -- what is wrong with a line of a script, in a word
 abbrev pub word_of : Why → List ℕ
@@ -101,6 +102,7 @@ text_of (status.MirrorSides first second) =
     codes "aoe: mirror sides have " ++ (decimal first ++ (codes " and " ++ (decimal second ++ codes " sectors")))
 text_of status.MirrorMark = codes "aoe: mirror mark has no sector"
 text_of (status.Stale file sectors) = []
+text_of status.NotMark = codes "aoe: not a mark, but other data"
 
 -- the numbers of a slot's disks, in the order of the files' names
 abbrev pub file_at : ℕ → ℕ
@@ -173,6 +175,7 @@ stopped_by stop.NoMemory = status.NoMemory
 stopped_by (stop.Keep r) = kept_out r
 stopped_by (stop.Mirror (mirror.Unequal first second)) = status.MirrorSides first second
 stopped_by (stop.Mirror mirror.NoMark) = status.MirrorMark
+stopped_by (stop.Mirror mirror.NotMark) = status.NotMark
 stopped_by (stop.Mirror mirror.Failed) = status.DiskFault 2
 stopped_by (stop.Mirror mirror.NoMemory) = status.NoMemory
 

@@ -1,11 +1,12 @@
 -- A run of `mirror`, by its status. Its disks are the sides 0 and 1, 2 that says which side leads, and 3 the keep.
-use Rattle.std.specs.Prelude.{ℕ, ◌≡◌, ◌≢◌, ◌≤◌, ◌<◌, ◌==◌, ◌⊎◌, ◌↔◌, Bool, true, false, List, [], ◌∷◌, Option, Some, IfOk, IfErr, IfSome, Result, if◌then◌else◌}
+use Rattle.std.specs.Prelude.{ℕ, ◌≡◌, ◌≢◌, ◌≤◌, ◌<◌, ◌==◌, ◌⊎◌, ◌↔◌, Bool, true, false, List, [], ◌∷◌, Option, None, Some, IfOk, IfErr, IfSome, Result, if◌then◌else◌}
 use Rattle.aoe_base.specs.Faults.{Rose}
 use Rattle.aoe_disk.specs.State.{Contents, DiskState}
 use Rattle.aoe_mirror.specs.Marks.{count_of}
+use Rattle.aoe_mirror.specs.Mirror.{ReadsMark}
 use Rattle.aoe_mirror.specs.Sides.{both}
 use Rattle.aoe_serve.specs.Exporting.{Outside, Tells}
-use Rattle.aoe_serve.specs.Mirroring.{AreEqual, AreEqualBut, IsMirrored, Stops, faults_of}
+use Rattle.aoe_serve.specs.Mirroring.{AreEqual, AreEqualBut, IsMirrored, SameSides, Stops, faults_of}
 use Rattle.aoe_serve.specs.declared.over_mirror.MirrorDisks.{MirrorDisks}
 use Rattle.aoe_serve.specs.declared.over_mirror.MirrorEnd.{MirrorEnd}
 use Rattle.aoe_serve.specs.declared.over_mirror.MirrorStop.{MirrorStop}
@@ -69,6 +70,8 @@ pub record RunsMirror {D S K L : Type 0} (state : D → DiskState) (asked : Mirr
       → (s ≡ status.MirrorSides first second) ↔ (HasSides (state given.one) (state given.two) first second × ComesToSides s)
   pub unmarked : (s ≡ status.MirrorMark)
       ↔ (((state given.two).sectors ≡ (state given.one).sectors) × ((state given.mark).sectors ≡ 0) × ComesToSides s)
+  -- what is no mark is refused, and stays; a mirror that was run had a mark
+  pub other : s ≡ status.NotMark → SameSides given back × ReadsMark None (state given.mark) (state back.mark)
   -- a disk that is said to have failed did
   pub blames : (disk : ℕ) → s ≡ status.DiskFault disk → (disk ≤ 3) × Rose (faults_at state given disk) (faults_at state back disk)
   -- where all went well, the sides are equal and settled

@@ -141,6 +141,7 @@ fn stopped_by(why: MirrorStop) -> Status
             Status::MirrorSides { first, second }
         }
         MirrorStop::Mirror(MirrorRefusal::NoMark) => Status::MirrorMark,
+        MirrorStop::Mirror(MirrorRefusal::NotMark) => Status::NotMark,
         MirrorStop::Mirror(MirrorRefusal::Failed) => Status::DiskFault { disk: MARK },
     }
 }

@@ -54,6 +54,8 @@ pub enum Status {
     MirrorMark,
     /// So many sectors of a mirror have no second copy: the side with that number lacks them.
     Stale { file: u32, sectors: u64 },
+    /// The disk that is to say which side of a mirror leads holds something else.
+    NotMark,
 }
 
 /// Which limit was exceeded.
@@ -89,7 +91,7 @@ impl Status {
             Status::DiskFault { .. } => 5,
             Status::LinkFault { .. } => 6,
             Status::NoMemory => 7,
-            Status::KeepSmall { .. } | Status::KeepBad { .. } => 8,
+            Status::KeepSmall { .. } | Status::KeepBad { .. } | Status::NotMark => 8,
             Status::Unanswered { .. } => 9,
             Status::Refused(_) => 10,
             Status::Stream { .. } => 11,
@@ -126,6 +128,7 @@ impl Status {
             Status::Capture { number } => record_text(alloc, number),
             Status::MirrorSides { first, second } => sides_text(alloc, first, second),
             Status::MirrorMark => Blob::of(alloc, b"aoe: mirror mark has no sector"),
+            Status::NotMark => Blob::of(alloc, b"aoe: not a mark, but other data"),
         }
     }
 }

@@ -1,20 +1,23 @@
 -- What a crash of all three disks leaves, and a mark disk that is read.
-use mir.Val.{bool_byte}
-use Rattle.std.proofs.Common.{◌≡◌, ◌≤◌, ◌*◌, ◌==◌, ◌⊎◌, ℕ, Bool, true, false, Some, List, take, drop, get_or, is_err, refl, sym, ap, ◌∙◌, inl, inr, arith, eq-eqb, if◌then◌else◌}
+use Rattle.std.proofs.Common.{◌≡◌, ◌≤◌, ◌<◌, ◌*◌, ◌==◌, ◌⊎◌, ℕ, zero, suc, Bool, true, false, Option, None, Some, IfSome, List, length, take, drop, get_or, replicate, Result, Ok, Err, OnOk, is_err, refl, sym, ap, ◌∙◌, inl, inr, arith, eq-eqb, if◌then◌else◌}
 use Rattle.std.proofs.lemmas.Bool.{both_ways, cases_Bool}
 use Rattle.std.proofs.lemmas.List.{get_or-take}
-use Rattle.aoe_disk.specs.State.{CanLeave, Contents, DiskState, BothTell, is_loose, sector}
-use Rattle.aoe_disk.specs.Calls.{IsRun, Reads, SyncsTo}
+use Rattle.std.specs.List.{list_all}
+use Rattle.std.specs.Prelude.{slice_set}
+use Rattle.aoe_disk.specs.State.{CanLeave, Contents, DiskState, HasShape, IsDisk, BothTell, is_loose, sector}
+use Rattle.aoe_disk.specs.Calls.{IsRun, Puts, Reads, Syncs, SyncsTo, Writes, WritesTo}
 use Rattle.aoe_disk.specs.Sectors.{Calms}
 use Rattle.aoe_disk.proofs.Runs.{run_then}
-use Rattle.aoe_mirror.specs.Sides.{Agree, IsMirror, Names, Pair, Survives, both, named, reopened, seen}
+use Rattle.aoe_disk.proofs.Touching.{sector-with_sector, settles_kept}
+use Rattle.aoe_mirror.specs.Sides.{Agree, IsMirror, Names, Pair, Survives, both, mark_in, named, reopened, seen, side_in}
 use Rattle.aoe_mirror.specs.Calls.{Answer}
-use Rattle.aoe_mirror.specs.Mirror.{ReadsMark}
-use Rattle.aoe_mirror.proofs.Told.{and_if, if_mono}
+use Rattle.aoe_mirror.specs.Mirror.{FindsMark, ReadsMark}
+use Rattle.aoe_mirror.proofs.Told.{and_if, if_mono, told_if, told_mono}
 use Rattle.aoe_mirror.proofs.Whole.{Fit, seen_at}
-use Rattle.aoe_mirror.proofs.Quiet.{parts_in}
+use Rattle.aoe_mirror.proofs.Quiet.{parts_in, settled_by}
 use Rattle.aoe_mirror.proofs.Steps.{fit_of}
 use Rattle.aoe_mirror.proofs.Reading.{ok_given}
+use Rattle.aoe_mirror.proofs.Writing.{put_by}
 use Rattle.aoe_mirror.proofs.Syncing.{Quiet, synced_calm, synced_quiet}
 
 -- the first byte of a disk
@@ -71,13 +74,30 @@ survives p m = λ sides mark one two three told marked lead follower left. survi
 
 -- the mark disk, synced and read
 
-byte_le : (b : Bool) → bool_byte b ≤ 1
-byte_le true = omega arith
-byte_le false = omega arith
+-- the side by what is known of the bytes of a mark: whether all but the first are zeros, and the first is that of the second side, or zero
+abbrev side_by : Bool → Bool → Bool → Option ℕ
+side_by zeros second first = if zeros then if second then Some 1 else if first then Some 0 else None else None
 
-byte_names : (b : Bool) → (if b then 1 else 0) ≡ bool_byte b
-byte_names true = refl
-byte_names false = refl
+named_by : (zeros second first : Bool) (k : ℕ) → side_by zeros second first ≡ Some k → ((if second then 1 else 0) ≡ k) × (k ≤ 1)
+named_by true true first k e = let is : 1 ≡ k = cc in (is, omega (arith, is))
+named_by true false true k e = let is : 0 ≡ k = cc in (is, omega (arith, is))
+named_by true false false k e = absurd cc
+named_by false second first k e = absurd cc
+
+pub named_in : (bytes : List ℕ) (k : ℕ) → side_in (sector bytes 0) ≡ Some k → (named bytes ≡ k) × (k ≤ 1)
+unfolding side_in
+named_in bytes k e =
+    let marked = sector bytes 0 in
+    let by = named_by (list_all (λ b. b == 0) (drop 1 marked)) (get_or marked 0 0 == 0xa7) (get_or marked 0 0 == 0) k e in
+    (ap (λ (v : ℕ). if v == 0xa7 then 1 else 0) (first_byte bytes) ∙ by.0, by.1)
+
+mark_is : (bytes : List ℕ) → mark_in bytes ≡ side_in (sector bytes 0)
+unfolding mark_in
+mark_is bytes = refl
+
+finds_mark : (c : Contents) → is_loose c.loose 0 ≡ false → (found : Option ℕ) → side_in (sector c.bytes 0) ≡ found → FindsMark found c
+finds_mark c kept None e = mark_is c.bytes ∙ e
+finds_mark c kept (Some k) e = record { kept = kept; side = (named_in c.bytes k e).0; whole = mark_is c.bytes ∙ e }
 
 module _ (a b c : DiskState) (r q : Answer) (out : List ℕ) (sync : SyncsTo r a b) (ok : is_err r ≡ false) (read : Reads 0 512 q out b c) where
   pub mark_calm : BothTell Calms a.contents c.contents
@@ -86,17 +106,49 @@ module _ (a b c : DiskState) (r q : Answer) (out : List ℕ) (sync : SyncsTo r a
   pub mark_run : IsRun 2 (is_err q) a c
   mark_run = run_then 1 1 (is_err q) a b c (rw ok at sync.call) read.call
 
-  pub mark_reads : (k : ℕ) → is_err q ≡ false → k ≡ bool_byte (get_or out 0 0 == 0xa7) → ReadsMark k a c
-  mark_reads k done is = rw is (record {
+  pub mark_reads : (found : Option ℕ) → is_err q ≡ false → found ≡ side_in out → IfSome found (λ k. k ≤ 1) → ReadsMark found a c
+  mark_reads found done is either = record {
     run = rw done at mark_run;
     calm = mark_calm;
-    side = byte_le (get_or out 0 0 == 0xa7);
-    names = rw read.same (if_mono (λ (x : Contents). Quiet x × (out ≡ take 512 (drop (512 * 0) x.bytes)))
-        (Names (bool_byte (get_or out 0 0 == 0xa7))) b.contents
+    side = either;
+    names = rw read.same (if_mono (λ (x : Contents). Quiet x × (out ≡ take 512 (drop (512 * 0) x.bytes))) (FindsMark found) b.contents
         (and_if Quiet (λ (x : Contents). out ≡ take 512 (drop (512 * 0) x.bytes)) b.contents (synced_quiet r a b ok sync) (ok_given q done read.given))
-        (λ x h. record {
-          kept = h.0 0;
-          side = ap (λ (v : ℕ). if v == 0xa7 then 1 else 0) (first_byte x.bytes ∙ ap (λ (l : List ℕ). get_or l 0 0) (sym h.1))
-              ∙ byte_names (get_or out 0 0 == 0xa7);
-        }));
-  })
+        (λ x h. finds_mark x (h.0 0) found (sym (is ∙ ap side_in h.1))));
+  }
+
+-- a mark that is written
+
+zeros : (n : ℕ) → list_all (λ b. b == 0) (replicate n 0) ≡ true
+zeros zero = refl
+zeros (suc n) = zeros n
+
+pub first_side_in : (n : ℕ) → 0 < n → side_in (replicate n 0) ≡ Some 0
+unfolding side_in
+first_side_in zero some = absurd (omega (arith, some))
+first_side_in (suc n) some = rw (zeros n) refl
+
+pub second_side_in : (n : ℕ) → 0 < n → side_in (slice_set (replicate n 0) 0 0xa7) ≡ Some 1
+unfolding side_in
+second_side_in zero some = absurd (omega (arith, some))
+second_side_in (suc n) some = rw (zeros n) refl
+
+module _ (a b c : DiskState) (r q : Answer) (piece : List ℕ) (k : ℕ) (disk : IsDisk a) (room : 0 < a.sectors) (size : length piece ≡ 512)
+    (mark : side_in piece ≡ Some k) (w : WritesTo 0 piece r a b) (put : is_err r ≡ false) (s : SyncsTo q b c) where
+  marked : IfSome b.contents (λ (y : Contents). sector y.bytes 0 ≡ piece)
+  marked = told_if (Puts 0 piece) (HasShape a.sectors) (λ (y : Contents). sector y.bytes 0 ≡ piece) a.contents b.contents
+      (told_mono (Writes 0 piece r) (Puts 0 piece) a.contents b.contents w.contents (λ x y. put_by 0 piece r x y put)) disk.shape
+      (λ x y shape p. ap (λ (l : List ℕ). sector l 0) p.bytes ∙ sector-with_sector x.bytes piece 0 size (let bytes = shape.bytes in omega (arith, bytes, room)))
+
+  mark_written : is_err q ≡ false → IfSome c.contents (Names k)
+  mark_written done = told_if (Syncs q) (λ (y : Contents). sector y.bytes 0 ≡ piece) (Names k) b.contents c.contents s.contents marked
+      (λ y z h t.
+      let settles = settled_by q y z done t in
+      let whole : side_in (sector z.bytes 0) ≡ Some k = ap (λ (l : List ℕ). side_in (sector l 0)) settles.bytes ∙ ap side_in h ∙ mark in
+      record { kept = settles_kept y z settles 0; side = (named_in z.bytes k whole).0; whole = mark_is z.bytes ∙ whole })
+
+  pub mark_written_if : OnOk q (IfSome c.contents (Names k))
+  mark_written_if = ok_by q mark_written
+    where
+      ok_by : {T E : Type 0} {P : Type 0} (q : Result T E) → (is_err q ≡ false → P) → OnOk q P
+      ok_by (Ok v) h = h refl
+      ok_by (Err e) h = tt

@@ -1,13 +1,13 @@
 -- A mirror as its users see it, and what mounting one finds.
-use Rattle.std.specs.Prelude.{◌≡◌, ◌≤◌, ◌<◌, ◌==◌, ℕ, false, true, Option, IfSome, List, length, replicate, if◌then◌else◌}
+use Rattle.std.specs.Prelude.{◌≡◌, ◌≤◌, ◌<◌, ◌==◌, ℕ, false, true, Option, None, Some, IfSome, List, length, replicate, if◌then◌else◌}
 use Rattle.aoe_base.specs.Sizes.{scratch_bytes}
-use Rattle.aoe_disk.specs.State.{DiskState, BothTell}
+use Rattle.aoe_disk.specs.State.{BothTell, Contents, DiskState}
 use Rattle.aoe_disk.specs.Calls.{IsRun}
 use Rattle.aoe_disk.specs.Sectors.{Calms}
-use Rattle.aoe_mirror.specs.Sides.{IsMirror, Names, Pair, pair_of, shown}
+use Rattle.aoe_mirror.specs.Sides.{IsMirror, Names, Pair, mark_in, pair_of, shown}
 use Rattle.aoe_mirror.specs.declared.sides.Sides.{Sides}
 use Rattle.aoe_mirror.specs.declared.refusal.MirrorRefusal.{MirrorRefusal}
-use Rattle.aoe_mirror.specs.declared.refusal.MirrorRefusal.TheVariants.{Failed, NoMark, NoMemory, Unequal}
+use Rattle.aoe_mirror.specs.declared.refusal.MirrorRefusal.TheVariants.{Failed, NoMark, NoMemory, NotMark, Unequal}
 
 -- its disks, the lowest disk that failed in its latest sync, and the sector from which on the next copy looks for stale ones
 pub record Mirrored (D : Type 0) : Type 0 where
@@ -29,12 +29,17 @@ first_of s = if s.side == 1 then s.follower else s.lead
 abbrev pub second_of : {D : Type 0} → Sides D → D
 second_of s = if s.side == 1 then s.lead else s.follower
 
--- a mark disk that was synced and read: it names side k
-pub record ReadsMark (k : ℕ) (old new : DiskState) : Type 0 where
+-- the first sector of a mark disk is a mark that names side k, or no mark
+abbrev pub FindsMark : Option ℕ → Contents → Type 0
+FindsMark (Some k) mark = Names k mark
+FindsMark None mark = mark_in mark.bytes ≡ None
+
+-- a mark disk that was synced and read, and holds a mark of a side or none
+pub record ReadsMark (found : Option ℕ) (old new : DiskState) : Type 0 where
   pub run : IsRun 2 false old new
   pub calm : BothTell Calms old.contents new.contents
-  pub side : k ≤ 1
-  pub names : IfSome new.contents (Names k)
+  pub side : IfSome found (λ k. k ≤ 1)
+  pub names : IfSome new.contents (FindsMark found)
 
 -- the side that the mark disk names leads, and all of the other one is stale
 pub record Mounts {D : Type 0} (state : D → DiskState) (one two mark : D) (s : Sides D) : Type 0 where
@@ -42,7 +47,7 @@ pub record Mounts {D : Type 0} (state : D → DiskState) (one two mark : D) (s :
   pub room : 0 < (state mark).sectors
   pub side_one : first_of s ≡ one
   pub side_two : second_of s ≡ two
-  pub reads : ReadsMark s.side (state mark) (state s.mark)
+  pub reads : ReadsMark (Some s.side) (state mark) (state s.mark)
   pub stale : s.stale ≡ replicate (state one).sectors true
   pub settled : s.settled ≡ true
 
@@ -50,6 +55,7 @@ pub record Mounts {D : Type 0} (state : D → DiskState) (one two mark : D) (s :
 abbrev pub Refuses : MirrorRefusal → DiskState → DiskState → DiskState → DiskState → Type 0
 Refuses (Unequal first second) one two mark mark' = (first ≡ one.sectors) × (second ≡ two.sectors) × (first ≡ second → ⊥) × (mark' ≡ mark)
 Refuses NoMark one two mark mark' = (two.sectors ≡ one.sectors) × (mark.sectors ≡ 0) × (mark' ≡ mark)
+Refuses NotMark one two mark mark' = (two.sectors ≡ one.sectors) × (0 < mark.sectors) × ReadsMark None mark mark'
 Refuses Failed one two mark mark' = (two.sectors ≡ one.sectors) × (0 < mark.sectors) × IsRun 2 true mark mark' × BothTell Calms mark.contents mark'.contents
 Refuses NoMemory one two mark mark' = (two.sectors ≡ one.sectors) × (0 < mark.sectors) × IsRun 2 false mark mark' × BothTell Calms mark.contents mark'.contents
 

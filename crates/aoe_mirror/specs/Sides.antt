@@ -1,6 +1,6 @@
 -- Two disks that hold the sectors of one slot, and what is seen of them.
-use Rattle.std.specs.Prelude.{◌≡◌, ◌≤◌, ◌<◌, ◌+◌, ◌-◌, ◌==◌, ◌||◌, ◌&&◌, ℕ, Bool, true, false, not, Option, None, Some, IfSome, List, length, map, get_or, option_map, if◌then◌else◌}
-use Rattle.std.specs.List.{range_with_len}
+use Rattle.std.specs.Prelude.{◌≡◌, ◌≤◌, ◌<◌, ◌+◌, ◌-◌, ◌==◌, ◌||◌, ◌&&◌, ℕ, Bool, true, false, not, Option, None, Some, IfSome, List, length, map, drop, get_or, option_map, if◌then◌else◌}
+use Rattle.std.specs.List.{list_all, range_with_len}
 use Rattle.aoe_disk.specs.State.{Contents, DiskState, IsDisk, CanLeave, is_loose, sector}
 use Rattle.aoe_mirror.specs.declared.sides.Sides.{Sides}
 
@@ -62,10 +62,20 @@ pub record Agree (settled : Bool) (stale : List Bool) (sides : Contents × Conte
 abbrev pub named : List ℕ → ℕ
 named bytes = if get_or bytes 0 0 == 0xa7 then 1 else 0
 
--- a crash leaves a mark disk that names this side
+-- the side that a sector names which is a mark: its first byte says it, 0xA7 the second or 0 the first, and all others are zero
+unfoldable pub side_in : List ℕ → Option ℕ
+side_in marked =
+    if list_all (λ b. b == 0) (drop 1 marked) then if get_or marked 0 0 == 0xa7 then Some 1 else if get_or marked 0 0 == 0 then Some 0 else None else None
+
+-- the side that a disk names whose first sector is a mark
+unfoldable pub mark_in : List ℕ → Option ℕ
+mark_in bytes = side_in (sector bytes 0)
+
+-- a crash leaves a mark disk that names this side, and whose first sector is a mark
 pub record Names (k : ℕ) (mark : Contents) : Type 0 where
   pub kept : is_loose mark.loose 0 ≡ false
   pub side : named mark.bytes ≡ k
+  pub whole : mark_in mark.bytes ≡ Some k
 
 -- what holds of the mark disk
 pub record IsMark (p : Pair) : Type 0 where

@@ -2,8 +2,8 @@
 //!
 //! A [`Mirror`] is two disks, its sides 0 and 1, as a [`Store`](aoe_store::Store). One side leads:
 //! the mirror has its sectors. The other follows, with a mark for each sector that may differ from
-//! the lead's, a *stale* one. A third disk, the mark disk, says by its first byte which side leads:
-//! side 1 where that is 0xA7, else side 0. The calls come in this order:
+//! the lead's, a *stale* one. A third disk, the mark disk, says by its first sector which side
+//! leads: side 0 by 512 zeros, side 1 by 0xA7 and zeros. The calls come in this order:
 //!
 //! 1. [`Mirror::mount`] takes the three disks and all the memory that the mirror will ever use.
 //!    Every sector of the side that follows is stale then, since nothing tells what it missed.
@@ -30,7 +30,8 @@
 //! stale sectors for each failure (`CopiesAll`), and an Ok sync ends with the copy of a run
 //! (`SyncsAndCopies`). After a crash of all three disks the side that the mark disk names has the
 //! mirror's bytes in each sector that isn't loose (`Survives`). A disk that `failed` names did fail
-//! (`Blames`). A refused mounting names its cause (`Refuses`) and leaves the sides.
+//! (`Blames`). A refused mounting names its cause (`Refuses`) and leaves the sides; a mark disk that
+//! holds no mark is refused and stays, and one that was written holds a mark (`Names`).
 //!
 //! Only tested: worked runs in which each side fails once (`mirror` of aoe_shelf_tests); files that
 //! are full, limited or taken away, and losses of power (`tests/mirror`, `tests/power-loss`).

@@ -10,29 +10,29 @@ ghost use Rattle.aoe_mirror.specs.Mirror.{Mounts, ReadsMark, Refuses, first_of, 
 
 use crate::MirrorRefusal;
 use crate::marks::{MOST_IN_RUN, Marks};
-use crate::sides::{SECOND_LEADS, Sides};
+use crate::sides::{Sides, side_in};
 use aoe_base::{Failed, SECTOR_LEN};
 use aoe_disk::Disk;
 use aoe_store::Store;
 use std::alloc::Global;
 use std::marker::Model;
 
-// Which side the mark disk says leads, after a sync.
-fn read_mark<D: Disk>(disk: &mut D) -> Result<u8, Failed>
+// Which side the mark disk says leads, after a sync, where it holds a mark.
+fn read_mark<D: Disk>(disk: &mut D) -> Result<Option<u8>, Failed>
     requires room { 0 < (D.state disk.old).sectors }
     requires disk { IsDisk (D.state disk.old) }
-    ensures reads { IfOk result (λ side. ReadsMark side (D.state disk.old) (D.state disk.new)) }
+    ensures reads { IfOk result (λ found. ReadsMark found (D.state disk.old) (D.state disk.new)) }
     ensures run { IsRun 2 (is_err result) (D.state disk.old) (D.state disk.new) }
     ensures calm { BothTell Calms (D.state disk.old).contents (D.state disk.new).contents }
 {
     if let Err(Failed) = disk.sync() {
         return Err(Failed);
     }
-    let mut sector = [0; SECTOR_LEN];
-    if let Err(Failed) = disk.read(0, &mut sector) {
+    let mut marked = [0; SECTOR_LEN];
+    if let Err(Failed) = disk.read(0, &mut marked) {
         return Err(Failed);
     }
-    Ok(u8::from(sector[0] == SECOND_LEADS))
+    Ok(side_in(&marked))
 }
 
 // The lower of the disk that failed in a sync and the one that failed in the copying after it.
@@ -72,9 +72,10 @@ impl<D: Disk> Model for Mirror<D> {
 }
 
 impl<D: Disk> Mirror<D> {
-    /// The two disks as a mirror. The mark disk is synced and its first sector read: where its
-    /// first byte is 0xA7 side 1 leads, and else side 0. Every sector of the other side is stale.
-    /// All memory is taken here: a bit for each sector and 32 kB.
+    /// The two disks as a mirror. The mark disk is synced and its first sector read: side 0 leads
+    /// where it is zeros, side 1 where it is 0xA7 and zeros. What else it holds is no mark, and
+    /// stays. Every sector of the other side is stale. All memory is taken here: a bit for each
+    /// sector and 32 kB.
     pub fn mount(
         alloc: Global,
         one: D,
@@ -98,7 +99,8 @@ impl<D: Disk> Mirror<D> {
         }
         let mut mark = mark;
         let side = match read_mark(&mut mark) {
-            Ok(side) => side,
+            Ok(Some(side)) => side,
+            Ok(None) => return Err((MirrorRefusal::NotMark, one, two, mark)),
             Err(Failed) => return Err((MirrorRefusal::Failed, one, two, mark)),
         };
         let Ok(stale) = Marks::all(alloc, first as usize) else {

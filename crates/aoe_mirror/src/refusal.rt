@@ -12,6 +12,10 @@ pub enum MirrorRefusal {
     #[error("mirror mark has no sector")]
     NoMark,
 
+    /// The mark disk holds something else than a mark, which a takeover would overwrite.
+    #[error("not a mark")]
+    NotMark,
+
     /// A call of the mark disk failed.
     #[error("a device call failed")]
     Failed,

@@ -1,9 +1,10 @@
 //! Two disks that hold the sectors of one slot: one leads, and the other follows.
-ghost use Rattle.std.specs.Prelude.{◌≡◌, ◌≤◌, ◌<◌, ◌+◌, ◌-◌, ◌/◌, ◌⊎◌, ℕ, length, is_err, IfErr, IfSome, MatchOption, None, OnOk, Some, false, replicate, true};
+ghost use Rattle.std.specs.Prelude.{◌≡◌, ◌≤◌, ◌<◌, ◌+◌, ◌-◌, ◌/◌, ◌==◌, ◌⊎◌, ℕ, length, is_err, IfErr, IfSome, MatchOption, None, OnOk, Some, false, replicate, true};
+ghost use Rattle.std.specs.List.{list_all};
 ghost use Rattle.aoe_base.specs.Sizes.{scratch_bytes};
 ghost use Rattle.aoe_disk.specs.State.{IsDisk};
 ghost use Rattle.aoe_disk.specs.Calls.{IsRange, IsRun};
-ghost use Rattle.aoe_mirror.specs.Sides.{IsMark, IsMirror, Names, pair_of};
+ghost use Rattle.aoe_mirror.specs.Sides.{IsMark, IsMirror, Names, pair_of, side_in};
 ghost use Rattle.aoe_mirror.specs.Mirror.{first_of, second_of};
 ghost use Rattle.aoe_mirror.specs.Marks.{AreSet, IsNextRun, count_of};
 ghost use Rattle.aoe_mirror.specs.Calls.{Blames, Copies, CopiesAll, CopiesNext, CopiesRun, FollowerReads, FollowerSyncs, Follows, Halts, Leads, MirrorReads, MirrorSyncs, MirrorWrites, SettlesLead, StaysLead, StaysWhole, Swaps, TakesLead, WritesCopy, blamed_of, copy_blamed};
@@ -13,11 +14,53 @@ use aoe_base::{Failed, SECTOR_LEN};
 use aoe_disk::Disk;
 use std::mem;
 
-/// The first byte of a mark disk that says that side 1 leads. With any other byte side 0 does.
-pub(crate) const SECOND_LEADS: u8 = 0xa7;
+/// The first byte of a mark that says that side 1 leads. That of one that says side 0 is 0, and all
+/// other bytes of both are 0.
+const SECOND_LEADS: u8 = 0xa7;
 
 /// The number of the mark disk, behind the two sides.
 pub(crate) const MARK: u8 = 2;
+
+// Whether all bytes are zero.
+fn are_zeros(bytes: &[u8]) -> bool
+    ensures { result ≡ list_all (λ b. b == 0) bytes.now }
+{
+    bytes.iter().all(|byte| *byte == 0)
+}
+
+/// The side that a sector of the mark disk names, where it is a mark.
+#[tactic(auto, unfolding(crate::specs::Sides::side_in))]
+pub(crate) fn side_in(marked: &[u8]) -> Option<u8>
+    requires { length marked.now ≡ 512 }
+    ensures side { result ≡ side_in marked.now }
+    ensures either { IfSome result (λ side. side ≤ 1) }
+{
+    let (_, rest) = marked.split_at(1);
+    if !are_zeros(rest) {
+        return None;
+    }
+    if marked[0] == SECOND_LEADS {
+        Some(1)
+    } else if marked[0] == 0 {
+        Some(0)
+    } else {
+        None
+    }
+}
+
+// The mark that names a side.
+fn mark_of(side: u8) -> [u8; SECTOR_LEN]
+    requires { side ≤ 1 }
+    ensures side { side_in result ≡ Some side }
+    ensures len { length result ≡ 512 }
+{
+    let mut marked = [0; SECTOR_LEN];
+    if side == 1 {
+        marked[0] = SECOND_LEADS;
+        return marked;
+    }
+    marked
+}
 
 // Makes the mark disk name this side, so that a crash can't undo it.
 fn write_mark<D: Disk>(disk: &mut D, side: u8) -> Result<(), Failed>
@@ -27,11 +70,8 @@ fn write_mark<D: Disk>(disk: &mut D, side: u8) -> Result<(), Failed>
     ensures run { IsRun 2 (is_err result) (D.state disk.old) (D.state disk.new) }
     ensures named { OnOk result (IfSome (D.state disk.new).contents (Names side)) }
 {
-    let mut sector = [0; SECTOR_LEN];
-    if side == 1 {
-        sector[0] = SECOND_LEADS;
-    }
-    disk.write(0, &sector)?;
+    let marked = mark_of(side);
+    disk.write(0, &marked)?;
     disk.sync()
 }
 

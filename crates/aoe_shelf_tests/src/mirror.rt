@@ -143,3 +143,31 @@ fn refuses_what_is_no_mirror(rt: HostRuntime) -> Result<(), Fail> {
     );
     Ok(())
 }
+
+/// The side that leads where the mark disk has these bytes at its ends and else zeros; none where that
+/// is no mark.
+fn leads(alloc: Global, first: u8, last: u8) -> Result<Option<u8>, Fail> {
+    let mut image = [0; 512];
+    image[0] = first;
+    image[511] = last;
+    let one = MemDisk::new(alloc, 16)?;
+    let two = MemDisk::new(alloc, 16)?;
+    match Mirror::mount(alloc, one, two, MemDisk::of(alloc, &image)?) {
+        Ok(mirror) => Ok(Some(mirror.lead())),
+        Err((MirrorRefusal::NotMark, _, _, _)) => Ok(None),
+        Err((refusal, _, _, _)) => Err(refusal.into()),
+    }
+}
+
+#[test]
+fn takes_nothing_else_for_a_mark(rt: HostRuntime) -> Result<(), Fail> {
+    let alloc = rt.alloc();
+    let marks = [leads(alloc, 0, 0)?, leads(alloc, 0xa7, 0)?];
+    let others = [
+        leads(alloc, 1, 0)?,
+        leads(alloc, 0, 1)?,
+        leads(alloc, 0xa7, 1)?,
+    ];
+    assert!(rt; marks == [Some(0), Some(1)] && others == [None; 3]);
+    Ok(())
+}
