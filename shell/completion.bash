@@ -12,7 +12,7 @@ _aoe() {
             mapfile -t COMPREPLY < <(compgen -f -- "$word")
             return
             ;;
-        --durable | --verify | --progress | --long | --sectors) ;; # shell/make: options without a value
+        --durable | --verify | --no-flush | --progress | --long | --sectors) ;; # shell/make: options without a value
         --*) return ;;
     esac
     # The words of the synopsis that are no names of values: options and actions.

@@ -129,9 +129,13 @@ plain_tool name more = with_rule (with_tool_options (bare name)) (flag more)
 abbrev pub list_tool : Text → Rule → App
 list_tool name rule = with_tool_options (with_rule (with_rule (with_rule (bare name) (needed (codes "dev"))) (needed (codes "action"))) rule)
 
+-- and how long a frame can be on its way
+abbrev pub with_sector_options : App → App
+with_sector_options app = with_rule (with_tool_options app) (optional (codes "lifetime"))
+
 -- flush DEV
 abbrev pub flush_app : App
-flush_app = with_tool_options (with_rule (bare (codes "flush")) (needed (codes "dev")))
+flush_app = with_sector_options (with_rule (bare (codes "flush")) (needed (codes "dev")))
 
 -- get DEV [AT [COUNT]] and put DEV AT
 abbrev pub device_tool : Text → App
@@ -139,13 +143,13 @@ device_tool name = with_rule (bare name) (needed (codes "dev"))
 
 abbrev pub get_app : App
 get_app =
-    with_rule (with_tool_options (with_rule (with_rule (device_tool (codes "get")) (allowed (codes "at"))) (allowed (codes "count"))))
+    with_rule (with_sector_options (with_rule (with_rule (device_tool (codes "get")) (allowed (codes "at"))) (allowed (codes "count"))))
     (flag (codes "progress"))
 
 abbrev pub put_app : App
 put_app =
-    with_rule (with_rule (with_tool_options (with_rule (device_tool (codes "put")) (needed (codes "at")))) (flag (codes "verify")))
-    (flag (codes "progress"))
+    with_rule (with_rule (with_rule (with_sector_options (with_rule (device_tool (codes "put")) (needed (codes "at")))) (flag (codes "verify")))
+    (flag (codes "no-flush"))) (flag (codes "progress"))
 
 -- what all commands stand under: one has to be named, and it is the first word
 abbrev pub top : App

@@ -4,7 +4,7 @@ use Rattle.std.specs.List.{list_all, list_any}
 use Rattle.std.specs.Str.{bytes_eq}
 use Rattle.clap.specs.Words.{Text}
 use Rattle.aoe_base.specs.Names.{device_of, mac_of}
-use Rattle.aoe_base.specs.Sizes.{most_cached, most_simulated}
+use Rattle.aoe_base.specs.Sizes.{longest_lifetime, most_cached, most_simulated}
 use Rattle.aoe_args.specs.Places.{Form, argument_at, awaits, form_named, is_flag, option_at, option_name, word_at}
 use Rattle.aoe_args.specs.Switching.{kind_of}
 use Rattle.aoe_args.specs.Tools.{dir_of}
@@ -79,6 +79,7 @@ number_wanted command name =
     else if bytes_eq name (codes "frames") then Some (wrong.Number 1 4294967295)
     else if bytes_eq name (codes "idle") then Some (wrong.Number 0 1000000)
     else if bytes_eq name (codes "turns") then Some (wrong.Number 1 1000000)
+    else if bytes_eq name (codes "lifetime") then Some (wrong.Number 1 longest_lifetime)
     else if bytes_eq name (codes "vxlan") then Some (wrong.Number 0 16777215)
     else if bytes_eq name (codes "seed") then Some (wrong.Number 0 65535)
     else if bytes_eq name (codes "sectors") then Some (if bytes_eq command (codes "audit") then wrong.Number 0 1099511627776 else wrong.Number 1 most_simulated)

@@ -8,7 +8,7 @@ use Rattle.aoe_base.specs.declared.address.TargetId.{TargetId}
 use Rattle.aoe_base.specs.Addresses.{is_individual}
 use Rattle.aoe_base.specs.Names.{device_of, mac_of}
 use Rattle.arrayvec.specs.ArrayVec.{ArrayVec}
-use Rattle.aoe_base.specs.Sizes.{most_copied}
+use Rattle.aoe_base.specs.Sizes.{longest_lifetime}
 use Rattle.aoe_lists.specs.Settings.{max_directives}
 use Rattle.aoe_lists.specs.declared.dir.Dir.{Dir}
 use Rattle.aoe_base.specs.Texts.{each}
@@ -18,7 +18,6 @@ use Rattle.aoe_args.specs.declared.command.Cfg.{Cfg as Cfgs}
 use Rattle.aoe_args.specs.declared.command.Discover.{Discover as Discovers}
 use Rattle.aoe_args.specs.declared.command.Flush.{Flush as Flushes}
 use Rattle.aoe_args.specs.declared.command.Get.{Get as Gets}
-use Rattle.aoe_args.specs.declared.command.LongGet.{LongGet as LongGets}
 use Rattle.aoe_args.specs.declared.command.Put.{Put as Puts}
 use Rattle.aoe_args.specs.declared.command.Mask.{Mask as Masks}
 use Rattle.aoe_args.specs.declared.command.Reserve.{Reserve as Reserves}
@@ -132,9 +131,15 @@ reserve_of rows =
 
 -- ---- flush DEV
 
+-- --lifetime MS: for so many milliseconds after it was sent a frame can still arrive; for 2000 where nothing is said of it
+abbrev pub lifetime_of : List Row → Option ℕ
+lifetime_of = given_or (codes "lifetime") (number_within 1 longest_lifetime) 2000
+
 -- it listens for 5000 turns where nothing is said of it
 unfoldable pub flush_of : List Row → Option Flushes
-flush_of rows = option_and_then (λ asking. option_map (λ id. record { asking = asking; id = id }) (device rows)) (asking_of 5000 rows)
+flush_of rows =
+    option_and_then (λ asking. option_and_then (λ id. option_map (λ lifetime. record { asking = asking; id = id; lifetime = lifetime })
+    (lifetime_of rows)) (device rows)) (asking_of 5000 rows)
 
 -- ---- get DEV [AT [COUNT]] and put DEV AT
 
@@ -151,21 +156,17 @@ abbrev pub sector_count : List Row → Option (Option ℕ)
 sector_count = given_or (codes "count") (λ text. option_map Some (number_within 1 (2 ^ 48) text)) None
 
 -- they listen for 5000 turns where nothing is said of it
-unfoldable pub long_get_of : List Row → Option LongGets
-long_get_of rows =
-    option_and_then (λ asking. option_and_then (λ id. option_and_then (λ at. option_map (λ count.
-    record { asking = asking; id = id; at = at; count = count })
-    (sector_count rows)) (first_sector rows)) (device rows)) (asking_of 5000 rows)
-
--- up to 32,768 sectors are read before any of them is written
-abbrev pub short_get : LongGets → ℕ → Gets
-short_get g count = record { asking = g.asking; id = g.id; at = g.at; count = count }
+unfoldable pub get_of : List Row → Option Gets
+get_of rows =
+    option_and_then (λ asking. option_and_then (λ id. option_and_then (λ at. option_and_then (λ count. option_map (λ lifetime.
+    record { asking = asking; id = id; at = at; count = count; lifetime = lifetime })
+    (lifetime_of rows)) (sector_count rows)) (first_sector rows)) (device rows)) (asking_of 5000 rows)
 
 unfoldable pub put_of : List Row → Option Puts
 put_of rows =
-    option_and_then (λ asking. option_and_then (λ id. option_map (λ at.
-    record { asking = asking; id = id; at = at; verify = is_set (codes "verify") rows })
-    (sector rows)) (device rows)) (asking_of 5000 rows)
+    option_and_then (λ asking. option_and_then (λ id. option_and_then (λ at. option_map (λ lifetime.
+    record { asking = asking; id = id; at = at; lifetime = lifetime; verify = is_set (codes "verify") rows; no_flush = is_set (codes "no-flush") rows })
+    (lifetime_of rows)) (sector rows)) (device rows)) (asking_of 5000 rows)
 
 -- ---- what holds of them
 
@@ -199,20 +200,17 @@ pub record CanReserve (reserve : Reserves) : Type 0 where
 pub record CanFlush (flush : Flushes) : Type 0 where
   pub asking : CanAsk flush.asking
   pub device : IsDevice flush.id
+  pub lifetime : (1 ≤ flush.lifetime) × (flush.lifetime ≤ longest_lifetime)
 
 pub record CanGet (get : Gets) : Type 0 where
   pub asking : CanAsk get.asking
   pub device : IsDevice get.id
   pub at : get.at < 2 ^ 48
-  pub count : (1 ≤ get.count) × (get.count ≤ most_copied)
-
-pub record CanGetLong (get : LongGets) : Type 0 where
-  pub asking : CanAsk get.asking
-  pub device : IsDevice get.id
-  pub at : get.at < 2 ^ 48
   pub count : IfSome get.count (λ count. (1 ≤ count) × (count ≤ 2 ^ 48))
+  pub lifetime : (1 ≤ get.lifetime) × (get.lifetime ≤ longest_lifetime)
 
 pub record CanPut (put : Puts) : Type 0 where
   pub asking : CanAsk put.asking
   pub device : IsDevice put.id
   pub at : put.at < 2 ^ 48
+  pub lifetime : (1 ≤ put.lifetime) × (put.lifetime ≤ longest_lifetime)

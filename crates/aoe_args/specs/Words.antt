@@ -15,12 +15,11 @@ use Rattle.aoe_base.specs.Decimal.{number_of}
 use Rattle.aoe_base.specs.declared.address.Mac.{Mac}
 use Rattle.aoe_base.specs.declared.address.TargetId.{TargetId}
 use Rattle.aoe_base.specs.Addresses.{all_unique, is_individual}
-use Rattle.aoe_base.specs.Sizes.{most_cached, most_copied, most_simulated}
+use Rattle.aoe_base.specs.Sizes.{most_cached, most_simulated}
 use Rattle.aoe_args.specs.Apps.{aoe_app}
 use Rattle.aoe_args.specs.Values.{default_port, given, given_or, is_set, link, number_within, port_of, ports_of, two_ends}
 use Rattle.aoe_args.specs.Switching.{CanSwitch, kinds_of}
-use Rattle.aoe_args.specs.Tools.{CanAsk, CanCfg, CanMask, CanReserve, CanFlush, CanGet, CanGetLong, CanPut, discover_of, stat_of, cfg_of, mask_of, reserve_of, flush_of, long_get_of, put_of, short_get}
-use Rattle.aoe_args.specs.declared.command.LongGet.{LongGet as LongGets}
+use Rattle.aoe_args.specs.Tools.{CanAsk, CanCfg, CanMask, CanReserve, CanFlush, CanGet, CanPut, discover_of, stat_of, cfg_of, mask_of, reserve_of, flush_of, get_of, put_of}
 use Rattle.aoe_args.specs.declared.command.Answer.{Answer as Answers}
 use Rattle.aoe_args.specs.declared.command.Serve.{Serve as Serves}
 use Rattle.aoe_args.specs.declared.command.Mirror.{Mirror as Mirrors}
@@ -32,7 +31,7 @@ use Rattle.aoe_args.specs.declared.command.KeepAction.{KeepAction}
 use Rattle.aoe_args.specs.declared.command.KeepAction.TheVariants.{Show, Upgrade, Lock, Unlock}
 use Rattle.aoe_args.specs.declared.command.PortWords.{PortWords}
 use Rattle.aoe_args.specs.declared.command.Command.{Command}
-use Rattle.aoe_args.specs.declared.command.Command.TheVariants.{Answer, Serve, Mirror, Audit, Replay, Soak, Live, Switch, Ask, Get, LongGet, Put, Keep}
+use Rattle.aoe_args.specs.declared.command.Command.TheVariants.{Answer, Serve, Mirror, Audit, Replay, Soak, Live, Switch, Ask, Get, Put, Keep}
 use Rattle.aoe_args.specs.declared.command.Tool.{Tool}
 use Rattle.aoe_args.specs.declared.command.Tool.TheVariants.{Discover, Stat, Cfg, Mask, Reserve, Flush}
 
@@ -192,14 +191,10 @@ tool_of name rows =
     else if bytes_eq name (codes "flush") then option_map Flush (flush_of rows)
     else list_tool_of name rows
 
--- the command that a `get` comes to, by its COUNT
-abbrev pub get_command : LongGets → Command
-get_command g = option_map_or (λ count. if nat_le count most_copied then Get (short_get g count) else LongGet g) g.count (LongGet g)
-
 -- the command of this name, of those that ask a network
 unfoldable pub asked_of : Text → List Row → Option Command
 asked_of name rows =
-    if bytes_eq name (codes "get") then option_map get_command (long_get_of rows)
+    if bytes_eq name (codes "get") then option_map Get (get_of rows)
     else if bytes_eq name (codes "put") then option_map Put (put_of rows)
     else option_map Ask (tool_of name rows)
 
@@ -242,7 +237,6 @@ files_of (Live live) rows = []
 files_of (Switch asked) rows = []
 files_of (Ask tool) rows = []
 files_of (Get get) rows = []
-files_of (LongGet get) rows = []
 files_of (Put put) rows = []
 files_of (Keep action) rows = option_map_or (λ name. name ∷ []) (keep_name rows) []
 
@@ -261,7 +255,6 @@ stop_in (Live live) rows = None
 stop_in (Switch asked) rows = None
 stop_in (Ask tool) rows = None
 stop_in (Get get) rows = None
-stop_in (LongGet get) rows = None
 stop_in (Put put) rows = None
 stop_in (Keep action) rows = None
 
@@ -280,7 +273,6 @@ is_told_in (Live live) rows = false
 is_told_in (Switch asked) rows = false
 is_told_in (Ask tool) rows = false
 is_told_in (Get get) rows = is_set (codes "progress") rows
-is_told_in (LongGet get) rows = is_set (codes "progress") rows
 is_told_in (Put put) rows = is_set (codes "progress") rows
 is_told_in (Keep action) rows = false
 
@@ -305,7 +297,6 @@ links_of (Live live) rows = two_links rows
 links_of (Switch asked) rows = []
 links_of (Ask tool) rows = one_link rows
 links_of (Get get) rows = one_link rows
-links_of (LongGet get) rows = one_link rows
 links_of (Put put) rows = one_link rows
 links_of (Keep action) rows = []
 
@@ -385,7 +376,6 @@ IsInRange (Live live) = CanLive live
 IsInRange (Switch asked) = CanSwitch asked
 IsInRange (Ask tool) = CanRun tool
 IsInRange (Get get) = CanGet get
-IsInRange (LongGet get) = CanGetLong get
 IsInRange (Put put) = CanPut put
 IsInRange (Keep action) = Unit
 
@@ -401,7 +391,6 @@ file_count (Live live) = 0
 file_count (Switch asked) = 0
 file_count (Ask tool) = 0
 file_count (Get get) = 0
-file_count (LongGet get) = 0
 file_count (Put put) = 0
 file_count (Keep action) = 1
 
@@ -416,7 +405,6 @@ link_count (Live live) = 2
 link_count (Switch asked) = 0
 link_count (Ask tool) = 1
 link_count (Get get) = 1
-link_count (LongGet get) = 1
 link_count (Put put) = 1
 link_count (Keep action) = 0
 

@@ -97,6 +97,9 @@ const DURABLE: Argument = ("durable", Flag);
 /// How many turns it waits.
 const TURNS: Argument = ("turns", Optional);
 
+/// How long a frame can be on its way.
+const LIFETIME: Argument = ("lifetime", Optional);
+
 /// Whether it is told how far a copy has come where standard error is no terminal, too.
 const PROGRESS: Argument = ("progress", Flag);
 
@@ -177,7 +180,10 @@ pub(crate) static FORMS: [Form; 18] = [
         "reserve",
         &[DEV, ACTION, MACS, LOCAL, PEERS, VXLAN, TAP, PORT, TURNS],
     ),
-    ("flush", &[DEV, LOCAL, PEERS, VXLAN, TAP, PORT, TURNS]),
+    (
+        "flush",
+        &[DEV, LOCAL, PEERS, VXLAN, TAP, PORT, TURNS, LIFETIME],
+    ),
     (
         "get",
         &[
@@ -190,6 +196,7 @@ pub(crate) static FORMS: [Form; 18] = [
             TAP,
             PORT,
             TURNS,
+            LIFETIME,
             PROGRESS,
         ],
     ),
@@ -204,7 +211,9 @@ pub(crate) static FORMS: [Form; 18] = [
             TAP,
             PORT,
             TURNS,
+            LIFETIME,
             ("verify", Flag),
+            ("no-flush", Flag),
             PROGRESS,
         ],
     ),

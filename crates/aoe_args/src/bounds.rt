@@ -47,6 +47,12 @@ pub(crate) const TURNS: Bounds = Bounds {
     most: 1_000_000,
 };
 
+/// How long after it was sent a frame can still arrive, in milliseconds: ten minutes at most.
+pub(crate) const LIFETIME: Bounds = Bounds {
+    least: 1,
+    most: 600_000,
+};
+
 /// The number of a VXLAN: it has 24 bits (RFC 7348, section 5).
 pub(crate) const VXLAN: Bounds = Bounds {
     least: 0,
@@ -70,9 +76,6 @@ pub(crate) const LIVE_COMMANDS: Bounds = Bounds {
     least: 1,
     most: 10_000,
 };
-
-/// How many sectors `get` reads before it writes any of them.
-pub(crate) const SHORT_GET: u64 = 32_768;
 
 /// The most sectors that `get` reads: as many as a device can have whose sectors have numbers of 48 bits.
 pub(crate) const MOST_GET_SECTORS: u64 = 1 << 48;

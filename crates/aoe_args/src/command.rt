@@ -215,9 +215,13 @@ pub struct Flush {
 
     /// The device.
     pub id: TargetId,
+
+    /// How long after it was sent a frame can still arrive, at the device or here, in milliseconds.
+    pub lifetime: u32,
 }
 
-/// What `get DEV AT COUNT` asks for: to read up to 32,768 sectors of a device.
+/// What `get DEV AT COUNT` asks for: to read sectors of a device, and to write each out as soon as all
+/// before it are there.
 #[derive(Clone, Copy, PartialEq, Eq)]
 pub struct Get {
     pub asking: Asking,
@@ -228,24 +232,11 @@ pub struct Get {
     /// The first sector.
     pub at: u64,
 
-    /// How many sectors.
-    pub count: u32,
-}
-
-/// What `get DEV`, `get DEV AT` and a `get DEV AT COUNT` of more than 32,768 sectors ask for: to read
-/// sectors of a device, and to write each out as soon as all before it are there.
-#[derive(Clone, Copy, PartialEq, Eq)]
-pub struct LongGet {
-    pub asking: Asking,
-
-    /// The device.
-    pub id: TargetId,
-
-    /// The first sector.
-    pub at: u64,
-
     /// How many sectors; all from the first one on where there is no number.
     pub count: Option<u64>,
+
+    /// How long after it was sent a frame can still arrive, at the device or here, in milliseconds.
+    pub lifetime: u32,
 }
 
 /// What `put DEV AT` asks for: to write the sectors of the source to a device.
@@ -259,8 +250,14 @@ pub struct Put {
     /// The first sector.
     pub at: u64,
 
-    /// Whether the sectors are read again behind the flush and compared.
+    /// How long after it was sent a frame can still arrive, at the device or here, in milliseconds.
+    pub lifetime: u32,
+
+    /// Whether the sectors are read again, after the flush if there is one, and compared.
     pub verify: bool,
+
+    /// Whether the device isn't flushed once each write is acknowledged.
+    pub no_flush: bool,
 }
 
 /// What a tool asks the targets of a network for.
@@ -290,7 +287,6 @@ pub enum Command {
     Switch(Switch),
     Ask(Tool),
     Get(Get),
-    LongGet(LongGet),
     Put(Put),
     Keep(KeepAction),
 }

@@ -39,8 +39,8 @@ mod values;
 mod word;
 
 pub use command::{
-    Answer, Asking, Audit, Cfg, Command, CommandLine, Discover, Flush, Get, KeepAction, Live,
-    LongGet, Mask, Mirror, PortKinds, PortWords, Put, Reserve, Serve, Soak, Stat, Switch, Tool,
+    Answer, Asking, Audit, Cfg, Command, CommandLine, Discover, Flush, Get, KeepAction, Live, Mask,
+    Mirror, PortKinds, PortWords, Put, Reserve, Serve, Soak, Stat, Switch, Tool,
 };
 pub use law::plain_words_law;
 pub use read::read_words;

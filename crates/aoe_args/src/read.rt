@@ -322,7 +322,7 @@ fn asked_of(name: &str, found: &ArgMatches) -> Option<Command>
     ensures fits { IfSome result (Fits (rows_of (found_of found.now))) }
 {
     let command = match name {
-        "get" => get_of(found)?,
+        "get" => Command::Get(get_of(found)?),
         "put" => Command::Put(put_of(found)?),
         _ => Command::Ask(tool_of(name, found)?),
     };
@@ -401,14 +401,12 @@ fn links_of(
             Some((one, two)) => all_links(alloc, &[one, two]),
             None => Ok(Vec::new(alloc)),
         },
-        Command::Serve(_)
-        | Command::Ask(_)
-        | Command::Get(_)
-        | Command::LongGet(_)
-        | Command::Put(_) => match link(found) {
-            Some(link) => all_links(alloc, &[link]),
-            None => Ok(Vec::new(alloc)),
-        },
+        Command::Serve(_) | Command::Ask(_) | Command::Get(_) | Command::Put(_) => {
+            match link(found) {
+                Some(link) => all_links(alloc, &[link]),
+                None => Ok(Vec::new(alloc)),
+            }
+        }
     }
 }
 
@@ -431,7 +429,7 @@ fn is_told_in(command: &Command, found: &ArgMatches) -> bool
     ensures { result ≡ is_told_in command.now (rows_of (found_of found.now)) }
 {
     match command {
-        Command::Get(_) | Command::LongGet(_) | Command::Put(_) => is_set(found, "progress"),
+        Command::Get(_) | Command::Put(_) => is_set(found, "progress"),
         _ => false,
     }
 }

@@ -10,7 +10,7 @@ ghost use Rattle.aoe_args.specs.Words.{attached, command, is_value, is_word};
 
 use crate::app::{Argument, FORMS, Form, Place};
 use crate::bounds::{
-    CACHE, FRAMES, IDLE, LAST_SECTOR, LAST_SEED, LIVE_COMMANDS, LIVE_SECTORS,
+    CACHE, FRAMES, IDLE, LAST_SECTOR, LAST_SEED, LIFETIME, LIVE_COMMANDS, LIVE_SECTORS,
     MOST_CAPTURED_SECTORS, MOST_GET_SECTORS, MTU, SOAK_COMMANDS, TURNS, VXLAN,
 };
 use crate::lists::read_dir;
@@ -141,6 +141,7 @@ fn no_number(command: &str, name: &str) -> Option<Wrong>
         "frames" => FRAMES.ends(),
         "idle" => IDLE.ends(),
         "turns" => TURNS.ends(),
+        "lifetime" => LIFETIME.ends(),
         "vxlan" => VXLAN.ends(),
         "seed" => (0, LAST_SEED),
         "sectors" if command == "audit" => (0, MOST_CAPTURED_SECTORS),

@@ -1,17 +1,16 @@
 //! What the arguments of the tools spell.
 ghost use Rattle.std.specs.Prelude.{◌≡◌, ◌≤◌, ◌<◌, ◌^◌, option_map, IfSome, IsSome};
 ghost use Rattle.clap.specs.Words.{found_of, rows_of};
-ghost use Rattle.aoe_args.specs.Tools.{CanAsk, CanGetLong, CanPut, IsDevice, asking_of, ccmd_alone, ccmd_with_text, cfg_of, device, discover_of, first_sector, flush_of, long_get_of, mask_of, put_of, rcmd_alone, rcmd_with_list, reserve_of, sector, sector_count, stat_of};
+ghost use Rattle.aoe_base.specs.Sizes.{longest_lifetime};
+ghost use Rattle.aoe_args.specs.Tools.{CanAsk, CanGet, CanPut, IsDevice, asking_of, ccmd_alone, ccmd_with_text, cfg_of, device, discover_of, first_sector, flush_of, get_of, lifetime_of, mask_of, put_of, rcmd_alone, rcmd_with_list, reserve_of, sector, sector_count, stat_of};
 ghost use Rattle.aoe_args.specs.Values.{link};
-ghost use Rattle.aoe_args.specs.Words.{CanRun, Fits, get_command};
+ghost use Rattle.aoe_args.specs.Words.{CanRun};
 
-use crate::bounds::{LAST_SECTOR, MOST_GET_SECTORS, SHORT_GET, TURNS};
+use crate::bounds::{LAST_SECTOR, LIFETIME, MOST_GET_SECTORS, TURNS};
 use crate::link::link;
 use crate::lists::{read_dirs, read_macs, read_text};
-use crate::values::{
-    TOOL_PORT, is_set, number, number_from, number_or, port_or_default, text, texts,
-};
-use crate::{Asking, Cfg, Command, Discover, Flush, Get, LongGet, Mask, Put, Reserve, Stat, Tool};
+use crate::values::{TOOL_PORT, is_set, number, number_or, port_or_default, text, texts};
+use crate::{Asking, Cfg, Discover, Flush, Get, Mask, Put, Reserve, Stat, Tool};
 use aoe_base::{TargetId, device_law, read_device, read_number};
 use arrayvec::ArrayVec;
 use clap::ArgMatches;
@@ -21,6 +20,9 @@ const TOOL_TURNS: u32 = 50;
 
 /// How many turns `flush`, `get` and `put` listen where nothing is said of it.
 const SECTOR_TURNS: u32 = 5000;
+
+/// How long after it was sent a frame can still arrive where nothing is said of it, in milliseconds.
+const DEFAULT_LIFETIME: u32 = 2000;
 
 /// Who asks, where the link is named; `turns` is how long where nothing is said of it.
 #[tactic(auto, unfolding(crate::specs::Tools::asking_of))]
@@ -184,6 +186,14 @@ pub(crate) fn reserve_of(found: &ArgMatches) -> Option<Tool>
     }))
 }
 
+/// How long after it was sent a frame can still arrive, at the device or here, in milliseconds.
+fn lifetime_of(found: &ArgMatches) -> Option<u32>
+    ensures value { result ≡ lifetime_of (rows_of (found_of found.now)) }
+    ensures range { IfSome result (λ ms. (1 ≤ ms) × (ms ≤ longest_lifetime)) }
+{
+    number_or(found, "lifetime", LIFETIME, DEFAULT_LIFETIME)
+}
+
 /// What the arguments of `flush` ask for.
 #[tactic(auto, unfolding(crate::specs::Tools::flush_of))]
 pub(crate) fn flush_of(found: &ArgMatches) -> Option<Tool>
@@ -194,6 +204,7 @@ pub(crate) fn flush_of(found: &ArgMatches) -> Option<Tool>
     Some(Tool::Flush(Flush {
         asking: asking_of(found, SECTOR_TURNS)?,
         id: device_of(found)?,
+        lifetime: lifetime_of(found)?,
     }))
 }
 
@@ -231,47 +242,20 @@ fn sector_count(found: &ArgMatches) -> Option<Option<u64>>
     }
 }
 
-/// What the arguments of `get` ask for, however many sectors these are.
-#[tactic(auto, unfolding(crate::specs::Tools::long_get_of))]
-fn long_get_of(found: &ArgMatches) -> Option<LongGet>
-    ensures value { result ≡ long_get_of (rows_of (found_of found.now)) }
-    ensures range { IfSome result CanGetLong }
+/// What the arguments of `get` ask for.
+#[tactic(auto, unfolding(crate::specs::Tools::get_of))]
+pub(crate) fn get_of(found: &ArgMatches) -> Option<Get>
+    ensures value { result ≡ get_of (rows_of (found_of found.now)) }
+    ensures range { IfSome result CanGet }
     ensures link { IfSome result (λ get. IsSome (link (rows_of (found_of found.now)))) }
 {
-    Some(LongGet {
+    Some(Get {
         asking: asking_of(found, SECTOR_TURNS)?,
         id: device_of(found)?,
         at: first_sector(found)?,
         count: sector_count(found)?,
+        lifetime: lifetime_of(found)?,
     })
-}
-
-/// What the arguments of `get` ask for.
-pub(crate) fn get_of(found: &ArgMatches) -> Option<Command>
-    ensures value { result ≡ option_map get_command (long_get_of (rows_of (found_of found.now))) }
-    ensures fits { IfSome result (Fits (rows_of (found_of found.now))) }
-{
-    let LongGet {
-        asking,
-        id,
-        at,
-        count,
-    } = long_get_of(found)?;
-    let command = match count {
-        Some(count) if count <= SHORT_GET => Command::Get(Get {
-            asking,
-            id,
-            at,
-            count: count as u32,
-        }),
-        _ => Command::LongGet(LongGet {
-            asking,
-            id,
-            at,
-            count,
-        }),
-    };
-    Some(command)
 }
 
 /// What the arguments of `put` ask for.
@@ -285,6 +269,8 @@ pub(crate) fn put_of(found: &ArgMatches) -> Option<Put>
         asking: asking_of(found, SECTOR_TURNS)?,
         id: device_of(found)?,
         at: sector(found)?,
+        lifetime: lifetime_of(found)?,
         verify: is_set(found, "verify"),
+        no_flush: is_set(found, "no-flush"),
     })
 }

@@ -3,8 +3,8 @@ mod refused;
 mod slips;
 
 use aoe_args::{
-    Answer, Asking, Audit, Cfg, Command, CommandLine, Discover, Flush, Get, Live, LongGet, Mask,
-    PortKinds, PortWords, Put, Reserve, Serve, Soak, Stat, Switch, Tool, read_words, slip_of,
+    Answer, Asking, Audit, Cfg, Command, CommandLine, Discover, Flush, Get, Live, Mask, PortKinds,
+    PortWords, Put, Reserve, Serve, Soak, Stat, Switch, Tool, read_words, slip_of,
 };
 use aoe_base::{Blob, Mac, NoMemory, Ports, TargetId};
 use aoe_lists::Dir;
@@ -313,57 +313,43 @@ fn reserve(rcmd: u8, macs: &[Mac]) -> Command {
     }))
 }
 
-/// What `flush` asks of the device.
-fn flush(turns: u32) -> Command {
-    let asking = Asking {
+/// Who asks for so many turns.
+fn asking_for(turns: u32) -> Asking {
+    Asking {
         port: mac(10),
         turns,
-    };
+    }
+}
+
+/// What `flush` asks of the device.
+fn flush(lifetime: u32) -> Command {
     Command::Ask(Tool::Flush(Flush {
-        asking,
+        asking: asking_for(5000),
         id: device(),
+        lifetime,
     }))
 }
 
 /// What `get` asks of the device.
-fn get(at: u64, count: u32, turns: u32) -> Command {
-    let asking = Asking {
-        port: mac(10),
-        turns,
-    };
+fn get(at: u64, count: Option<u64>, turns: u32, lifetime: u32) -> Command {
     Command::Get(Get {
-        asking,
+        asking: asking_for(turns),
         id: device(),
         at,
         count,
-    })
-}
-
-/// What a `get` of any length asks of the device.
-fn long_get(at: u64, count: Option<u64>) -> Command {
-    let asking = Asking {
-        port: mac(10),
-        turns: 5000,
-    };
-    Command::LongGet(LongGet {
-        asking,
-        id: device(),
-        at,
-        count,
+        lifetime,
     })
 }
 
 /// What `put` asks of the device.
-fn put(at: u64, turns: u32, verify: bool) -> Command {
-    let asking = Asking {
-        port: mac(10),
-        turns,
-    };
+fn put(at: u64, turns: u32, lifetime: u32, verify: bool, no_flush: bool) -> Command {
     Command::Put(Put {
-        asking,
+        asking: asking_for(turns),
         id: device(),
         at,
+        lifetime,
         verify,
+        no_flush,
     })
 }
 

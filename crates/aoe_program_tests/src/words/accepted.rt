@@ -151,20 +151,24 @@ fn reads_reserve(rt: HostRuntime) -> Result<(), Fail> {
 #[test]
 fn reads_flush_get_and_put(rt: HostRuntime) -> Result<(), Fail> {
     let cases = [
-        ("flush e1.2", flush(5000)),
+        ("flush e1.2", flush(2000)),
+        ("flush --lifetime 1 e1.2", flush(1)),
         (
-            "get e1.2 281474976710655 32768 --turns 1",
-            get(281474976710655, 32768, 1),
+            "get e1.2 281474976710655 1 --turns 1",
+            get(281474976710655, Some(1), 1, 2000),
         ),
-        ("get e1.2", long_get(0, None)),
-        ("get e1.2 7", long_get(7, None)),
-        ("get e1.2 7 32769", long_get(7, Some(32769))),
+        ("get e1.2", get(0, None, 5000, 2000)),
+        ("get e1.2 7 --lifetime 600000", get(7, None, 5000, 600000)),
         (
             "get e1.2 0 281474976710656",
-            long_get(0, Some(281474976710656)),
+            get(0, Some(281474976710656), 5000, 2000),
         ),
-        ("put e1.2 7", put(7, 5000, false)),
-        ("put e1.2 --verify 7 --turns=1", put(7, 1, true)),
+        ("put e1.2 7", put(7, 5000, 2000, false, false)),
+        (
+            "put e1.2 --verify 7 --turns=1 --no-flush --lifetime=50",
+            put(7, 1, 50, true, true),
+        ),
+        ("put e1.2 --no-flush 7", put(7, 5000, 2000, false, true)),
     ];
     reads(&rt, rt.alloc(), ENDS, &cases)
 }

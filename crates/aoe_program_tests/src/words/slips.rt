@@ -101,6 +101,14 @@ fn says_what_is_wrong_with_options(rt: HostRuntime) -> Result<(), Fail> {
             "get e1.0 0 1 --tap t --verify",
             "--verify: not an option of this command",
         ),
+        (
+            "get e1.0 0 1 --tap t --no-flush",
+            "--no-flush: not an option of this command",
+        ),
+        (
+            "stat --tap t --lifetime 50",
+            "--lifetime: not an option of this command",
+        ),
     ];
     says(&rt, rt.alloc(), &cases)
 }
@@ -115,6 +123,10 @@ fn says_what_is_wrong_with_flags(rt: HostRuntime) -> Result<(), Fail> {
         (
             "put e1.0 0 --tap t --verify=yes",
             "--verify=yes: this option has no value",
+        ),
+        (
+            "put e1.0 0 --tap t --no-flush=1",
+            "--no-flush=1: this option has no value",
         ),
         ("discover --tap t --long --long", "--long: given twice"),
         ("stat --tap t --sectors 16", "16: one word too many"),
@@ -150,6 +162,14 @@ fn says_what_is_wrong_with_numbers(rt: HostRuntime) -> Result<(), Fail> {
             "1099511627777: not a number from 0 to 1099511627776",
         ),
         ("live 0 1", "0: not a number from 1 to 65536"),
+        (
+            "get e1.0 --tap t --lifetime 0",
+            "0: not a number from 1 to 600000",
+        ),
+        (
+            "flush e1.0 --tap t --lifetime=600001",
+            "--lifetime=600001: not a number from 1 to 600000",
+        ),
     ];
     says(&rt, rt.alloc(), &cases)
 }
