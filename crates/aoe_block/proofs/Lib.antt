@@ -2,8 +2,15 @@
 -- from it on weren't.
 -- Read `PlaceLemmas`, `PartLemmas`, `SoundLemmas`, `CallLemmas`, `LawLemmas`.
 mod CallLemmas
+pub mod HearLemmas
+pub mod HostLemmas
 pub mod LawLemmas
+pub mod OpenLemmas
 mod PartLemmas
 mod PlaceLemmas
+pub mod SendLemmas
 mod SoundLemmas
 mod StageLemmas
+pub mod StepLaws
+pub mod StepLemmas
+pub mod TagLemmas

@@ -45,6 +45,7 @@
 
 mod block;
 mod law;
+mod link;
 mod refusal;
 mod stage;
 mod steps;
@@ -52,5 +53,6 @@ mod took;
 
 pub use block::{Block, MAX_PART, MAX_SECTORS};
 pub use law::{broken_law, operations_law, outcome_law, ticket_law};
+pub use link::{DEVICE, attach, exchange};
 pub use refusal::BlockRefusal;
 pub use took::Took;

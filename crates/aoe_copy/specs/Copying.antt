@@ -1,25 +1,24 @@
--- What a copy keeps while it runs, and what it is true of: the steps so far, and what link, clock and sink tell of them.
-use Rattle.std.specs.Prelude.{ℕ, suc, ◌≡◌, ◌+◌, ◌-◌, ◌^◌, ◌<◌, ◌≤◌, min, nat_eq, nat_lt, Bool, not, ◌&&◌, List, [], ◌∷◌, ◌++◌, length, reverse, Option, Some, None, Result, Ok, Err, All, Contains}
-use Rattle.std.specs.List.{count_by}
-use Rattle.aoe_base.specs.declared.failure.Failed.{Failed}
+-- What a copy out of a device keeps while it runs, and what it is true of: the steps so far, and what link, clock and sink tell of them.
+use Rattle.std.specs.Prelude.{ℕ, suc, ◌≡◌, ◌+◌, ◌-◌, ◌^◌, ◌<◌, ◌≤◌, min, nat_eq, nat_lt, Bool, true, ◌&&◌, List, [], ◌∷◌, ◌++◌, length, reverse, Option, Some, None, Result, Ok, Err, All, Contains}
 use Rattle.aoe_base.specs.declared.failure.NoMemory.{NoMemory}
+use Rattle.aoe_block.specs.Steps.{asked, has_ticked, open_of, outcomes, owns, quiet_turns, AreSteps, AreTagged, Drives, GoesOn, IsWell, Start}
+use Rattle.aoe_block.specs.Turns.{quiet_by, the_device, Heard}
+use Rattle.aoe_initiator.specs.declared.op.Op.TheVariants as op
 use Rattle.aoe_initiator.specs.declared.outcome.Done.{Done}
 use Rattle.aoe_initiator.specs.Host.{Host, IsSame, Matches}
-use Rattle.aoe_initiator.specs.HostLog.{commands, Event, HostCommand}
+use Rattle.aoe_initiator.specs.HostLog.{Event}
 use Rattle.aoe_initiator.specs.HostLog.Event.{Submits}
-use Rattle.aoe_initiator.specs.declared.op.Op.TheVariants as op
-use Rattle.aoe_tools.specs.TransferRun.{quiet_by, Heard}
-use Rattle.aoe_tools.specs.declared.end.CopyRefusal.{CopyRefusal}
-use Rattle.aoe_tools.specs.declared.end.CopyRefusal.TheVariants as copy
 use Rattle.aoe_tools.specs.declared.end.ToolRefusal.{ToolRefusal}
 use Rattle.aoe_tools.specs.declared.end.ToolRefusal.TheVariants as tool
 use Rattle.aoe_copy.specs.declared.copying.Copying.{Copying}
 use Rattle.aoe_copy.specs.declared.copying.Passed.{Passed}
 use Rattle.aoe_copy.specs.declared.copying.Passed.TheVariants as passed
+use Rattle.aoe_copy.specs.declared.end.CopyRefusal.{CopyRefusal}
+use Rattle.aoe_copy.specs.declared.end.CopyRefusal.TheVariants as copy
 use Rattle.aoe_copy.specs.declared.plan.Plan.{Plan}
 use Rattle.aoe_copy.specs.Plan.{reach}
-use Rattle.aoe_copy.specs.Runs.{HasSeen, Runs, Seen}
-use Rattle.aoe_copy.specs.Steps.{Step, asked, given, log_of, outcomes, quiet_turns, the_device, ticket_at, AreSteps, Fails, GoesOn, IsFilled, IsGivenOut, IsSent, IsWell}
+use Rattle.aoe_copy.specs.Runs.{HasRead, ReadSeen, Runs}
+use Rattle.aoe_copy.specs.Steps.{given, patience, Fails, IsFilled, IsGivenOut, ReadLaw, ReadStep}
 use Rattle.aoe_copy.specs.Window.{most_open, read_done, AreThere, HasAll}
 
 -- its numbers fit one another: there is one device, each command submitted stands in the window or was given, no command asks for no
@@ -27,43 +26,44 @@ use Rattle.aoe_copy.specs.Window.{most_open, read_done, AreThere, HasAll}
 pub record IsFit (x : Copying) : Type 0 where
   pub attached : length x.host.devices ≡ 1
   pub tickets : x.host.last_ticket ≡ x.window.given + length x.window.slots.items
-  pub few : x.host.last_ticket ≤ x.reached
+  pub few : x.host.last_ticket ≤ x.before + x.reached
+  pub before : x.before ≤ 2 ^ 62
   pub within : x.reached ≤ x.plan.count
   pub small : x.plan.at + x.plan.count ≤ 2 ^ 48
   pub some : 0 < x.plan.max
   pub most : x.plan.max ≤ 17
   pub few_slots : length x.window.slots.items ≤ most_open
 
--- what never changes: the host before the first step, what is copied, and what link, clock and sink told before
+-- what never changes: where the copy begins, what is copied, how long it is waited, and what link, clock and sink told before
 pub record Setting : Type 0 where
-  pub base : Host
+  pub start : Start
   pub plan : Plan
-  pub before : Seen
+  pub turns : ℕ
+  pub before : ReadSeen
 
 -- the steps of a copy are such, and what link, clock and sink tell now is of them
-pub record Stands (c : Setting) (seen : Seen) (steps : List Step) : Type 0 where
-  pub are : AreSteps c.base c.plan steps
-  pub seen_is : HasSeen c.before seen steps
+pub record Stands (c : Setting) (seen : ReadSeen) (steps : List ReadStep) : Type 0 where
+  pub are : AreSteps (ReadLaw c.start c.plan) c.start (patience c.turns) steps
+  pub read : HasRead c.before seen steps
 
 -- what it keeps is true of these steps
-pub record Keeps (c : Setting) (steps : List Step) (x : Copying) : Type 0 where
+pub record Keeps (c : Setting) (steps : List ReadStep) (x : Copying) : Type 0 where
   pub plan_is : x.plan ≡ c.plan
-  pub same : IsSame c.base x.host
-  pub matches : Matches (log_of c.plan steps) x.host
-  pub asked_is : x.host.last_ticket ≡ asked steps
-  pub given_is : x.window.given ≡ given steps
+  pub drives : Drives c.start steps x.host
+  pub given_is : x.window.given ≡ c.start.host.last_ticket + given steps
   pub reached_is : x.reached ≡ reach c.plan (asked steps)
   pub there : AreThere (outcomes steps) (suc x.window.given) x.window.slots.items
   pub all : HasAll (outcomes steps) x.host.waiting (suc x.window.given) x.window.slots.items
 
 -- a copy that did nothing yet
-pub record Begins (base : Host) (p : Plan) (x : Copying) : Type 0 where
-  pub host_is : x.host ≡ base
+pub record Begins (b : Start) (p : Plan) (x : Copying) : Type 0 where
+  pub host_is : x.host ≡ b.host
   pub plan_is : x.plan ≡ p
   pub reached_is : x.reached ≡ 0
-  pub given_is : x.window.given ≡ 0
+  pub given_is : x.window.given ≡ b.host.last_ticket
   pub slots_are : x.window.slots.items ≡ []
-  pub matches : Matches [] x.host
+  pub matches : Matches b.log x.host
+  pub tags : AreTagged x.host.flight.last_tag b.log
 
 -- the outcomes came in the order in which they are taken; those that were are none that ends the copy
 pub record InOrder (waiting : List Done) (outs : List Done) : Type 0 where
@@ -100,87 +100,81 @@ next_count x = min x.plan.max (x.plan.count - x.reached)
 -- the next command was submitted
 pub record AsksOne (old new : Copying) : Type 0 where
   pub submits : (log : List Event) → Matches log old.host
-      → Matches (Submits (ticket_at old.host.last_ticket) the_device (op.Read (record { at = old.plan.at + old.reached; count = next_count old })) ∷ log) new.host
+      → Matches (Submits (record { 0 = suc old.host.last_ticket }) the_device (op.Read (record { at = old.plan.at + old.reached; count = next_count old })) ∷ log) new.host
   pub same : IsSame old.host new.host
   pub last : new.host.last_ticket ≡ suc old.host.last_ticket
+  pub tag : new.host.flight.last_tag ≡ old.host.flight.last_tag
   pub waiting : new.host.waiting ≡ old.host.waiting
   pub plan_is : new.plan ≡ old.plan
   pub reached_is : new.reached ≡ old.reached + next_count old
   pub given_is : new.window.given ≡ old.window.given
   pub slots_are : new.window.slots.items ≡ old.window.slots.items ++ None ∷ []
 
--- how many commands have no outcome, and how many sectors weren't asked for
-abbrev pub is_open : HostCommand → Bool
-is_open command = not command.done
-
-abbrev pub open_in : List Event → ℕ
-open_in log = count_by is_open (commands log)
-
-abbrev pub left_of : Plan → List Step → ℕ
-left_of p steps = open_in (log_of p steps) + (p.count - reach p (asked steps))
-
--- these steps go on from those, with no outcome, no turn, and no more left to do
-pub record GoOn (p : Plan) (steps steps' : List Step) : Type 0 where
-  pub outcomes_are : outcomes steps' ≡ outcomes steps
-  pub given_is : given steps' ≡ given steps
-  pub quiet_is : quiet_turns steps' ≡ quiet_turns steps
-  pub left_is : left_of p steps' ≤ left_of p steps
-
--- the copy went on by such steps
-pub record Went (c : Setting) (seen : Seen) (steps : List Step) (x : Copying) : Type 0 where
-  pub steps' : List Step
-  pub on : GoOn c.plan steps steps'
-  pub stands : Stands c seen steps'
-  pub keeps : Keeps c steps' x
-
--- it ended
-abbrev pub Ended : Result Unit CopyRefusal → Setting → ℕ → Seen → Type 0
-Ended result c turns seen = Runs result c.base c.plan turns c.before seen
+-- how much is left to do: commands without an outcome, and sectors that weren't asked for
+abbrev pub left_of : Setting → List ReadStep → ℕ
+left_of c steps = open_of c.start steps + (c.plan.count - reach c.plan (asked steps))
 
 -- commands were submitted, as many as may be; or there was no memory for one
-abbrev pub Asks : Result Unit NoMemory → Setting → ℕ → Seen → List Step → Copying → Type 0
-Asks (Ok done) c turns seen steps x = (w : Went c seen steps x) × IsFilled c.plan w.steps'
-Asks (Err none_left) c turns seen steps x = Ended (Err (copy.Tool tool.NoMemory)) c turns seen
+pub record Asked (c : Setting) (seen : ReadSeen) (steps : List ReadStep) (x : Copying) : Type 0 where
+  pub steps' : List ReadStep
+  pub stands : Stands c seen steps'
+  pub keeps : Keeps c steps' x
+  pub outcomes_are : outcomes steps' ≡ outcomes steps
+  pub owns_are : owns steps' ≡ owns steps
+  pub quiet_is : quiet_turns steps' ≡ quiet_turns steps
+  pub ticked : has_ticked steps' ≡ true
+  pub left_is : left_of c steps' ≤ left_of c steps
 
--- frames were sent
-abbrev pub Sends : Result Unit Failed → Setting → ℕ → Seen → List Step → Copying → Type 0
-Sends (Ok done) c turns seen steps x = (w : Went c seen steps x) × (asked w.steps' ≡ asked steps) × (given w.steps' ≡ given steps) × IsSent c.base c.plan w.steps'
-Sends (Err failed) c turns seen steps x = Ended (Err (copy.Tool tool.LinkFault)) c turns seen
+-- the copy ended
+abbrev pub Ended : Result Unit CopyRefusal → Setting → ReadSeen → Type 0
+Ended result c seen = Runs result c.start c.plan c.turns c.before seen
+
+abbrev pub Asks : Result Unit NoMemory → Setting → ReadSeen → List ReadStep → Copying → Type 0
+Asks (Ok done) c seen steps x = (w : Asked c seen steps x) × IsFilled c.plan w.steps'
+Asks (Err none_left) c seen steps x = Ended (Err (copy.Tool tool.NoMemory)) c seen
 
 abbrev pub count_heard : Option Heard → ℕ
 count_heard None = 0
 count_heard (Some h) = 1
 
 -- a turn passed, which ended a command or none
-pub record Passes (c : Setting) (seen : Seen) (steps : List Step) (x : Copying) (heard : Option Heard) : Type 0 where
-  pub steps' : List Step
+pub record Passes (c : Setting) (seen : ReadSeen) (steps : List ReadStep) (x : Copying) (heard : Option Heard) : Type 0 where
+  pub steps' : List ReadStep
   pub stands : Stands c seen steps'
   pub keeps : Keeps c steps' x
   pub order : InOrder x.host.waiting (outcomes steps')
   pub quiet_is : quiet_turns steps' ≡ quiet_by heard (quiet_turns steps)
-  pub left_is : left_of c.plan steps' + count_heard heard ≤ left_of c.plan steps
+  pub unticked : has_ticked steps' ≡ false
+  pub left_is : left_of c steps' + count_heard heard ≤ left_of c steps
 
 -- what a turn came to
-abbrev pub Turns : Result Passed CopyRefusal → Setting → ℕ → Seen → List Step → Copying → Type 0
-Turns (Ok passed.Over) c turns seen steps x = Ended (Ok record {}) c turns seen
-Turns (Ok passed.Answered) c turns seen steps x = (h : Heard) × Passes c seen steps x (Some h)
-Turns (Ok passed.Quiet) c turns seen steps x = Passes c seen steps x None
-Turns (Err refusal) c turns seen steps x = Ended (Err refusal) c turns seen
+abbrev pub Turns : Result Passed CopyRefusal → Setting → ReadSeen → List ReadStep → Copying → Type 0
+Turns (Ok passed.Over) c seen steps x = Ended (Ok record {}) c seen
+Turns (Ok passed.Answered) c seen steps x = (h : Heard) × Passes c seen steps x (Some h)
+Turns (Ok passed.Quiet) c seen steps x = Passes c seen steps x None
+Turns (Err refusal) c seen steps x = Ended (Err refusal) c seen
 
 -- its first part: the clock answered, outcomes were taken, and sectors were given to the sink
-pub record Collected (c : Setting) (seen : Seen) (steps : List Step) (x : Copying) : Type 0 where
-  pub steps' : List Step
+pub record Collected (c : Setting) (seen : ReadSeen) (steps : List ReadStep) (x : Copying) : Type 0 where
+  pub steps' : List ReadStep
   pub stands : Stands c seen steps'
   pub keeps : Keeps c steps' x
   pub waiting : x.host.waiting ≡ []
   pub goes_on : GoesOn steps'
-  pub given_out : IsGivenOut steps'
+  pub given_out : IsGivenOut c.start steps'
   pub quiet_is : quiet_turns steps' ≡ quiet_turns steps
-  pub left_is : left_of c.plan steps' ≤ left_of c.plan steps
+  pub ticked : has_ticked steps' ≡ true
+  pub left_is : left_of c steps' ≤ left_of c steps
 
-abbrev pub Collects : Result Bool CopyRefusal → Setting → ℕ → Seen → List Step → Copying → Type 0
-Collects (Ok over) c turns seen steps x = Collected c seen steps x × (over ≡ is_over x)
-Collects (Err refusal) c turns seen steps x = Ended (Err refusal) c turns seen
+abbrev pub Collects : Result Bool CopyRefusal → Setting → ReadSeen → List ReadStep → Copying → Type 0
+Collects (Ok over) c seen steps x = Collected c seen steps x × (over ≡ is_over x)
+Collects (Err refusal) c seen steps x = Ended (Err refusal) c seen
+
+-- a turn may begin: the last one has passed, and fewer quiet ones than are waited for
+pub record MayBegin (c : Setting) (turns : ℕ) (steps : List ReadStep) : Type 0 where
+  pub unticked : has_ticked steps ≡ false
+  pub few : quiet_turns steps < c.turns
+  pub turns_are : c.turns ≡ turns
 
 -- how much a copy has left to do
 abbrev pub left_now : Copying → ℕ

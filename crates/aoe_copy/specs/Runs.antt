@@ -1,42 +1,37 @@
--- A whole copy, over a link, a clock and a sink that tell what they gave and took.
-use Rattle.std.specs.Prelude.{ℕ, ◌≡◌, ◌+◌, ◌<◌, ◌≤◌, ◌⊎◌, List, Option, Result, Ok, Err}
+-- A whole copy out of a device, over a link, a clock and a sink that tell what they gave and took.
+use Rattle.std.specs.Prelude.{ℕ, ◌≡◌, ◌+◌, ◌<◌, ◌≤◌, ◌⊎◌, [], Option, Result, Ok, Err}
 use Rattle.aoe_base.specs.declared.address.TargetId.{TargetId}
+use Rattle.aoe_block.specs.Steps.{outcomes, quiet_turns, AreSteps, GoesOn, HasSeen, Seen, Start}
+use Rattle.aoe_block.specs.Turns.{host_of}
 use Rattle.aoe_initiator.specs.Host.{Host}
 use Rattle.aoe_io.specs.Bytes.{Took, TookSome}
-use Rattle.aoe_io.specs.Link.{Added, Turn, Turned}
 use Rattle.aoe_tools.specs.Asking.{Answers}
+use Rattle.aoe_tools.specs.LookUp.{Finds, LinkState}
 use Rattle.aoe_tools.specs.Runs.{Told as ToldAll}
-use Rattle.aoe_tools.specs.TransferAsks.{Finds, LinkState}
-use Rattle.aoe_tools.specs.TransferRun.{host_of, Told}
-use Rattle.aoe_tools.specs.declared.end.CopyRefusal.{CopyRefusal}
-use Rattle.aoe_tools.specs.declared.end.CopyRefusal.TheVariants as copy
 use Rattle.aoe_tools.specs.declared.end.Refusal.TheVariants as refusal
 use Rattle.aoe_tools.specs.declared.end.ToolRefusal.{ToolRefusal}
 use Rattle.aoe_tools.specs.declared.end.ToolRefusal.TheVariants as tool
 use Rattle.aoe_tools.specs.declared.lookup.Device.{Device}
-use Rattle.aoe_tools.specs.declared.question.Ask.{Ask}
+use Rattle.aoe_copy.specs.declared.end.CopyRefusal.{CopyRefusal}
+use Rattle.aoe_copy.specs.declared.end.CopyRefusal.TheVariants as copy
 use Rattle.aoe_copy.specs.declared.plan.Plan.{Plan}
+use Rattle.aoe_copy.specs.declared.terms.Terms.{Terms}
 use Rattle.aoe_copy.specs.Plan.{plan_of, reach, wanted}
-use Rattle.aoe_copy.specs.Steps.{Step, answers_of, frames_of, given, outcomes, quiet_turns, turns_of, written, AreSteps, Fails, GoesOn, IsNextRead, MayAsk}
+use Rattle.aoe_copy.specs.Steps.{given, patience, written, Fails, IsNextRead, MayAsk, ReadLaw, ReadStep}
 
--- what link, clock and sink tell: how many turns there were, what came in them, the frames that were taken; the answers; the bytes held
-pub record Seen : Type 0 where
-  pub turns : ℕ
-  pub given : Option (List Turn)
-  pub taken : Option (List (List ℕ))
-  pub answers : Option (List ℕ)
+-- what link, clock and sink tell
+pub record ReadSeen : Type 0 where
+  pub link : Seen
   pub held : Option (List ℕ)
 
 -- what they tell now is what they told before, and these steps
-pub record HasSeen (before now : Seen) (steps : List Step) : Type 0 where
-  pub turned : Turned before.turns now.turns before.given now.given (turns_of steps)
-  pub took : Added before.taken now.taken (frames_of steps)
-  pub told : Told before.answers now.answers (answers_of steps)
+pub record HasRead (before now : ReadSeen) (steps : List ReadStep) : Type 0 where
+  pub seen_is : HasSeen before.link now.link steps
   pub wrote : Took before.held now.held (written steps)
 
 -- why a copy ends in a refusal of a tool: the first outcome that isn't a success; no command ended in so many turns; there was no memory for
 -- the next command; the link failed
-abbrev pub Breaks : ToolRefusal → Plan → ℕ → List Step → Type 0
+abbrev pub Breaks : ToolRefusal → Plan → ℕ → List ReadStep → Type 0
 Breaks tool.LinkFault p turns steps = GoesOn steps
 Breaks tool.NoMemory p turns steps = GoesOn steps × MayAsk p steps
 Breaks (tool.Unanswered n) p turns steps = ((n ≡ turns) × (quiet_turns steps ≡ turns)) ⊎ Fails turns (outcomes steps) (tool.Unanswered n)
@@ -44,49 +39,53 @@ Breaks (tool.Refused r) p turns steps = Fails turns (outcomes steps) (tool.Refus
 
 -- How a copy ends: with all sectors written; or with those that these steps wrote, where the sink failed with a part of the next
 -- command's.
-abbrev pub Ends : Result Unit CopyRefusal → Plan → ℕ → Seen → Seen → List Step → Type 0
-Ends (Ok done) p turns before now steps = HasSeen before now steps × GoesOn steps × (reach p (given steps) ≡ p.count)
-Ends (Err (copy.Tool refusal)) p turns before now steps = HasSeen before now steps × Breaks refusal p turns steps
-Ends (Err copy.SinkFault) p turns before now steps =
-    (mid : Option (List ℕ)) × HasSeen before (record now { held = mid }) steps
-    × ((next : List ℕ) × IsNextRead steps next × TookSome mid now.held next)
-Ends (Err refusal) p turns before now steps = ⊥
+abbrev pub Ends : Result Unit CopyRefusal → Start → Plan → ℕ → ReadSeen → ReadSeen → List ReadStep → Type 0
+Ends (Ok done) b p turns before now steps = HasRead before now steps × GoesOn steps × (reach p (given steps) ≡ p.count)
+Ends (Err (copy.Tool refusal)) b p turns before now steps = HasRead before now steps × Breaks refusal p turns steps
+Ends (Err copy.SinkFault) b p turns before now steps =
+    (mid : Option (List ℕ)) × HasRead before (record now { held = mid }) steps
+    × ((next : List ℕ) × IsNextRead b steps next × TookSome mid now.held next)
+Ends (Err refusal) b p turns before now steps = ⊥
 
--- a copy by a host that did nothing before
-pub record Runs (result : Result Unit CopyRefusal) (base : Host) (p : Plan) (turns : ℕ) (before now : Seen) : Type 0 where
-  pub steps : List Step
-  pub are : AreSteps base p steps
-  pub ends : Ends result p turns before now steps
+-- a copy out of a device, by a host that did these things before
+pub record Runs (result : Result Unit CopyRefusal) (b : Start) (p : Plan) (turns : ℕ) (before now : ReadSeen) : Type 0 where
+  pub steps : List ReadStep
+  pub are : AreSteps (ReadLaw b p) b (patience turns) steps
+  pub ends : Ends result b p turns before now steps
 
--- what the link tells, of a copy that did nothing on it
-pub record IsIdle (before now : Seen) : Type 0 where
-  pub turns : now.turns ≡ before.turns
-  pub given : now.given ≡ before.given
-  pub taken : now.taken ≡ before.taken
-  pub answers : now.answers ≡ before.answers
-  pub held : now.held ≡ before.held
+-- a host that did nothing before
+abbrev pub new_start : Host → Start
+new_start host = record { host = host; log = [] }
+
+-- the host of a copy, attached to a device
+abbrev pub host_at : Terms → TargetId → Device → Host
+host_at t id d = host_of t.ask.port t.life id d.port d.total d.max
+
+-- what is told of a copy that did nothing
+abbrev pub IsIdle : ReadSeen → ReadSeen → Type 0
+IsIdle before now = now ≡ before
 
 -- there is no memory for a host; or its sectors are copied
-abbrev pub MayRun : Result Unit CopyRefusal → Ask → TargetId → Device → Plan → Seen → Seen → Type 0
-MayRun result ask id d p before now =
-    ((result ≡ Err (copy.Tool tool.NoMemory)) × IsIdle before now) ⊎ Runs result (host_of ask.port id d) p ask.turns before now
+abbrev pub MayRun : Result Unit CopyRefusal → Terms → TargetId → Device → Plan → ReadSeen → ReadSeen → Type 0
+MayRun result t id d p before now =
+    ((result ≡ Err (copy.Tool tool.NoMemory)) × IsIdle before now) ⊎ Runs result (new_start (host_at t id d)) p t.ask.turns before now
 
 -- once a device is found: it doesn't have all of the sectors; or it does, and there is no memory for a host; or they are copied
-abbrev pub CopiesAt : Result Device ToolRefusal → Result Unit CopyRefusal → Ask → TargetId → ℕ → Option ℕ → Seen → Seen → Type 0
-CopiesAt (Err e) result ask id at count before now = (result ≡ Err (copy.Tool e)) × IsIdle before now
-CopiesAt (Ok d) result ask id at count before now =
+abbrev pub CopiesAt : Result Device ToolRefusal → Result Unit CopyRefusal → Terms → TargetId → ℕ → Option ℕ → ReadSeen → ReadSeen → Type 0
+CopiesAt (Err e) result t id at count before now = (result ≡ Err (copy.Tool e)) × IsIdle before now
+CopiesAt (Ok d) result t id at count before now =
     ((d.total < at + wanted d at count) × (result ≡ Err (copy.Tool (tool.Refused refusal.Range))) × IsIdle before now)
     ⊎ ((at + wanted d at count ≤ d.total)
-    × MayRun result ask id d (plan_of d at count) before now)
+    × MayRun result t id d (plan_of d at count) before now)
 
 -- the device is found, by the clock's first answer, and then copied; a command has so many sectors at most
-pub record Copies (result : Result Unit CopyRefusal) (ask : Ask) (id : TargetId) (at : ℕ) (count : Option ℕ) (most : ℕ) (t : ToldAll) (held held' : Option (List ℕ)) : Type 0 where
+pub record Copies (result : Result Unit CopyRefusal) (t : Terms) (id : TargetId) (at : ℕ) (count : Option ℕ) (x : ToldAll) (held held' : Option (List ℕ)) : Type 0 where
   pub first : ℕ
   pub later : Option (List ℕ)
-  pub answered : Answers first t.least t.answers later
+  pub answered : Answers first x.least x.answers later
   pub found : Result Device ToolRefusal
   pub mid : LinkState
-  pub finds : Finds found ask id first most (record { turns = t.turns; given = t.given; taken = t.taken }) mid
-  pub copies : CopiesAt found result ask id at count
-      (record { turns = mid.turns; given = mid.given; taken = mid.taken; answers = later; held = held })
-      (record { turns = t.turns'; given = t.given'; taken = t.taken'; answers = t.answers'; held = held' })
+  pub finds : Finds found t.ask id first t.most (record { turns = x.turns; given = x.given; taken = x.taken }) mid
+  pub copies : CopiesAt found result t id at count
+      (record { link = record { turns = mid.turns; given = mid.given; taken = mid.taken; answers = later }; held = held })
+      (record { link = record { turns = x.turns'; given = x.given'; taken = x.taken'; answers = x.answers' }; held = held' })

@@ -1,26 +1,26 @@
-//! A copy, turn by turn.
-ghost use Rattle.std.specs.Prelude.{◌≡◌, ◌≢◌, ◌+◌, ◌<◌, ◌≤◌, ◌^◌, ◌∷◌, ℕ, suc, List, [], Option, Err, IfOk, OnErr, OnOk, IfSome, is_err, length, true};
+//! A copy out of a device, turn by turn.
+ghost use Rattle.std.specs.Prelude.{◌≡◌, ◌≢◌, ◌+◌, ◌<◌, ◌≤◌, ◌^◌, ◌∷◌, ℕ, suc, List, [], Option, Err, IfOk, OnOk, IfSome, length, true, false};
 ghost use Rattle.aoe_base.specs.Faults.{Blamed};
+ghost use Rattle.aoe_block.specs.Steps.{has_ticked, outcomes, AreTagged, GoesOn, Seen, Start};
 ghost use Rattle.aoe_initiator.specs.declared.outcome.Done.{Done};
 ghost use Rattle.aoe_initiator.specs.Host.{Matches};
 ghost use Rattle.aoe_initiator.specs.HostLog.{Event};
 ghost use Rattle.aoe_io.specs.Link.{Added};
-ghost use Rattle.aoe_tools.specs.TransferRun.{host_of};
-ghost use Rattle.aoe_tools.specs.TransferSteps.{HearsOne, IsUnused};
-ghost use Rattle.aoe_copy.specs.Copying.{is_over, may_ask, AreUpTo, Asks, AsksOne, Begins, Collects, InOrder, IsFit, Keeps, Sends, Setting, Stands, TakesAll, Turns};
-ghost use Rattle.aoe_copy.specs.Runs.{Runs, Seen};
-ghost use Rattle.aoe_copy.specs.Steps.{outcomes, GoesOn, IsGivenOut, Step};
+ghost use Rattle.aoe_copy.specs.Copying.{is_over, may_ask, AreUpTo, Asks, AsksOne, Begins, Collects, InOrder, IsFit, Keeps, MayBegin, Setting, Stands, TakesAll, Turns};
+ghost use Rattle.aoe_copy.specs.Runs.{ReadSeen, Runs};
+ghost use Rattle.aoe_copy.specs.Steps.{IsGivenOut, ReadStep};
 ghost use Rattle.aoe_copy.specs.Window.{most_open, AreThere, HasAll, IsAsLong};
 
-use crate::host::{DEVICE, attach, hear};
+use crate::end::CopyRefusal;
 use crate::plan::Plan;
 use crate::watch::Watch;
 use crate::window::{MAX_OPEN, Window};
-use aoe_base::{Failed, Mac, Millis, NoMemory, Span, TargetId};
+use aoe_base::{Failed, Millis, NoMemory, Span};
+use aoe_block::{DEVICE, exchange};
 use aoe_frame::Frame;
 use aoe_initiator::{Initiator, Op};
 use aoe_io::{Clock, Link, Sink};
-use aoe_tools::{CopyRefusal, Device, ToolRefusal};
+use aoe_tools::ToolRefusal;
 use std::alloc::Global;
 
 /// What a turn came to.
@@ -42,6 +42,9 @@ pub(crate) struct Copying {
     host: Initiator,
     plan: Plan,
 
+    /// The ticket that the host gave last before.
+    before: u64,
+
     /// How many sectors were asked for.
     reached: u64,
 
@@ -49,29 +52,25 @@ pub(crate) struct Copying {
 }
 
 impl Copying {
-    /// A host with one port, attached to a device at one port.
-    pub(crate) fn new(
-        alloc: Global,
-        port: Mac,
-        id: TargetId,
-        device: &Device,
-        plan: Plan,
-    ) -> Result<Copying, NoMemory>
-        requires total { device.now.total ≤ 2 ^ 48 }
-        requires some { 0 < device.now.max }
-        requires max { device.now.max ≤ 17 }
-        requires same { plan.max ≡ device.now.max }
-        requires within { plan.at + plan.count ≤ device.now.total }
-        ensures fit { IfOk result IsFit }
-        ensures begins { IfOk result (Begins (host_of port id device.now) plan) }
+    /// A copy by a host that is attached to the one device, and gave so many tickets before.
+    pub(crate) fn new(alloc: Global, host: Initiator, before: u64, plan: Plan) -> Copying
+        requires attached { length host.devices ≡ 1 }
+        requires given { before ≡ host.last_ticket }
+        requires few { before ≤ 2 ^ 62 }
+        requires small { plan.at + plan.count ≤ 2 ^ 48 }
+        requires some { 0 < plan.max }
+        requires max { plan.max ≤ 17 }
+        ensures fit { IsFit result }
+        ensures begins { (log : List Event) → Matches log host → AreTagged host.flight.last_tag log
+            → Begins (record { host = host; log = log }) plan result }
     {
-        let host = attach(alloc, port, id, device)?;
-        Ok(Copying {
+        Copying {
             host,
             plan,
+            before,
             reached: 0,
-            window: Window::new(alloc),
-        })
+            window: Window::new(alloc, before),
+        }
     }
 
     /// Takes the outcomes that wait, up to the first that ends the copy.
@@ -88,6 +87,7 @@ impl Copying {
         ensures host { self.new.host ≡ record self.old.host { waiting = self.new.host.waiting } }
         ensures plan { self.new.plan ≡ self.old.plan }
         ensures reached { self.new.reached ≡ self.old.reached }
+        ensures before { self.new.before ≡ self.old.before }
         ensures window { IsAsLong self.old.window self.new.window }
         ensures matches { (log : List Event) → Matches log self.old.host
             → Matches log self.new.host }
@@ -122,6 +122,7 @@ impl Copying {
         requires few { length self.old.window.slots.items < most_open }
         ensures fit { OnOk result (IsFit self.new) }
         ensures asks { OnOk result (AsksOne self.old self.new) }
+        ensures more { OnOk result (is_over self.new ≡ false) }
     {
         let left = self.plan.count - self.reached;
         let count = u64::from(self.plan.max).min(left) as u32;
@@ -140,11 +141,13 @@ impl Copying {
     /// Submits commands as long as sectors are left, up to as many as a window has.
     fn ask_all(&mut self) -> Result<(), NoMemory>
         requires fit { IsFit self.old }
+        requires more { is_over self.old ≡ false }
         ensures fit { OnOk result (IsFit self.new) }
+        ensures more { OnOk result (is_over self.new ≡ false) }
         ensures waiting { OnOk result (self.new.host.waiting ≡ self.old.host.waiting) }
-        ensures asks { (c : Setting) (turns : ℕ) (seen : Seen) (steps : List Step)
+        ensures asks { (c : Setting) (seen : ReadSeen) (steps : List ReadStep)
             → Stands c seen steps → Keeps c steps self.old → GoesOn steps
-            → Asks result c turns seen steps self.new }
+            → has_ticked steps ≡ true → Asks result c seen steps self.new }
     {
         'commands: while self.may_ask() {
             match self.ask_next() {
@@ -155,58 +158,17 @@ impl Copying {
         Ok(())
     }
 
-    /// Sends frames as long as one may be sent, up to as many as there are commands.
-    fn send_all<L: Link>(&mut self, link: &mut L, frame: &mut Frame) -> Result<(), Failed>
-        requires fit { IsFit self.old }
-        ensures fit { IsFit self.new }
-        ensures waiting { self.new.host.waiting ≡ self.old.host.waiting }
-        ensures sends { (c : Setting) (turns : ℕ) (seen : Seen) (steps : List Step)
-            → Stands c (record seen { taken = L.taken link.old }) steps
-            → Keeps c steps self.old → GoesOn steps
-            → Sends result c turns (record seen { taken = L.taken link.new }) steps self.new }
-        ensures given { L.given link.new ≡ L.given link.old }
-        ensures turns { L.turns link.new ≡ L.turns link.old }
-        ensures count { L.faults link.old ≤ L.faults link.new }
-        ensures link { Blamed (is_err result ≡ true) (L.faults link.old) (L.faults link.new) }
-    {
-        for _ in 0..MAX_OPEN {
-            if self.host.pull(frame).is_none() {
-                return Ok(());
-            }
-            match link.send(frame.as_slice()) {
-                Ok(()) => {}
-                Err(Failed) => return Err(Failed),
-            }
-        }
-        Ok(())
-    }
-
-    /// Takes what one turn of the link brings: whether it ended a command.
-    fn hear<L: Link>(&mut self, link: &mut L, frame: &mut Frame) -> Result<bool, Failed>
-        requires fit { IsFit self.old }
-        ensures fit { OnOk result (IsFit self.new) }
-        ensures one { IfOk result (λ finished. HearsOne finished self.old.host self.new.host
-            (L.turns link.old) (L.turns link.new) (L.given link.old) (L.given link.new)) }
-        ensures same { self.new ≡ record self.old { host = self.new.host } }
-        ensures taken { L.taken link.new ≡ L.taken link.old }
-        ensures err { OnErr result (IsUnused (L.turns link.old) (L.turns link.new)
-            (L.given link.old) (L.given link.new)) }
-        ensures count { L.faults link.old ≤ L.faults link.new }
-        ensures link { Blamed (is_err result ≡ true) (L.faults link.old) (L.faults link.new) }
-    {
-        hear(&mut self.host, link, frame)
-    }
-
     /// The second part of a turn: commands are submitted, frames go out, and one may come.
     fn exchange<L: Link>(&mut self, link: &mut L, frame: &mut Frame) -> Result<Passed, CopyRefusal>
         requires fit { IsFit self.old }
         requires waiting { self.old.host.waiting ≡ [] }
+        requires more { is_over self.old ≡ false }
         ensures fit { OnOk result (IsFit self.new) }
         ensures sink { result ≢ Err CopyRefusal.SinkFault }
-        ensures exchanges { (c : Setting) (turns : ℕ) (seen : Seen) (steps : List Step)
-            → Stands c (record seen { turns = L.turns link.old; given = L.given link.old; taken = L.taken link.old }) steps
-            → Keeps c steps self.old → GoesOn steps → IsGivenOut steps
-            → Turns result c turns (record seen { turns = L.turns link.new; given = L.given link.new; taken = L.taken link.new }) steps self.new }
+        ensures exchanges { (c : Setting) (answers : Option (List ℕ)) (held : Option (List ℕ)) (steps : List ReadStep)
+            → Stands c (record { link = record { turns = L.turns link.old; given = L.given link.old; taken = L.taken link.old; answers = answers }; held = held }) steps
+            → Keeps c steps self.old → GoesOn steps → has_ticked steps ≡ true → IsGivenOut c.start steps
+            → Turns result c (record { link = record { turns = L.turns link.new; given = L.given link.new; taken = L.taken link.new; answers = answers }; held = held }) steps self.new }
         ensures count { L.faults link.old ≤ L.faults link.new }
         ensures link { Blamed (result ≡ Err (CopyRefusal.Tool ToolRefusal.LinkFault))
             (L.faults link.old) (L.faults link.new) }
@@ -215,11 +177,7 @@ impl Copying {
             Ok(()) => {}
             Err(NoMemory) => return Err(CopyRefusal::Tool(ToolRefusal::NoMemory)),
         }
-        match self.send_all(link, frame) {
-            Ok(()) => {}
-            Err(Failed) => return Err(CopyRefusal::Tool(ToolRefusal::LinkFault)),
-        }
-        match self.hear(link, frame) {
+        match exchange(&mut self.host, link, frame, MAX_OPEN) {
             Ok(true) => Ok(Passed::Answered),
             Ok(false) => Ok(Passed::Quiet),
             Err(Failed) => Err(CopyRefusal::Tool(ToolRefusal::LinkFault)),
@@ -231,13 +189,15 @@ impl Copying {
     fn collect<K: Sink>(&mut self, now: u64, turns: u32, sink: &mut K) -> Result<bool, CopyRefusal>
         requires fit { IsFit self.old }
         ensures fit { OnOk result (IsFit self.new) }
+        ensures over { IfOk result (λ over. over ≡ is_over self.new) }
         ensures waiting { OnOk result (self.new.host.waiting ≡ []) }
         ensures link { result ≢ Err (CopyRefusal.Tool ToolRefusal.LinkFault) }
-        ensures collects { (c : Setting) (seen : Seen) (later : Option (List ℕ)) (steps : List Step)
+        ensures collects { (c : Setting) (seen : Seen) (later : Option (List ℕ)) (steps : List ReadStep)
             → IfSome later (λ _. Added seen.answers later (now ∷ []))
-            → Stands c (record seen { held = K.held sink.old }) steps
+            → Stands c (record { link = seen; held = K.held sink.old }) steps
             → Keeps c steps self.old → InOrder self.old.host.waiting (outcomes steps)
-            → Collects result c turns (record seen { answers = later; held = K.held sink.new }) steps self.new }
+            → MayBegin c turns steps
+            → Collects result c (record { link = record seen { answers = later }; held = K.held sink.new }) steps self.new }
         ensures count { K.faults sink.old ≤ K.faults sink.new }
         ensures sink { Blamed (result ≡ Err CopyRefusal.SinkFault) (K.faults sink.old) (K.faults sink.new) }
     {
@@ -255,7 +215,8 @@ impl Copying {
 
     /// How many sectors were given to the sink.
     fn written(&self) -> u64 {
-        let whole = self.window.given().saturating_mul(u64::from(self.plan.max));
+        let parts = self.window.given().saturating_sub(self.before);
+        let whole = parts.saturating_mul(u64::from(self.plan.max));
         whole.min(self.plan.count)
     }
 
@@ -271,11 +232,12 @@ impl Copying {
     ) -> Result<Passed, CopyRefusal>
         requires fit { IsFit self.old }
         ensures fit { OnOk result (IsFit self.new) }
-        ensures turn { (c : Setting) (seen : Seen) (later : Option (List ℕ)) (steps : List Step)
-            → IfSome later (λ _. Added seen.answers later (now ∷ []))
-            → Stands c (record { turns = L.turns link.old; given = L.given link.old; taken = L.taken link.old; answers = seen.answers; held = K.held sink.old }) steps
+        ensures turn { (c : Setting) (answers : Option (List ℕ)) (later : Option (List ℕ)) (steps : List ReadStep)
+            → IfSome later (λ _. Added answers later (now ∷ []))
+            → Stands c (record { link = record { turns = L.turns link.old; given = L.given link.old; taken = L.taken link.old; answers = answers }; held = K.held sink.old }) steps
             → Keeps c steps self.old → InOrder self.old.host.waiting (outcomes steps)
-            → Turns result c turns (record { turns = L.turns link.new; given = L.given link.new; taken = L.taken link.new; answers = later; held = K.held sink.new }) steps self.new }
+            → MayBegin c turns steps
+            → Turns result c (record { link = record { turns = L.turns link.new; given = L.given link.new; taken = L.taken link.new; answers = later }; held = K.held sink.new }) steps self.new }
         ensures count { L.faults link.old ≤ L.faults link.new }
         ensures link { Blamed (result ≡ Err (CopyRefusal.Tool ToolRefusal.LinkFault))
             (L.faults link.old) (L.faults link.new) }
@@ -306,12 +268,12 @@ impl Copying {
         watch: &mut W,
     ) -> Result<(), CopyRefusal>
         requires fit { IsFit self.old }
-        requires begins { Begins self.old.host self.old.plan self.old }
         requires waiting { self.old.host.waiting ≡ [] }
-        requires new { self.old.host.last_ticket ≡ 0 }
-        ensures run { Runs result self.old.host self.old.plan turns
-            (record { turns = L.turns link.old; given = L.given link.old; taken = L.taken link.old; answers = C.answers clock.old; held = K.held sink.old })
-            (record { turns = L.turns link.new; given = L.given link.new; taken = L.taken link.new; answers = C.answers clock.new; held = K.held sink.new }) }
+        ensures run { (b : Start) → Begins b self.old.plan self.old
+            → Runs result b self.old.plan turns
+            (record { link = record { turns = L.turns link.old; given = L.given link.old; taken = L.taken link.old; answers = C.answers clock.old }; held = K.held sink.old })
+            (record { link = record { turns = L.turns link.new; given = L.given link.new; taken = L.taken link.new; answers = C.answers clock.new }; held = K.held sink.new }) }
+        ensures source { result ≢ Err CopyRefusal.SourceFault }
         ensures count { L.faults link.old ≤ L.faults link.new }
         ensures link { Blamed (result ≡ Err (CopyRefusal.Tool ToolRefusal.LinkFault))
             (L.faults link.old) (L.faults link.new) }
