@@ -8,7 +8,7 @@ use Rattle.aoe_tools.proofs.OneLemmas.{heard-none, heard-one, not-done}
 use Rattle.aoe_tools.specs.Asking.{Response, responses}
 use Rattle.aoe_tools.specs.Listening.{Listens}
 use Rattle.aoe_tools.specs.One.{args_of, refusal_of, said, unless_refused, AsksOne, Ends}
-use Rattle.aoe_tools.specs.TransferAsks.{answered, unless_refusing, with_args, AskEnds, Asks, LinkState}
+use Rattle.aoe_tools.specs.LookUp.{answered, unless_refusing, with_args, AskEnds, Asks, LinkState}
 use Rattle.aoe_tools.specs.declared.end.Refusal.{Refusal}
 use Rattle.aoe_tools.specs.declared.end.ToolRefusal.{ToolRefusal}
 use Rattle.aoe_tools.specs.declared.end.ToolRefusal.TheVariants as tool
@@ -68,11 +68,12 @@ asks-one {q} {request} {limit} {before} {after} result a = record { turns = a.tu
     by (Err tool.LinkFault) e = e
     by _ e = (e.0, ap args_by e.1 ∙ said-by q limit (responses q a.turns), e.2)
 
--- a question and a request by what they are
-pub asked-as : {r : Result Response ToolRefusal} {q q' : Question} {request request' : List ℕ} {limit : ℕ} {before after : LinkState} → q ≡ q'
+-- a question, a request and its turns by what they are
+pub asked-as : {r : Result Response ToolRefusal} {q q' : Question} {request request' : List ℕ} {limit limit' : ℕ} {before after : LinkState} → q ≡ q'
     → request ≡ request'
-    → Asks r q request limit before after → Asks r q' request' limit before after
-asked-as same frame a = rw (← same, ← frame) a
+    → limit ≡ limit'
+    → Asks r q request limit before after → Asks r q' request' limit' before after
+asked-as same frame turns a = rw (← same, ← frame, ← turns) a
 
 -- the bytes behind a header
 pub behind : {xs ys : List ℕ} → xs ≡ ys → take (length xs - 24) (drop 24 xs) ≡ drop 24 ys

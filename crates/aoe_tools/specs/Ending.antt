@@ -2,8 +2,6 @@
 use Rattle.std.specs.Prelude.{ℕ, List, ◌++◌, codes}
 use Rattle.std.specs.Fmt.{decimal}
 use Rattle.aoe_base.specs.Names.{pair_text}
-use Rattle.aoe_tools.specs.declared.end.CopyRefusal.{CopyRefusal}
-use Rattle.aoe_tools.specs.declared.end.CopyRefusal.TheVariants as copy
 use Rattle.aoe_tools.specs.declared.end.Refusal.{Refusal}
 use Rattle.aoe_tools.specs.declared.end.Refusal.TheVariants as refusal
 use Rattle.aoe_tools.specs.declared.end.ToolRefusal.{ToolRefusal}
@@ -28,18 +26,3 @@ text_of tool.LinkFault = codes "aoe: link fault on port 0"
 text_of tool.NoMemory = codes "aoe: no memory"
 text_of (tool.Unanswered turns) = codes "aoe: no answer in " ++ (decimal turns ++ codes " turns")
 text_of (tool.Refused r) = refusal_text r
-
--- the same of a tool that copies sectors
-abbrev pub copy_code : CopyRefusal → ℕ
-copy_code copy.SourceFault = 3
-copy_code copy.SinkFault = 4
-copy_code (copy.Tool r) = code_of r
-copy_code (copy.Stream offset) = 11
-copy_code copy.Limit = 12
-
-abbrev pub copy_text : CopyRefusal → List ℕ
-copy_text copy.SourceFault = codes "aoe: source fault"
-copy_text copy.SinkFault = codes "aoe: sink fault"
-copy_text (copy.Tool r) = text_of r
-copy_text (copy.Stream offset) = codes "aoe: bad stream at byte " ++ decimal offset
-copy_text copy.Limit = codes "aoe: limit: input bytes"

@@ -1,5 +1,5 @@
 -- What a run of each tool is, over a link and a clock that tell what they gave.
-use Rattle.std.specs.Prelude.{ℕ, ◌≡◌, Bool, List, [], Option, Some, Result, Ok}
+use Rattle.std.specs.Prelude.{ℕ, List, Option, Some, Result}
 use Rattle.arrayvec.specs.ArrayVec.{ArrayVec}
 use Rattle.aoe_base.specs.Addresses.{broadcast}
 use Rattle.aoe_base.specs.declared.address.Mac.{Mac}
@@ -13,11 +13,7 @@ use Rattle.aoe_tools.specs.Asking.{Answers, tag_of}
 use Rattle.aoe_tools.specs.Discovery.{Discovers, finding_question, finding_request}
 use Rattle.aoe_tools.specs.One.{AsksOne, edits_by}
 use Rattle.aoe_tools.specs.Stat.{Stats}
-use Rattle.aoe_tools.specs.TransferAsks.{LinkState}
-use Rattle.aoe_tools.specs.TransferCopies.{Copies, Puts, TakesRead, end_of, read_by, read_of, write_of}
-use Rattle.aoe_tools.specs.TransferInput.{Inputs}
-use Rattle.aoe_tools.specs.declared.course.Course.{Course}
-use Rattle.aoe_tools.specs.declared.end.CopyRefusal.{CopyRefusal}
+use Rattle.aoe_tools.specs.LookUp.{LinkState}
 use Rattle.aoe_tools.specs.declared.end.ToolRefusal.{ToolRefusal}
 use Rattle.aoe_tools.specs.declared.found.Seen.{Seen}
 use Rattle.aoe_tools.specs.declared.question.Ask.{Ask}
@@ -89,22 +85,3 @@ before t = record { turns = t.turns; given = t.given; taken = t.taken }
 
 abbrev pub after : Told → LinkState
 after t = record { turns = t.turns'; given = t.given'; taken = t.taken' }
-
--- sectors of the device were read, and a sink took them, or a front of them where it failed
-abbrev pub RunsGet : Result Unit CopyRefusal → Ask → TargetId → ℕ → ℕ → Told → Option (List ℕ) → Option (List ℕ) → Type 0
-RunsGet result ask id at count t held held' = (copied : Result Course ToolRefusal)
-    × Copies copied ask id (read_of at count) t.least (before t) (after t) t.answers t.answers' × TakesRead (read_by copied) result held held'
-
--- these sectors were written to the device, and flushed; and read again and compared, where that was asked for
-abbrev pub RunsWrite : Result Unit CopyRefusal → Ask → TargetId → ℕ → List ℕ → Bool → Told → Type 0
-RunsWrite result ask id at bytes verify t = Puts (Ok bytes) result ask id at verify t.least (before t) (after t) t.answers t.answers'
-
--- what a source gave was written to sectors of the device, and flushed; and read again and compared, where that was asked for
-abbrev pub RunsPut : Result Unit CopyRefusal → Ask → TargetId → ℕ → Bool → Told → Option (List ℕ) → Option (List ℕ) → Type 0
-RunsPut result ask id at verify t left left' = (input : Result (List ℕ) CopyRefusal)
-    × Inputs input left left' × Puts input result ask id at verify t.least (before t) (after t) t.answers t.answers'
-
--- the device was flushed (ATA, FLUSH CACHE): what a write of no sectors ends with
-abbrev pub RunsFlush : Result Unit ToolRefusal → TargetId → Ask → Told → Type 0
-RunsFlush result id ask t = (flushed : Result Course ToolRefusal)
-    × Copies flushed ask id (write_of 0 []) t.least (before t) (after t) t.answers t.answers' × (result ≡ end_of flushed)

@@ -4,7 +4,7 @@ ghost use Rattle.aoe_base.specs.Faults.{Blamed};
 ghost use Rattle.aoe_tools.specs.Asking.{asked_at, CanRead};
 ghost use Rattle.aoe_tools.specs.Listening.{Listens, TakesTurn};
 ghost use Rattle.aoe_tools.specs.One.{mask_refusal, refusal_of};
-ghost use Rattle.aoe_tools.specs.TransferAsks.{unless_refusing, with_args, Asks};
+ghost use Rattle.aoe_tools.specs.LookUp.{unless_refusing, with_args, Asks};
 ghost use Rattle.aoe_io.specs.Link.{Added};
 
 use crate::end::{Refusal, ToolRefusal};

@@ -1,6 +1,6 @@
 //! How a tool ends without its answer.
 ghost use Rattle.std.specs.Prelude.{◌≡◌, ◌<◌, IfOk};
-ghost use Rattle.aoe_tools.specs.Ending.{code_of, copy_code, copy_text, refusal_text, text_of};
+ghost use Rattle.aoe_tools.specs.Ending.{code_of, refusal_text, text_of};
 
 use aoe_base::{Blob, NoMemory, append, pair};
 use arrayvec::ArrayVec;
@@ -41,25 +41,6 @@ pub enum Refusal {
     Differs { sector: u64 },
 }
 
-/// How a tool that copies sectors ends without having copied them.
-#[derive(Clone, Copy, Debug, PartialEq, Eq)]
-pub enum CopyRefusal {
-    /// As a tool that asks.
-    Tool(ToolRefusal),
-
-    /// The input isn't whole sectors: from this byte offset on less than a sector is left.
-    Stream { offset: u64 },
-
-    /// The input is longer than what is written at a time.
-    Limit,
-
-    /// The source failed.
-    SourceFault,
-
-    /// The sink failed.
-    SinkFault,
-}
-
 impl ToolRefusal {
     /// The exit status of the program.
     pub fn code(&self) -> u8
@@ -91,42 +72,6 @@ fn unanswered_text(alloc: Global, turns: u32) -> Result<Blob, NoMemory>
     ensures { IfOk result (λ text. text ≡ text_of (ToolRefusal.Unanswered turns)) }
 {
     let text = format!(in alloc; "aoe: no answer in {turns} turns")?;
-    Blob::of(alloc, text.as_bytes())
-}
-
-impl CopyRefusal {
-    /// The exit status of the program.
-    pub fn code(&self) -> u8
-        ensures { result ≡ copy_code self.now }
-    {
-        match self {
-            CopyRefusal::SourceFault => 3,
-            CopyRefusal::SinkFault => 4,
-            CopyRefusal::Tool(refusal) => refusal.code(),
-            CopyRefusal::Stream { .. } => 11,
-            CopyRefusal::Limit => 12,
-        }
-    }
-
-    /// What the program says on standard error, without a line feed.
-    pub fn text(&self, alloc: Global) -> Result<Blob, NoMemory>
-        ensures { IfOk result (λ text. text ≡ copy_text self.now) }
-    {
-        match *self {
-            CopyRefusal::Tool(refusal) => refusal.text(alloc),
-            CopyRefusal::Stream { offset } => stream_text(alloc, offset),
-            CopyRefusal::Limit => Blob::of(alloc, b"aoe: limit: input bytes"),
-            CopyRefusal::SourceFault => Blob::of(alloc, b"aoe: source fault"),
-            CopyRefusal::SinkFault => Blob::of(alloc, b"aoe: sink fault"),
-        }
-    }
-}
-
-/// The text for an input that isn't whole sectors.
-fn stream_text(alloc: Global, offset: u64) -> Result<Blob, NoMemory>
-    ensures { IfOk result (λ text. text ≡ copy_text (CopyRefusal.Stream offset)) }
-{
-    let text = format!(in alloc; "aoe: bad stream at byte {offset}")?;
     Blob::of(alloc, text.as_bytes())
 }
 

@@ -1,9 +1,9 @@
-//! The device that a transfer goes to: where it is, and how long it is.
+//! The device that a copy goes to: where it is, and how long it is.
 ghost use Rattle.std.specs.Prelude.{◌≡◌, ◌≤◌, ◌<◌, ◌^◌, Err, IfOk, Result};
 ghost use Rattle.aoe_base.specs.Faults.{Blamed};
 ghost use Rattle.aoe_tools.specs.Asking.{Response};
 ghost use Rattle.aoe_tools.specs.declared.end.ToolRefusal.{ToolRefusal as Refused};
-ghost use Rattle.aoe_tools.specs.TransferAsks.{config_frame, config_question, max_of, page_frame, page_question, port_in, total_in, Asks, Finds};
+ghost use Rattle.aoe_tools.specs.LookUp.{config_frame, config_question, look_up_turns, max_of, page_frame, page_question, port_in, total_in, Asks, Finds};
 
 use crate::asking::ask;
 use crate::end::ToolRefusal;
@@ -14,6 +14,10 @@ use aoe_base::{Mac, TargetId};
 use aoe_frame::{Frame, HEADER_LEN};
 use aoe_initiator::{Op, write_request};
 use aoe_io::Link;
+
+/// How many turns a request of a look-up waits at most: as many as `discover` where nothing is said of
+/// it.
+const LOOK_UP_TURNS: u32 = 50;
 
 /// A device that answered.
 #[derive(Clone, Copy, PartialEq, Eq)]
@@ -43,6 +47,13 @@ fn max_of(args: &[u8], most: u32) -> u32
     }
 }
 
+/// How many turns a request of a look-up waits.
+fn turns_of(ask_by: &Ask) -> u32
+    ensures { result ≡ look_up_turns ask_by.now }
+{
+    ask_by.turns.min(LOOK_UP_TURNS)
+}
+
 /// Asks a device where it is, and how many sectors it takes in one command.
 fn find_port<L: Link>(
     ask_by: &Ask,
@@ -52,7 +63,7 @@ fn find_port<L: Link>(
     link: &mut L,
 ) -> Result<(Mac, u32), ToolRefusal>
     requires { 0 < most }
-    ensures asks { (r : Result Response Refused) × Asks r (config_question ask_by.now id first) (config_frame ask_by.now id first) ask_by.now.turns (record { turns = L.turns link.old; given = L.given link.old; taken = L.taken link.old }) (record { turns = L.turns link.new; given = L.given link.new; taken = L.taken link.new })
+    ensures asks { (r : Result Response Refused) × Asks r (config_question ask_by.now id first) (config_frame ask_by.now id first) (look_up_turns ask_by.now) (record { turns = L.turns link.old; given = L.given link.old; taken = L.taken link.old }) (record { turns = L.turns link.new; given = L.given link.new; taken = L.taken link.new })
         × (result ≡ port_in most r) }
     ensures max { IfOk result (λ found. (0 < found.1) × (found.1 ≤ most)) }
     ensures count { L.faults link.old ≤ L.faults link.new }
@@ -63,7 +74,7 @@ fn find_port<L: Link>(
     let mut request = Frame::new();
     config_request(0, b"", id, ask_by.port, question.tag, &mut request);
     let mut frame = Frame::new();
-    match ask(&question, &request, ask_by.turns, link, &mut frame) {
+    match ask(&question, &request, turns_of(ask_by), link, &mut frame) {
         Ok(reply) => Ok((reply.source, max_of(&frame[HEADER_LEN..], most))),
         Err(refusal) => Err(refusal),
     }
@@ -77,7 +88,7 @@ fn find_total<L: Link>(
     first: u64,
     link: &mut L,
 ) -> Result<u64, ToolRefusal>
-    ensures asks { (r : Result Response Refused) × Asks r (page_question ask_by.now id first) (page_frame ask_by.now id first remote) ask_by.now.turns (record { turns = L.turns link.old; given = L.given link.old; taken = L.taken link.old }) (record { turns = L.turns link.new; given = L.given link.new; taken = L.taken link.new })
+    ensures asks { (r : Result Response Refused) × Asks r (page_question ask_by.now id first) (page_frame ask_by.now id first remote) (look_up_turns ask_by.now) (record { turns = L.turns link.old; given = L.given link.old; taken = L.taken link.old }) (record { turns = L.turns link.new; given = L.given link.new; taken = L.taken link.new })
         × (result ≡ total_in r) }
     ensures bound { IfOk result (λ total. total < 2 ^ 48) }
     ensures count { L.faults link.old ≤ L.faults link.new }
@@ -95,13 +106,14 @@ fn find_total<L: Link>(
         &mut request,
     );
     let mut frame = Frame::new();
-    match ask(&question, &request, ask_by.turns, link, &mut frame) {
+    match ask(&question, &request, turns_of(ask_by), link, &mut frame) {
         Ok(reply) => Ok(total_in(reply.answer, &frame[HEADER_LEN..]).unwrap_or(0)),
         Err(refusal) => Err(refusal),
     }
 }
 
-/// Finds a device: where it is, and how long. A command to it has at most `most` sectors.
+/// Finds a device: where it is, and how long. A command to it has at most `most` sectors. Each of the
+/// two requests waits as many turns as `ask_by` says, but no more than 50.
 pub fn look_up<L: Link>(
     ask_by: &Ask,
     id: TargetId,

@@ -1,7 +1,7 @@
 use Rattle.std.proofs.Common.{◌≡◌, ◌∙◌, ap, drop}
 use Rattle.std.specs.Prelude.{Ok, unwrap_or}
 use Rattle.aoe_tools.proofs.AskLemmas.{asked-as, behind}
-use Rattle.aoe_tools.specs.TransferAsks.{page_frame, total_of}
+use Rattle.aoe_tools.specs.LookUp.{page_frame, total_of}
 use Rattle.aoe_tools.proofs.lookup.find_total.Goals as goal
 
 pub total_in-requires : goal.total_in-requires
@@ -13,6 +13,6 @@ returns-in-Ok-clause-asks g c =
     let frame : c.write_request.new.out.items ≡ page_frame c.args.ask_by.now c.args.id c.args.first c.args.remote =
     rw c.question-question.ensures at c.write_request.ensures.bytes in (
       Ok record { reply = c.in-Ok.reply; args = drop 24 c.ask.new.frame.items },
-      asked-as c.question-question.ensures frame c.in-Ok.ensures.asks,
+      asked-as c.question-question.ensures frame c.turns_of.ensures c.in-Ok.ensures.asks,
       ap Ok (c.unwrap_or.ensures ∙ ap (λ o. unwrap_or o 0) c.total_in.ensures.value ∙ ap (total_of c.in-Ok.reply.answer) args),
     )

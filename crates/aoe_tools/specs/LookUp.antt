@@ -1,4 +1,4 @@
--- The two requests before a transfer: where a device is, and how long it is.
+-- The look-up of a device by two requests: where it is, and how long it is.
 use Rattle.std.specs.Prelude.{ℕ, ◌≡◌, min, true, false, nat_lt, List, [], ◌∷◌, length, drop, Option, Some, None, Result, Ok, Err, if◌then◌else◌, slice_index, unwrap_or}
 use Rattle.aoe_base.specs.declared.address.Mac.{Mac}
 use Rattle.aoe_base.specs.declared.address.TargetId.{TargetId}
@@ -53,6 +53,10 @@ abbrev pub with_args : List ℕ → Result Reply ToolRefusal → Result Response
 with_args frame (Ok r) = Ok record { reply = r; args = drop 24 frame }
 with_args frame (Err e) = Err e
 
+-- the turns that a request of a look-up waits: as many as a tool has, but no more than 50, those of `discover` where nothing is said of it
+abbrev pub look_up_turns : Ask → ℕ
+look_up_turns ask = min ask.turns 50
+
 -- how many sectors a command has at most: as many as the device says (AoEr11, "Query Config Information", Sector Count), but one at
 -- least, and no more than a number
 abbrev pub max_of : ℕ → List ℕ → ℕ
@@ -89,7 +93,7 @@ with_total found (Err e) = Err e
 -- once the device answered where it is, it is asked there how long it is
 abbrev pub FindsAt : Result (Mac × ℕ) ToolRefusal → Result Device ToolRefusal → Ask → TargetId → ℕ → LinkState → LinkState → Type 0
 FindsAt (Ok found) result ask id first mid after =
-    (page : Result Response ToolRefusal) × Asks page (page_question ask id first) (page_frame ask id first found.0) ask.turns mid after
+    (page : Result Response ToolRefusal) × Asks page (page_question ask id first) (page_frame ask id first found.0) (look_up_turns ask) mid after
     × (result ≡ with_total found (total_in page))
 FindsAt (Err e) result ask id first mid after = (result ≡ Err e) × (after ≡ mid)
 
@@ -97,5 +101,5 @@ FindsAt (Err e) result ask id first mid after = (result ≡ Err e) × (after ≡
 pub record Finds (result : Result Device ToolRefusal) (ask : Ask) (id : TargetId) (first most : ℕ) (before after : LinkState) : Type 0 where
   pub mid : LinkState
   pub config : Result Response ToolRefusal
-  pub asks : Asks config (config_question ask id first) (config_frame ask id first) ask.turns before mid
+  pub asks : Asks config (config_question ask id first) (config_frame ask id first) (look_up_turns ask) before mid
   pub finds : FindsAt (port_in most config) result ask id first mid after

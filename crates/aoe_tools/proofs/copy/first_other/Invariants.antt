@@ -1,5 +1,0 @@
-use Rattle.aoe_tools.proofs.OtherLemmas.{AreSame}
-use Rattle.aoe_tools.proofs.copy.first_other.Given as goal
-
-abbrev pub invariant-sectors : goal.invariant-sectors
-invariant-sectors l = AreSame l.sent l.back l.k
