@@ -2,6 +2,7 @@
 -- from it on weren't.
 -- Read `PlaceLemmas`, `PartLemmas`, `SoundLemmas`, `CallLemmas`, `LawLemmas`.
 mod CallLemmas
+pub mod DoneLaws
 pub mod HearLemmas
 pub mod HostLemmas
 pub mod LawLemmas

@@ -1,9 +1,9 @@
 -- What follows from the steps of a job.
 use Rattle.std.proofs.Common.{ℕ, suc, ◌≡◌, ◌+◌, ◌≤◌, ◌<◌, true, nat_eq, List, [], ◌∷◌, ◌++◌, length, map, Some, None, refl, sym, ap, ◌∙◌, arith, inl, inr, length-append}
-use Rattle.std.specs.Prelude.{Contains, Option, All}
+use Rattle.std.specs.Prelude.{◌⊎◌, Contains, Option, All}
 use Rattle.std.proofs.lemmas.Bool.{cases_Bool}
 use Rattle.std.proofs.lemmas.List.{append_assoc, append-nil, map-append}
-use Rattle.std.proofs.lemmas.List.Elements.{Contains-append_cases}
+use Rattle.std.proofs.lemmas.List.Elements.{All-head, All-tail, Contains-append_cases}
 use Rattle.aoe_base.specs.declared.counted.Millis.{Millis}
 use Rattle.aoe_base.specs.declared.counted.PathNo.{PathNo}
 use Rattle.aoe_base.specs.declared.counted.Ticket.{Ticket}
@@ -16,7 +16,7 @@ use Rattle.aoe_initiator.specs.HostLog.{after_end, after_send, at_ticket, clock,
 use Rattle.aoe_initiator.specs.HostLog.Event.{Advances}
 use Rattle.aoe_io.specs.Link.{came, quiet, ended as over}
 use Rattle.aoe_paths.specs.PathLog.{timeout_on}
-use Rattle.aoe_block.specs.Answered.{as_asked, submissions, IsTold, Submission}
+use Rattle.aoe_block.specs.Answered.{as_asked, submissions, IsStart, IsTold, Submission}
 use Rattle.aoe_block.specs.Steps.{asked, is_success, log_of, ops, outcomes, ticket_at, AreSteps, Patience, Start, Step}
 use Rattle.aoe_block.specs.Steps.Step.{hears, own, sends, submits, ticks}
 use Rattle.aoe_block.specs.Turns.{after_heard, the_device, Heard}
@@ -81,7 +81,7 @@ gave-up-none dead now log (x ∷ dones) d gave there well = elim (Contains-cons_
   | inr later ↦ gave-up-none dead now log dones d gave.0 later well
 ]
 
-told-later : {A : Type 0} {b : Start} {steps : List (Step A)} {ticket : Ticket} {says : Outcome} (step : Step A) → IsTold b steps ticket says
+abbrev pub told-later : {A : Type 0} {b : Start} {steps : List (Step A)} {ticket : Ticket} {says : Outcome} (step : Step A) → IsTold b steps ticket says
     → IsTold b (step ∷ steps) ticket says
 told-later {A} step h = record {
   later = step ∷ h.later;
@@ -128,3 +128,88 @@ pub are-earlier : {A : Type 0} (law : List (Step A) → Step A → Type 0) (b : 
     → AreSteps law b w (later ++ earlier) → AreSteps law b w earlier
 are-earlier law b w [] earlier are = are
 are-earlier law b w (step ∷ later) earlier are = are-earlier law b w later earlier are.0
+
+-- as many were submitted before
+pub asked-later : {A : Type 0} (later earlier : List (Step A)) → asked earlier ≤ asked (later ++ earlier)
+asked-later [] earlier = omega arith
+asked-later (ticks answer gave_up ∷ later) earlier = asked-later later earlier
+asked-later (submits o ∷ later) earlier = omega (arith, asked-later later earlier)
+asked-later (own a ∷ later) earlier = asked-later later earlier
+asked-later (sends o ∷ later) earlier = asked-later later earlier
+asked-later (hears turn heard ∷ later) earlier = asked-later later earlier
+
+-- a command of the job has its ticket by its place
+pub record IsOneOf (b : Start) (os : List Op) (s : Submission) : Type 0 where
+  pub later : List Op
+  pub earlier : List Op
+  pub order : os ≡ later ++ s.op ∷ earlier
+  pub ticket : s.ticket ≡ ticket_at b (length earlier)
+
+pub one-of : (b : Start) (os : List Op) (s : Submission) → Contains (submissions b os) s → IsOneOf b os s
+one-of b [] s there = absurd (omega (arith, there.1))
+one-of b (o ∷ os) s there =
+    let last : Submission = record { ticket = ticket_at b (length os); op = o } in
+    elim (Contains-append_cases (submissions b os) (last ∷ []) s there) [
+      | inl before ↦
+          let i = one-of b os s before in
+          record { later = o ∷ i.later; earlier = i.earlier; order = ap (λ (l : List Op). o ∷ l) i.order; ticket = i.ticket }
+      | inr at_end ↦ elim (Contains-cons_cases last s [] at_end) [
+        | inl same ↦ record {
+          later = [];
+          earlier = os;
+          order = ap (λ (x : Submission). x.op ∷ os) same;
+          ticket = ap (λ (x : Submission). x.ticket) (sym same);
+        }
+        | inr none ↦ absurd (omega (arith, none.1))
+      ]
+    ]
+
+-- a command is one from before, or one of the job's
+pub old-or-own : {A : Type 0} (b : Start) (steps : List (Step A)) (c : HostCommand) → Contains (commands (log_of b steps)) c
+    → Contains (map as_asked (commands b.log)) (as_asked c) ⊎ IsOneOf b (ops steps) (as_asked c)
+old-or-own b steps c there =
+    let inside = rw (asked-law b steps) at (Contains-map as_asked (commands (log_of b steps)) c there) in
+    elim (Contains-append_cases (map as_asked (commands b.log)) (submissions b (ops steps)) (as_asked c) inside) [
+      | inl before ↦ inl before
+      | inr mine ↦ inr (one-of b (ops steps) (as_asked c) mine)
+    ]
+
+-- what was submitted before has a ticket from before
+old-ticket : (b : Start) → IsStart b → (s : Submission) → Contains (map as_asked (commands b.log)) s → s.ticket.0 ≤ b.host.last_ticket
+old-ticket b start s there = at (commands b.log) start.matches.last there
+  where
+    at : (cs : List HostCommand) → All (λ c. c.ticket.0 ≤ b.host.last_ticket) cs → Contains (map as_asked cs) s → s.ticket.0 ≤ b.host.last_ticket
+    at [] all inside = absurd (omega (arith, inside.1))
+    at (c ∷ cs) all inside = elim (Contains-cons_cases (as_asked c) s (map as_asked cs) inside) [
+      | inl same ↦ omega (arith, All-head (λ x. x.ticket.0 ≤ b.host.last_ticket) c cs all, ap (λ (x : Submission). x.ticket.0) same)
+      | inr later ↦ at cs (All-tail (λ x. x.ticket.0 ≤ b.host.last_ticket) c cs all) later
+    ]
+
+-- a command with a ticket of the job is the job's
+pub own-op : {A : Type 0} (b : Start) → IsStart b → (steps : List (Step A)) (c : HostCommand) (k : ℕ) → Contains (commands (log_of b steps)) c
+    → c.ticket ≡ ticket_at b k → (i : IsOneOf b (ops steps) (as_asked c)) × (length i.earlier ≡ k)
+own-op b start steps c k there is = elim (old-or-own b steps c there) [
+  | inl before ↦ absurd (omega (arith, old-ticket b start (as_asked c) before, ap (λ (t : Ticket). t.0) is))
+  | inr mine ↦ (mine, omega (arith, ap (λ (t : Ticket). t.0) mine.ticket, ap (λ (t : Ticket). t.0) is))
+]
+
+-- no ticket is past the last
+pub ticket-most : {A : Type 0} (b : Start) → IsStart b → (steps : List (Step A)) (c : HostCommand) → Contains (commands (log_of b steps)) c
+    → c.ticket.0 ≤ b.host.last_ticket + asked steps
+ticket-most b start steps c there = elim (old-or-own b steps c there) [
+  | inl before ↦ omega (arith, old-ticket b start (as_asked c) before)
+  | inr mine ↦
+      let long = ap (λ (l : List Op). length l) mine.order in
+      omega (arith, ap (λ (t : Ticket). t.0) mine.ticket, asked-ops steps, long, length-append mine.later (c.op ∷ mine.earlier))
+]
+
+pub told-ticket : {A : Type 0} (b : Start) → IsStart b → (steps : List (Step A)) (ticket : Ticket) (says : Outcome) → IsTold b steps ticket says
+    → ticket.0 ≤ b.host.last_ticket + asked steps
+told-ticket {A} b start steps ticket says t =
+    omega (
+      arith,
+      ticket-most b start t.earlier t.answers.command t.answers.there,
+      ap (λ (x : Ticket). x.0) (t.answers.ticket ∙ t.ticket_is),
+      asked-later t.later (hears (came t.frame) (Some t.heard) ∷ t.earlier),
+      ap (λ (l : List (Step A)). asked l) t.order,
+    )

@@ -32,6 +32,9 @@ use Rattle.aoe_block.proofs.HostLemmas.{count-end, count-fewer, count-has, count
 pub tags-none : HasTags 0 []
 tags-none = record { few = omega arith; within = All-nil (HasTag 0) }
 
+pub tagged-none : AreTagged 0 []
+tagged-none few = tags-none
+
 -- a command that was submitted has no tag
 pub tags-submitted : {last : ℕ} (ticket : Ticket) (device : DeviceNo) (op : Op) (log : List Event) → HasTags last (commands log)
     → HasTags last (commands (Submits ticket device op ∷ log))

@@ -1,12 +1,12 @@
 -- What follows from the steps of a job: what was submitted, and which frame brought an outcome.
-use Rattle.std.specs.Prelude.{ℕ, ◌≡◌, ◌≤◌, List, [], ◌∷◌, ◌++◌, length, Some}
+use Rattle.std.specs.Prelude.{ℕ, ◌≡◌, ◌≤◌, List, [], ◌∷◌, ◌++◌, length, true, Some}
 use Rattle.aoe_base.specs.declared.counted.Ticket.{Ticket}
 use Rattle.aoe_initiator.specs.declared.op.Op.{Op}
 use Rattle.aoe_initiator.specs.declared.outcome.Outcome.{Outcome}
 use Rattle.aoe_initiator.specs.Host.{Matches}
 use Rattle.aoe_initiator.specs.HostLog.{HostCommand}
 use Rattle.aoe_io.specs.Link.{came}
-use Rattle.aoe_block.specs.Steps.{log_of, ticket_at, Start, Step}
+use Rattle.aoe_block.specs.Steps.{is_success, log_of, ticket_at, Start, Step}
 use Rattle.aoe_block.specs.Steps.Step.{hears}
 use Rattle.aoe_block.specs.Turns.{AreTagged, Heard, IsAnswer}
 
@@ -39,3 +39,10 @@ pub record IsTold {A : Type 0} (b : Start) (steps : List (Step A)) (ticket : Tic
   pub answers : IsAnswer b.host (log_of b earlier) frame heard
   pub ticket_is : heard.ticket ≡ ticket
   pub says_so : heard.outcome ≡ says
+
+-- a frame came in one of the turns that answers this command, and says that it was done
+pub record IsDone {A : Type 0} (b : Start) (steps : List (Step A)) (c : HostCommand) : Type 0 where
+  pub says : Outcome
+  pub told : IsTold b steps c.ticket says
+  pub asks : told.answers.command.op ≡ c.op
+  pub well : is_success says ≡ true

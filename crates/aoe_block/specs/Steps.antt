@@ -115,6 +115,10 @@ pub record Start : Type 0 where
   pub host : Host
   pub log : List Event
 
+-- with a host that did nothing before
+abbrev pub new_start : Host → Start
+new_start host = record { host = host; log = [] }
+
 -- the command that is submitted after n others of the job has the next ticket
 abbrev pub ticket_at : Start → ℕ → Ticket
 ticket_at b n = record { 0 = suc (b.host.last_ticket + n) }

@@ -1,187 +1,80 @@
--- What follows from the steps of a copy.
-use Rattle.std.proofs.Common.{ℕ, zero, suc, ◌≡◌, ◌+◌, ◌-◌, ◌*◌, ◌≤◌, cond, Bool, true, false, nat_eq, nat_le, List, [], ◌∷◌, ◌++◌, length, map, drop, Option, Some, None, refl, sym, ap, ◌∙◌, arith, inl, inr, length-append, ◌<◌}
+-- What follows from the steps of a copy out of a device.
+use Rattle.std.proofs.Common.{ℕ, zero, suc, ◌≡◌, ◌+◌, ◌-◌, ◌*◌, ◌≤◌, cond, Bool, true, false, nat_le, List, [], ◌∷◌, ◌++◌, length, map, drop, Option, Some, None, refl, sym, ap, ◌∙◌, arith, inl, inr, length-append}
 use Rattle.std.specs.Prelude.{Contains, if◌then◌else◌, slice_index, slice_range}
 use Rattle.std.proofs.lemmas.Bool.{cases_Bool, leb-true}
-use Rattle.std.proofs.lemmas.List.{length-drop, length-take, map-append}
-use Rattle.std.proofs.lemmas.List.Elements.{Contains-append_cases}
+use Rattle.std.proofs.lemmas.List.{length-drop, length-take}
 use Rattle.std.proofs.lemmas.Option.{option_and_then_some, same_Some}
 use Rattle.aoe_base.specs.declared.sectors.Span.{Span}
+use Rattle.aoe_block.specs.Answered.{as_asked, submissions, IsStart, IsTold, Submission}
+use Rattle.aoe_block.specs.Steps.{asked, log_of, ops, outcomes, owns, ticket_at, AreSteps, Patience, Start}
+use Rattle.aoe_block.specs.Steps.Step.{hears, own, sends, submits, ticks}
+use Rattle.aoe_block.proofs.StepLaws.{asked-law, asked-ops, own-op, told-at, told-later, told-ticket}
 use Rattle.aoe_frame.specs.declared.header.Header.{Header}
 use Rattle.aoe_frame.specs.Header.{head}
-use Rattle.aoe_base.specs.declared.counted.Millis.{Millis}
-use Rattle.aoe_base.specs.declared.counted.PathNo.{PathNo}
-use Rattle.aoe_base.specs.declared.counted.Ticket.{Ticket}
-use Rattle.aoe_initiator.proofs.ListLemmas.{Contains-cons_cases, Contains-map}
+use Rattle.aoe_initiator.specs.declared.op.Op.{Op}
 use Rattle.aoe_initiator.specs.declared.op.Op.TheVariants as op
+use Rattle.aoe_initiator.specs.declared.outcome.Outcome.TheVariants as outcome
 use Rattle.aoe_initiator.specs.declared.response.Answer.{Answer}
 use Rattle.aoe_initiator.specs.declared.response.Answer.TheVariants as answered
+use Rattle.aoe_initiator.specs.HostLaw.{is_answered}
+use Rattle.aoe_initiator.specs.HostLog.{commands}
 use Rattle.aoe_initiator.specs.Response.{answer, ata_success, has_flag, is_failure, outcome_of, success}
-use Rattle.aoe_initiator.specs.declared.outcome.Done.{Done}
-use Rattle.aoe_initiator.specs.declared.outcome.Outcome.TheVariants as outcome
-use Rattle.aoe_initiator.specs.Host.{Host}
-use Rattle.aoe_initiator.specs.HostLaw.{ended, is_answered, GaveUpInTurn}
-use Rattle.aoe_initiator.specs.HostLog.{after_end, after_send, at_ticket, clock, commands, path_log, submitted, Event, HostCommand}
-use Rattle.aoe_initiator.specs.HostLog.Event.{Advances}
-use Rattle.aoe_io.specs.Link.{came, quiet, ended as over}
-use Rattle.aoe_paths.specs.PathLog.{timeout_on}
-use Rattle.aoe_tools.specs.TransferCourse.{Submission}
-use Rattle.aoe_tools.specs.TransferRun.{after_heard, Heard, IsAnswer}
-use Rattle.aoe_copy.specs.Window.{most_open}
 use Rattle.aoe_copy.specs.declared.plan.Plan.{Plan}
-use Rattle.aoe_copy.specs.Law.{as_asked, reads, AreResponses, IsFront, IsResponse}
-use Rattle.aoe_copy.specs.Plan.{span_at}
-use Rattle.aoe_copy.specs.Steps.{asked, given, log_of, outcomes, read_at, the_device, ticket_at, written, AreSteps, Step}
-use Rattle.aoe_copy.specs.Steps.Step.{asks, gives, hears, sends, ticks}
-use Rattle.aoe_copy.specs.Window.{read_done}
+use Rattle.aoe_copy.specs.Law.{reads, AreResponses, IsFront, IsResponse}
+use Rattle.aoe_copy.specs.Plan.{reach, span_at}
+use Rattle.aoe_copy.specs.Steps.{given, read_at, written, ReadLaw, ReadStep}
+use Rattle.aoe_copy.specs.Window.{in_order, most_open, read_done}
 
--- a change that leaves what is asked for
-pub mapped : (f : HostCommand → HostCommand) → ((c : HostCommand) → as_asked (f c) ≡ as_asked c) → (cs : List HostCommand)
-    → map as_asked (map f cs) ≡ map as_asked cs
-mapped f same [] = refl
-mapped f same (c ∷ cs) = rw (same c, mapped f same cs) refl
-
-pub end-asks : (t : Ticket) (c : HostCommand) → as_asked (at_ticket t after_end c) ≡ as_asked c
-end-asks t c = elim (cases_Bool (nat_eq c.ticket.0 t.0)) [ inl own ↦ rw own refl | inr other ↦ rw other refl ]
-
-pub send-asks : (t : Ticket) (tag : ℕ) (now : Millis) (path : PathNo) (timeouts : ℕ → ℕ) (c : HostCommand)
-    → as_asked (at_ticket t (after_send tag now path timeouts) c) ≡ as_asked c
-send-asks t tag now path timeouts c = elim (cases_Bool (nat_eq c.ticket.0 t.0)) [ inl own ↦ rw own refl | inr other ↦ rw other refl ]
-
-pub ended-asks : (dones : List Done) (log : List Event) → map as_asked (commands (ended dones log)) ≡ map as_asked (commands log)
-ended-asks [] log = refl
-ended-asks (d ∷ dones) log = mapped (at_ticket d.ticket after_end) (end-asks d.ticket) (commands (ended dones log)) ∙ ended-asks dones log
-
-pub heard-asks : (heard : Option Heard) (log : List Event) → map as_asked (commands (after_heard heard log)) ≡ map as_asked (commands log)
-heard-asks None log = refl
-heard-asks (Some h) log = mapped (at_ticket h.ticket after_end) (end-asks h.ticket) (commands log)
+abbrev AreReadSteps : Start → Plan → Patience → List ReadStep → Type 0
+AreReadSteps b p w steps = AreSteps (ReadLaw b p) b w steps
 
 -- the commands are the reads of the copy, in their order
-pub asked-law : (p : Plan) (steps : List Step) → map as_asked (commands (log_of p steps)) ≡ reads p (asked steps)
-asked-law p [] = refl
-asked-law p (ticks answer gave_up ∷ steps) = ended-asks gave_up (Advances (record { 0 = answer }) ∷ log_of p steps) ∙ asked-law p steps
-asked-law p (asks ∷ steps) =
-    let new = submitted (ticket_at (asked steps)) the_device (read_at p (asked steps)) in
-    map-append as_asked (commands (log_of p steps)) (new ∷ []) ∙ ap (λ (l : List Submission). l ++ as_asked new ∷ []) (asked-law p steps)
-asked-law p (sends o ∷ steps) =
-    let log = log_of p steps in
-    let timeouts : ℕ → ℕ = λ n. timeout_on (path_log log n) o.sent.path.0 in
-    mapped (at_ticket o.sent.ticket (after_send o.sent.tag (record { 0 = clock log }) o.sent.path timeouts))
-    (send-asks o.sent.ticket o.sent.tag (record { 0 = clock log }) o.sent.path timeouts) (commands log) ∙ asked-law p steps
-asked-law p (hears turn heard ∷ steps) = heard-asks heard (log_of p steps) ∙ asked-law p steps
-asked-law p (gives bytes ∷ steps) = asked-law p steps
+submitted-reads : (b : Start) (p : Plan) (w : Patience) (steps : List ReadStep) → AreReadSteps b p w steps → submissions b (ops steps) ≡ reads b p (asked steps)
+submitted-reads b p w [] are = refl
+submitted-reads b p w (ticks answer gave_up ∷ steps) are = submitted-reads b p w steps are.0
+submitted-reads b p w (submits o ∷ steps) are =
+    let s : Submission = record { ticket = ticket_at b (length (ops steps)); op = o } in
+    let same : s ≡ record { ticket = ticket_at b (asked steps); op = read_at p (asked steps) } =
+    ap (λ (n : ℕ). record { ticket = ticket_at b n; op = o }) (sym (asked-ops steps))
+    ∙ ap (λ (x : Op). record { ticket = ticket_at b (asked steps); op = x }) are.1.2.0 in
+    ap (λ (l : List Submission). l ++ s ∷ []) (submitted-reads b p w steps are.0) ∙ ap (λ (x : Submission). reads b p (asked steps) ++ x ∷ []) same
+submitted-reads b p w (own bytes ∷ steps) are = submitted-reads b p w steps are.0
+submitted-reads b p w (sends o ∷ steps) are = submitted-reads b p w steps are.0
+submitted-reads b p w (hears turn heard ∷ steps) are = submitted-reads b p w steps are.0
 
--- a read of the copy has its ticket by its place
-read-at : (p : Plan) (n : ℕ) (s : Submission) → Contains (reads p n) s → (k : ℕ) × (k < n) × (s ≡ record { ticket = ticket_at k; op = read_at p k })
-read-at p zero s there = absurd (omega (arith, there.1))
-read-at p (suc n) s there = elim (Contains-append_cases (reads p n) (record { ticket = ticket_at n; op = read_at p n } ∷ []) s there) [
-  | inl before ↦ let found = read-at p n s before in (found.0, omega (arith, found.1), found.2)
-  | inr last ↦ elim (Contains-cons_cases _ s [] last) [ inl same ↦ (n, omega arith, sym same) | inr none ↦ absurd (omega (arith, none.1)) ]
-]
+pub reads-law : (b : Start) (p : Plan) (w : Patience) (steps : List ReadStep) → AreReadSteps b p w steps
+    → map as_asked (commands (log_of b steps)) ≡ map as_asked (commands b.log) ++ reads b p (asked steps)
+reads-law b p w steps are = asked-law b steps ∙ ap (λ (l : List Submission). map as_asked (commands b.log) ++ l) (submitted-reads b p w steps are)
 
--- so the command with a ticket reads its sectors
-pub op-of : (p : Plan) (steps : List Step) (c : HostCommand) (k : ℕ) → Contains (commands (log_of p steps)) c → c.ticket ≡ ticket_at k → c.op ≡ read_at p k
-op-of p steps c k there is =
-    let inside : Contains (reads p (asked steps)) (as_asked c) = rw (asked-law p steps) at (Contains-map as_asked (commands (log_of p steps)) c there) in
-    let found = read-at p (asked steps) (as_asked c) inside in
-    let place : found.0 ≡ k = omega (arith, ap (λ (s : Submission). s.ticket.0) found.2, ap (λ (t : Ticket). t.0) is) in
-    rw (← place) (ap (λ (s : Submission). s.op) found.2)
+-- an operation of the copy reads sectors by its place
+op-at : (b : Start) (p : Plan) (w : Patience) (steps : List ReadStep) → AreReadSteps b p w steps → (later earlier : List Op) (o : Op)
+    → ops steps ≡ later ++ o ∷ earlier → o ≡ read_at p (length earlier)
+op-at b p w [] are [] earlier o is = absurd cc
+op-at b p w [] are (x ∷ later) earlier o is = absurd cc
+op-at b p w (ticks answer gave_up ∷ steps) are later earlier o is = op-at b p w steps are.0 later earlier o is
+op-at b p w (submits a ∷ steps) are [] earlier o is =
+    let same : a ≡ o = cc in
+    let rest : ops steps ≡ earlier = cc in
+    sym same ∙ are.1.2.0 ∙ ap (read_at p) (asked-ops steps ∙ ap (λ (l : List Op). length l) rest)
+op-at b p w (submits a ∷ steps) are (x ∷ later) earlier o is = let rest : ops steps ≡ later ++ o ∷ earlier = cc in op-at b p w steps are.0 later earlier o rest
+op-at b p w (own bytes ∷ steps) are later earlier o is = op-at b p w steps are.0 later earlier o is
+op-at b p w (sends x ∷ steps) are later earlier o is = op-at b p w steps are.0 later earlier o is
+op-at b p w (hears turn heard ∷ steps) are later earlier o is = op-at b p w steps are.0 later earlier o is
 
 -- no more than a window is open
-pub window-law : (base : Host) (p : Plan) (steps : List Step) → AreSteps base p steps → asked steps ≤ given steps + most_open
-window-law base p [] are = omega arith
-window-law base p (ticks answer gave_up ∷ steps) are = window-law base p steps are.0
-window-law base p (asks ∷ steps) are = omega (arith, are.1.1.few)
-window-law base p (sends o ∷ steps) are = window-law base p steps are.0
-window-law base p (hears turn heard ∷ steps) are = window-law base p steps are.0
-window-law base p (gives bytes ∷ steps) are = omega (arith, window-law base p steps are.0)
-
--- what a command that is given up leaves is no data
-pub gave-up-none : (dead now : ℕ) (log : List Event) (dones : List Done) (n : ℕ) (bytes : List ℕ) → GaveUpInTurn dead now log dones
-    → Contains dones (read_done n bytes) → ⊥
-gave-up-none dead now log [] n bytes gave there = absurd (omega (arith, there.1))
-gave-up-none dead now log (d ∷ dones) n bytes gave there = elim (Contains-cons_cases d (read_done n bytes) dones there) [
-  | inl same ↦ absurd (let is = ap (λ (x : Done). x.outcome) (sym gave.1.2 ∙ same) in cc)
-  | inr behind ↦ gave-up-none dead now log dones n bytes gave.0 behind
-]
-
--- the turn that brought the data of a command
-record IsHeard (base : Host) (p : Plan) (steps : List Step) (n : ℕ) (bytes : List ℕ) : Type 0 where
-  later : List Step
-  frame : List ℕ
-  heard : Heard
-  earlier : List Step
-  order : steps ≡ later ++ hears (came frame) (Some heard) ∷ earlier
-  answers : IsAnswer base (log_of p earlier) frame heard
-  ticket : heard.ticket ≡ record { 0 = n }
-  says : heard.outcome ≡ outcome.Read bytes
-
-heard-later : {base : Host} {p : Plan} {steps : List Step} {n : ℕ} {bytes : List ℕ} (step : Step) → IsHeard base p steps n bytes
-    → IsHeard base p (step ∷ steps) n bytes
-heard-later step h = record {
-  later = step ∷ h.later;
-  frame = h.frame;
-  heard = h.heard;
-  earlier = h.earlier;
-  order = ap (λ (l : List Step). step ∷ l) h.order;
-  answers = h.answers;
-  ticket = h.ticket;
-  says = h.says;
-}
-
-heard-at : (base : Host) (p : Plan) (steps : List Step) (n : ℕ) (bytes : List ℕ) → AreSteps base p steps → Contains (outcomes steps) (read_done n bytes)
-    → IsHeard base p steps n bytes
-heard-at base p [] n bytes are there = absurd (omega (arith, there.1))
-heard-at base p (ticks answer gave_up ∷ steps) n bytes are there = elim (Contains-append_cases gave_up (outcomes steps) (read_done n bytes) there) [
-  | inl gave ↦ absurd (gave-up-none _ _ _ gave_up n bytes are.1.in_turn gave)
-  | inr before ↦ heard-later (ticks answer gave_up) (heard-at base p steps n bytes are.0 before)
-]
-heard-at base p (asks ∷ steps) n bytes are there = heard-later asks (heard-at base p steps n bytes are.0 there)
-heard-at base p (sends o ∷ steps) n bytes are there = heard-later (sends o) (heard-at base p steps n bytes are.0 there)
-heard-at base p (hears turn None ∷ steps) n bytes are there = heard-later (hears turn None) (heard-at base p steps n bytes are.0 there)
-heard-at base p (hears (came frame) (Some h) ∷ steps) n bytes are there =
-    elim (Contains-cons_cases (record { ticket = h.ticket; outcome = h.outcome }) (read_done n bytes) (outcomes steps) there) [
-      | inl same ↦ record {
-        later = [];
-        frame = frame;
-        heard = h;
-        earlier = steps;
-        order = refl;
-        answers = are.1.4;
-        ticket = ap (λ (x : Done). x.ticket) same;
-        says = ap (λ (x : Done). x.outcome) same;
-      }
-      | inr before ↦ heard-later (hears (came frame) (Some h)) (heard-at base p steps n bytes are.0 before)
-    ]
-heard-at base p (hears quiet (Some h) ∷ steps) n bytes are there = absurd are.1.4
-heard-at base p (hears over (Some h) ∷ steps) n bytes are there = absurd are.1.4
-heard-at base p (gives bytes' ∷ steps) n bytes are there = heard-later (gives bytes') (heard-at base p steps n bytes are.0 there)
-
--- as many were submitted before
-asked-later : (later earlier : List Step) → asked earlier ≤ asked (later ++ earlier)
-asked-later [] earlier = omega arith
-asked-later (ticks answer gave_up ∷ later) earlier = asked-later later earlier
-asked-later (asks ∷ later) earlier = omega (arith, asked-later later earlier)
-asked-later (sends o ∷ later) earlier = asked-later later earlier
-asked-later (hears turn heard ∷ later) earlier = asked-later later earlier
-asked-later (gives bytes ∷ later) earlier = asked-later later earlier
+pub window-law : (b : Start) (p : Plan) (w : Patience) (steps : List ReadStep) → AreReadSteps b p w steps → asked steps ≤ given steps + most_open
+window-law b p w [] are = omega arith
+window-law b p w (ticks answer gave_up ∷ steps) are = window-law b p w steps are.0
+window-law b p w (submits o ∷ steps) are = omega (arith, are.1.2.1.few)
+window-law b p w (sends o ∷ steps) are = window-law b p w steps are.0
+window-law b p w (hears turn heard ∷ steps) are = window-law b p w steps are.0
+window-law b p w (own bytes ∷ steps) are = omega (arith, window-law b p w steps are.0)
 
 -- sectors came only of commands that were submitted
-pub ticket-law : (base : Host) (p : Plan) (steps : List Step) (n : ℕ) (bytes : List ℕ) → AreSteps base p steps → Contains (outcomes steps) (read_done n bytes)
-    → n ≤ asked steps
-ticket-law base p steps n bytes are there =
-    let h = heard-at base p steps n bytes are there in
-    let c = h.answers.command in
-    let inside : Contains (reads p (asked h.earlier)) (as_asked c) =
-    rw (asked-law p h.earlier) at (Contains-map as_asked (commands (log_of p h.earlier)) c h.answers.there) in
-    let found = read-at p (asked h.earlier) (as_asked c) inside in
-    omega (
-      arith,
-      found.1,
-      ap (λ (s : Submission). s.ticket.0) found.2,
-      ap (λ (t : Ticket). t.0) (h.answers.ticket ∙ h.ticket),
-      asked-later h.later (hears (came h.frame) (Some h.heard) ∷ h.earlier),
-      ap (λ (l : List Step). asked l) h.order,
-    )
+pub ticket-law : (b : Start) → IsStart b → (p : Plan) (w : Patience) (steps : List ReadStep) (n : ℕ) (bytes : List ℕ) → AreReadSteps b p w steps
+    → Contains (outcomes steps) (read_done n bytes) → n ≤ b.host.last_ticket + asked steps
+ticket-law b start p w steps n bytes are there =
+    told-ticket b start steps (record { 0 = n }) (outcome.Read bytes) (told-at (ReadLaw b p) b w steps (read_done n bytes) are there refl)
 
 -- the bytes behind the registers
 long-range : (args : List ℕ) (n : ℕ) → 12 + n ≤ length args → length (slice_range args 12 (12 + n)) ≡ n
@@ -219,75 +112,63 @@ read-long span h args a bytes is says = by (has_flag h.flags 0x4) is
     by true e = absurd (let a_is : answered.AoeError h.error ≡ a = same_Some _ _ e in cc)
     by false e = registers (nat_le 12 (length args)) refl e
 
+-- what an earlier step of the copy followed
+are-before : (b : Start) (p : Plan) (w : Patience) (later earlier : List ReadStep) → AreReadSteps b p w (later ++ earlier) → AreReadSteps b p w earlier
+are-before b p w [] earlier are = are
+are-before b p w (step ∷ later) earlier are = are-before b p w later earlier are.0
+
 -- a response to a command of the copy has its sectors
-response : (base : Host) (p : Plan) (steps : List Step) (k : ℕ) (bytes : List ℕ) → AreSteps base p steps → Contains (outcomes steps) (read_done (suc k) bytes)
-    → IsResponse base p steps k bytes
-response base p steps k bytes are there =
-    let h = heard-at base p steps (suc k) bytes are there in
-    let a = h.answers in
-    let asks_is = op-of p h.earlier a.command k a.there (a.ticket ∙ h.ticket) in
-    let says = sym a.says ∙ h.says in
+response : (b : Start) → IsStart b → (p : Plan) (w : Patience) (steps : List ReadStep) (k : ℕ) (bytes : List ℕ) → AreReadSteps b p w steps
+    → Contains (outcomes steps) (read_done (suc (b.host.last_ticket + k)) bytes) → IsResponse b p steps k bytes
+response b start p w steps k bytes are there =
+    let t : IsTold b steps (ticket_at b k) (outcome.Read bytes) =
+    told-at (ReadLaw b p) b w steps (read_done (suc (b.host.last_ticket + k)) bytes) are there refl in
+    let a = t.answers in
+    let mine = own-op b start t.earlier a.command k a.there (a.ticket ∙ t.ticket_is) in
+    let all : AreReadSteps b p w (t.later ++ hears _ _ ∷ t.earlier) = rw t.order at are in
+    let before = (are-before b p w t.later (hears _ _ ∷ t.earlier) all).0 in
+    let asks_is : a.command.op ≡ read_at p k = op-at b p w t.earlier before mine.0.later mine.0.earlier a.command.op mine.0.order ∙ ap (read_at p) mine.1 in
+    let says = sym a.says ∙ t.says_so in
     record {
-      later = h.later;
-      frame = h.frame;
-      heard = h.heard;
-      earlier = h.earlier;
-      order = h.order;
-      answers = a;
-      ticket = h.ticket;
+      told = t;
       asks = asks_is;
-      says = h.says;
-      whole = option_and_then_some (λ (x : Header). cond (is_answered a.host a.command x) (answer a.command.op x (drop 24 h.frame)) None)
-          (head h.frame) a.answer a.answers
+      whole = option_and_then_some (λ (x : Header). cond (is_answered a.host a.command x) (answer a.command.op x (drop 24 t.frame)) None)
+          (head t.frame) a.answer a.answers
           (λ x is found.
           elim (cases_Bool (is_answered a.host a.command x)) [
-            | inl own ↦ read-long (span_at p k) x (drop 24 h.frame) a.answer bytes (rw (own, asks_is) at found) says
+            | inl own_is ↦ read-long (span_at p k) x (drop 24 t.frame) a.answer bytes (rw (own_is, asks_is) at found) says
             | inr other ↦ absurd (let none = rw other at found in cc)
           ]);
     }
 
-response-later : {base : Host} {p : Plan} {steps : List Step} {k : ℕ} {bytes : List ℕ} (step : Step) → IsResponse base p steps k bytes
-    → IsResponse base p (step ∷ steps) k bytes
-response-later step r = record {
-  later = step ∷ r.later;
-  frame = r.frame;
-  heard = r.heard;
-  earlier = r.earlier;
-  order = ap (λ (l : List Step). step ∷ l) r.order;
-  answers = r.answers;
-  ticket = r.ticket;
-  asks = r.asks;
-  says = r.says;
-  whole = r.whole;
-}
+response-later : {b : Start} {p : Plan} {steps : List ReadStep} {k : ℕ} {bytes : List ℕ} (step : ReadStep) → IsResponse b p steps k bytes
+    → IsResponse b p (step ∷ steps) k bytes
+response-later step r = record { told = told-later step r.told; asks = r.asks; whole = r.whole }
 
-responses-later : (base : Host) (p : Plan) (steps : List Step) (step : Step) (parts : List (List ℕ)) → AreResponses base p steps parts
-    → AreResponses base p (step ∷ steps) parts
-responses-later base p steps step [] each = tt
-responses-later base p steps step (bytes ∷ earlier) each = (responses-later base p steps step earlier each.0, response-later step each.1)
+responses-later : (b : Start) (p : Plan) (steps : List ReadStep) (step : ReadStep) (parts : List (List ℕ)) → AreResponses b p steps parts
+    → AreResponses b p (step ∷ steps) parts
+responses-later b p steps step [] each = tt
+responses-later b p steps step (bytes ∷ earlier) each = (responses-later b p steps step earlier each.0, response-later step each.1)
 
 -- what the sink took is a front of the sectors
-pub front-law : (base : Host) (p : Plan) (steps : List Step) → AreSteps base p steps → IsFront base p steps
-front-law base p [] are = record { parts = []; many = refl; together = refl; long = omega arith; each = tt }
-front-law base p (ticks answer gave_up ∷ steps) are =
-    let f = front-law base p steps are.0 in
-    record { parts = f.parts; many = f.many; together = f.together; long = f.long; each = responses-later base p steps (ticks answer gave_up) f.parts f.each }
-front-law base p (asks ∷ steps) are =
-    let f = front-law base p steps are.0 in
-    record { parts = f.parts; many = f.many; together = f.together; long = f.long; each = responses-later base p steps asks f.parts f.each }
-front-law base p (sends o ∷ steps) are =
-    let f = front-law base p steps are.0 in
-    record { parts = f.parts; many = f.many; together = f.together; long = f.long; each = responses-later base p steps (sends o) f.parts f.each }
-front-law base p (hears turn heard ∷ steps) are =
-    let f = front-law base p steps are.0 in
-    record { parts = f.parts; many = f.many; together = f.together; long = f.long; each = responses-later base p steps (hears turn heard) f.parts f.each }
-front-law base p (gives bytes ∷ steps) are =
-    let f = front-law base p steps are.0 in
-    let r = response base p steps (given steps) bytes are.0 are.1 in
+pub front-law : (b : Start) → IsStart b → (p : Plan) (w : Patience) (steps : List ReadStep) → AreReadSteps b p w steps → IsFront b p steps
+front-law b start p w [] are = record { long = omega arith; each = tt }
+front-law b start p w (ticks answer gave_up ∷ steps) are =
+    let f = front-law b start p w steps are.0 in
+    record { long = f.long; each = responses-later b p steps (ticks answer gave_up) (owns steps) f.each }
+front-law b start p w (submits o ∷ steps) are =
+    let f = front-law b start p w steps are.0 in
+    record { long = f.long; each = responses-later b p steps (submits o) (owns steps) f.each }
+front-law b start p w (sends o ∷ steps) are =
+    let f = front-law b start p w steps are.0 in
+    record { long = f.long; each = responses-later b p steps (sends o) (owns steps) f.each }
+front-law b start p w (hears turn heard ∷ steps) are =
+    let f = front-law b start p w steps are.0 in
+    record { long = f.long; each = responses-later b p steps (hears turn heard) (owns steps) f.each }
+front-law b start p w (own bytes ∷ steps) are =
+    let f = front-law b start p w steps are.0 in
+    let r = response b start p w steps (given steps) bytes are.0 are.1.1 in
     record {
-      parts = bytes ∷ f.parts;
-      many = ap suc f.many;
-      together = ap (λ (l : List ℕ). l ++ bytes) f.together;
       long = omega (arith, length-append (written steps) bytes, f.long, r.whole);
-      each = (responses-later base p steps (gives bytes) f.parts f.each, rw f.many (response-later (gives bytes) r));
+      each = (responses-later b p steps (own bytes) (owns steps) f.each, response-later (own bytes) r);
     }

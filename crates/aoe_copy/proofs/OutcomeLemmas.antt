@@ -1,19 +1,20 @@
 -- Outcomes are taken in the order in which they came, up to the first that ends the copy.
-use Rattle.std.proofs.Common.{ℕ, ◌≡◌, List, [], ◌∷◌, ◌++◌, reverse, Some, None, refl, ap, ◌∙◌, arith, append_assoc, subst, ◌≤◌}
+use Rattle.std.proofs.Common.{ℕ, ◌≡◌, true, List, [], ◌∷◌, ◌++◌, reverse, Some, None, refl, ap, ◌∙◌, arith, append_assoc, subst, ◌≤◌}
 use Rattle.std.specs.Prelude.{All, Contains}
 use Rattle.std.proofs.lemmas.List.{reverse-append}
 use Rattle.std.proofs.lemmas.List.Elements.{All-cons, Contains-append_right}
 use Rattle.aoe_initiator.specs.declared.outcome.Done.{Done}
 use Rattle.aoe_initiator.specs.declared.outcome.Outcome.{Outcome}
 use Rattle.aoe_initiator.specs.declared.outcome.Outcome.TheVariants as outcome
-use Rattle.aoe_tools.specs.TransferCourse.{failure}
+use Rattle.aoe_block.specs.Steps.{is_success, IsWell}
 use Rattle.aoe_tools.specs.declared.end.ToolRefusal.{ToolRefusal}
 use Rattle.aoe_copy.specs.Copying.{AreUpTo, InOrder}
-use Rattle.aoe_copy.specs.Steps.{Fails, IsWell}
+use Rattle.aoe_copy.specs.Ending.{failure}
+use Rattle.aoe_copy.specs.Steps.{Fails}
 use Rattle.aoe_copy.specs.Window.{read_done}
 
--- whether an outcome ends a copy doesn't go by how long it waits
-pub is-well : (turns : ℕ) (o : Outcome) → failure turns o ≡ None → failure 0 o ≡ None
+-- an outcome that doesn't end a copy is a success
+pub is-well : (turns : ℕ) (o : Outcome) → failure turns o ≡ None → is_success o ≡ true
 is-well turns (outcome.Read bytes) e = refl
 is-well turns outcome.Written e = refl
 is-well turns outcome.Flushed e = refl

@@ -1,7 +1,8 @@
 -- What a copy out of a device keeps while it runs, and what it is true of: the steps so far, and what link, clock and sink tell of them.
-use Rattle.std.specs.Prelude.{ℕ, suc, ◌≡◌, ◌+◌, ◌-◌, ◌^◌, ◌<◌, ◌≤◌, min, nat_eq, nat_lt, Bool, true, ◌&&◌, List, [], ◌∷◌, ◌++◌, length, reverse, Option, Some, None, Result, Ok, Err, All, Contains}
+use Rattle.std.specs.Prelude.{ℕ, suc, ◌≡◌, ◌+◌, ◌-◌, ◌^◌, ◌<◌, ◌≤◌, min, nat_eq, nat_lt, Bool, true, false, ◌&&◌, List, [], ◌∷◌, ◌++◌, length, reverse, Option, Some, None, Result, Ok, Err, All, Contains}
 use Rattle.aoe_base.specs.declared.failure.NoMemory.{NoMemory}
-use Rattle.aoe_block.specs.Steps.{asked, has_ticked, open_of, outcomes, owns, quiet_turns, AreSteps, AreTagged, Drives, GoesOn, IsWell, Start}
+use Rattle.aoe_block.specs.Answered.{IsStart}
+use Rattle.aoe_block.specs.Steps.{asked, has_ticked, open_of, outcomes, owns, quiet_turns, AreSteps, Drives, GoesOn, IsWell, Start}
 use Rattle.aoe_block.specs.Turns.{quiet_by, the_device, Heard}
 use Rattle.aoe_initiator.specs.declared.op.Op.TheVariants as op
 use Rattle.aoe_initiator.specs.declared.outcome.Done.{Done}
@@ -43,6 +44,7 @@ pub record Setting : Type 0 where
 
 -- the steps of a copy are such, and what link, clock and sink tell now is of them
 pub record Stands (c : Setting) (seen : ReadSeen) (steps : List ReadStep) : Type 0 where
+  pub begins : IsStart c.start
   pub are : AreSteps (ReadLaw c.start c.plan) c.start (patience c.turns) steps
   pub read : HasRead c.before seen steps
 
@@ -62,8 +64,7 @@ pub record Begins (b : Start) (p : Plan) (x : Copying) : Type 0 where
   pub reached_is : x.reached ≡ 0
   pub given_is : x.window.given ≡ b.host.last_ticket
   pub slots_are : x.window.slots.items ≡ []
-  pub matches : Matches b.log x.host
-  pub tags : AreTagged x.host.flight.last_tag b.log
+  pub begins : IsStart b
 
 -- the outcomes came in the order in which they are taken; those that were are none that ends the copy
 pub record InOrder (waiting : List Done) (outs : List Done) : Type 0 where

@@ -5,10 +5,10 @@ use Rattle.aoe_copy.specs.declared.feed.Feed.{Feed}
 
 -- the bytes of the front that weren't used
 abbrev pub ahead : Feed → List ℕ
-ahead f = drop f.used f.front
+ahead f = drop f.used f.front.now
 
 abbrev pub IsFeed : Feed → Type 0
-IsFeed f = f.used ≤ length f.front
+IsFeed f = f.used ≤ length f.front.now
 
 -- so many bytes were used of those that are left, first of the front, and then of the source
 pub record Feeds (left left' : Option (List ℕ)) (ahead ahead' bytes : List ℕ) : Type 0 where

@@ -1,10 +1,14 @@
+pub mod Again
 pub mod Copying
+pub mod Ending
 pub mod Feed
+pub mod Input
 pub mod Law
 pub mod Plan
 pub mod PutLaw
 pub mod PutRuns
 pub mod PutSteps
+pub mod Puts
 pub mod Putting
 pub mod Runs
 pub mod Steps

@@ -1,64 +1,62 @@
--- The steps of a copy into a device, latest first, and what they come to.
-use Rattle.std.specs.Prelude.{ℕ, suc, ◌≡◌, ◌+◌, ◌-◌, ◌*◌, ◌/◌, ◌%◌, ◌<◌, ◌≤◌, ◌⊎◌, min, List, [], ◌∷◌, ◌++◌, length, Option, All}
+-- The steps of a copy into a device, latest first: steps of its own are that the input ends, with these bytes after its whole sectors, and
+-- that it goes on after the last sector of the device, with these.
+use Rattle.std.specs.Prelude.{ℕ, ◌≡◌, ◌+◌, ◌-◌, ◌*◌, ◌/◌, ◌%◌, ◌<◌, ◌≤◌, ◌⊎◌, min, Bool, true, false, ◌||◌, List, [], ◌∷◌, length, Option, Some, None, if◌then◌else◌}
+use Rattle.std.specs.List.{cons_option}
+use Rattle.aoe_block.specs.Steps.{open_of, ops, owns, GoesOn, Start, Step}
+use Rattle.aoe_block.specs.Steps.Step.{hears, own, sends, submits, ticks}
 use Rattle.aoe_initiator.specs.declared.op.Op.{Op}
 use Rattle.aoe_initiator.specs.declared.op.Op.TheVariants as op
-use Rattle.aoe_initiator.specs.declared.outcome.Done.{Done}
-use Rattle.aoe_initiator.specs.Host.{Host}
-use Rattle.aoe_initiator.specs.HostLog.{Event}
-use Rattle.aoe_initiator.specs.HostLog.Event.{Sends, Submits}
-use Rattle.aoe_io.specs.Link.{Turn}
-use Rattle.aoe_tools.specs.TransferRun.{after_heard, after_tick, quiet_by, told_by, GivesUp, Heard, Hears, IsSilent, Outgoing}
 use Rattle.aoe_copy.specs.declared.plan.Plan.{Plan}
 use Rattle.aoe_copy.specs.declared.putting.Stage.{Stage}
 use Rattle.aoe_copy.specs.declared.putting.Stage.TheVariants as stage
-use Rattle.aoe_copy.specs.Copying.{open_in}
-use Rattle.aoe_copy.specs.Steps.{the_device, ticket_at, IsWell, MaySend}
 use Rattle.aoe_copy.specs.Window.{in_order, most_open}
 
--- A step: the clock answers, and commands that nobody answered for too long are given up, the latest first; a write of the input's next
--- sectors is submitted; the input ends, with these bytes behind its whole sectors; it goes on behind the last sector of the device, with
--- these bytes; the flush is submitted; a frame is sent; a turn of the link brings a frame or nothing, and may end a command.
-pub data PutStep : Type 0 where
-  ticks : (answer : ℕ) → List Done → PutStep
-  writes : List ℕ → PutStep
-  ends : List ℕ → PutStep
-  exceeds : List ℕ → PutStep
-  flushes : PutStep
-  sends : Outgoing → PutStep
-  hears : Turn → Option Heard → PutStep
+pub data Fed : Type 0 where
+  ends : List ℕ → Fed
+  exceeds : List ℕ → Fed
 
--- how many commands were submitted
-abbrev pub asked : List PutStep → ℕ
-asked [] = 0
-asked (ticks answer gave_up ∷ steps) = asked steps
-asked (writes bytes ∷ steps) = suc (asked steps)
-asked (ends rest ∷ steps) = asked steps
-asked (exceeds bytes ∷ steps) = asked steps
-asked (flushes ∷ steps) = suc (asked steps)
-asked (sends o ∷ steps) = asked steps
-asked (hears turn heard ∷ steps) = asked steps
+abbrev pub PutStep : Type 0
+PutStep = Step Fed
+
+-- the bytes of a write
+abbrev pub piece_of : Op → Option (List ℕ)
+piece_of (op.Write at bytes) = Some bytes
+piece_of (op.Read span) = None
+piece_of op.Flush = None
+piece_of op.Identify = None
+piece_of (op.Config ccmd text) = None
+piece_of (op.Masks edit dirs) = None
+piece_of (op.Reserve rcmd list) = None
+
+abbrev pub is_flush : Op → Bool
+is_flush op.Flush = true
+is_flush (op.Write at bytes) = false
+is_flush (op.Read span) = false
+is_flush op.Identify = false
+is_flush (op.Config ccmd text) = false
+is_flush (op.Masks edit dirs) = false
+is_flush (op.Reserve rcmd list) = false
 
 -- the bytes of each write, the latest first
-abbrev pub pieces : List PutStep → List (List ℕ)
-pieces [] = []
-pieces (ticks answer gave_up ∷ steps) = pieces steps
-pieces (writes bytes ∷ steps) = bytes ∷ pieces steps
-pieces (ends rest ∷ steps) = pieces steps
-pieces (exceeds bytes ∷ steps) = pieces steps
-pieces (flushes ∷ steps) = pieces steps
-pieces (sends o ∷ steps) = pieces steps
-pieces (hears turn heard ∷ steps) = pieces steps
+abbrev pub pieces_in : List Op → List (List ℕ)
+pieces_in [] = []
+pieces_in (o ∷ os) = cons_option (piece_of o) (pieces_in os)
 
--- the bytes that came behind these, and can't be written
+abbrev pub pieces : List PutStep → List (List ℕ)
+pieces steps = pieces_in (ops steps)
+
+abbrev pub has_flush : List Op → Bool
+has_flush [] = false
+has_flush (o ∷ os) = is_flush o || has_flush os
+
+-- the bytes that came after these, and can't be written
+abbrev pub rest_in : List Fed → List ℕ
+rest_in [] = []
+rest_in (ends rest ∷ fed) = rest
+rest_in (exceeds bytes ∷ fed) = bytes
+
 abbrev pub rest_of : List PutStep → List ℕ
-rest_of [] = []
-rest_of (ticks answer gave_up ∷ steps) = rest_of steps
-rest_of (writes bytes ∷ steps) = rest_of steps
-rest_of (ends rest ∷ steps) = rest
-rest_of (exceeds bytes ∷ steps) = bytes
-rest_of (flushes ∷ steps) = rest_of steps
-rest_of (sends o ∷ steps) = rest_of steps
-rest_of (hears turn heard ∷ steps) = rest_of steps
+rest_of steps = rest_in (owns steps)
 
 -- the end of the input: with whole sectors, or within one
 abbrev pub stage_at_end : List ℕ → Stage
@@ -66,79 +64,13 @@ stage_at_end [] = stage.Ended
 stage_at_end (b ∷ rest) = stage.Broken
 
 -- what is left to do
+abbrev pub stage_fed : List Fed → Stage
+stage_fed [] = stage.Reading
+stage_fed (ends rest ∷ fed) = stage_at_end rest
+stage_fed (exceeds bytes ∷ fed) = stage.Beyond
+
 abbrev pub stage_of : List PutStep → Stage
-stage_of [] = stage.Reading
-stage_of (ticks answer gave_up ∷ steps) = stage_of steps
-stage_of (writes bytes ∷ steps) = stage_of steps
-stage_of (ends rest ∷ steps) = stage_at_end rest
-stage_of (exceeds bytes ∷ steps) = stage.Beyond
-stage_of (flushes ∷ steps) = stage.Flushing
-stage_of (sends o ∷ steps) = stage_of steps
-stage_of (hears turn heard ∷ steps) = stage_of steps
-
--- the outcomes, the latest first
-abbrev pub outcomes : List PutStep → List Done
-outcomes [] = []
-outcomes (ticks answer gave_up ∷ steps) = gave_up ++ outcomes steps
-outcomes (writes bytes ∷ steps) = outcomes steps
-outcomes (ends rest ∷ steps) = outcomes steps
-outcomes (exceeds bytes ∷ steps) = outcomes steps
-outcomes (flushes ∷ steps) = outcomes steps
-outcomes (sends o ∷ steps) = outcomes steps
-outcomes (hears turn heard ∷ steps) = told_by heard ++ outcomes steps
-
--- what the link brought, the frames that were sent, and the clock's answers
-abbrev pub turns_of : List PutStep → List Turn
-turns_of [] = []
-turns_of (ticks answer gave_up ∷ steps) = turns_of steps
-turns_of (writes bytes ∷ steps) = turns_of steps
-turns_of (ends rest ∷ steps) = turns_of steps
-turns_of (exceeds bytes ∷ steps) = turns_of steps
-turns_of (flushes ∷ steps) = turns_of steps
-turns_of (sends o ∷ steps) = turns_of steps
-turns_of (hears turn heard ∷ steps) = turn ∷ turns_of steps
-
-abbrev pub frames_of : List PutStep → List (List ℕ)
-frames_of [] = []
-frames_of (ticks answer gave_up ∷ steps) = frames_of steps
-frames_of (writes bytes ∷ steps) = frames_of steps
-frames_of (ends rest ∷ steps) = frames_of steps
-frames_of (exceeds bytes ∷ steps) = frames_of steps
-frames_of (flushes ∷ steps) = frames_of steps
-frames_of (sends o ∷ steps) = o.frame ∷ frames_of steps
-frames_of (hears turn heard ∷ steps) = frames_of steps
-
-abbrev pub answers_of : List PutStep → List ℕ
-answers_of [] = []
-answers_of (ticks answer gave_up ∷ steps) = answer ∷ answers_of steps
-answers_of (writes bytes ∷ steps) = answers_of steps
-answers_of (ends rest ∷ steps) = answers_of steps
-answers_of (exceeds bytes ∷ steps) = answers_of steps
-answers_of (flushes ∷ steps) = answers_of steps
-answers_of (sends o ∷ steps) = answers_of steps
-answers_of (hears turn heard ∷ steps) = answers_of steps
-
--- how many of the latest consecutive turns ended no command
-abbrev pub quiet_turns : List PutStep → ℕ
-quiet_turns [] = 0
-quiet_turns (ticks answer gave_up ∷ steps) = quiet_turns steps
-quiet_turns (writes bytes ∷ steps) = quiet_turns steps
-quiet_turns (ends rest ∷ steps) = quiet_turns steps
-quiet_turns (exceeds bytes ∷ steps) = quiet_turns steps
-quiet_turns (flushes ∷ steps) = quiet_turns steps
-quiet_turns (sends o ∷ steps) = quiet_turns steps
-quiet_turns (hears turn heard ∷ steps) = quiet_by heard (quiet_turns steps)
-
--- how many frames were sent since the last turn of the link
-abbrev pub sent_now : List PutStep → ℕ
-sent_now [] = 0
-sent_now (ticks answer gave_up ∷ steps) = sent_now steps
-sent_now (writes bytes ∷ steps) = sent_now steps
-sent_now (ends rest ∷ steps) = sent_now steps
-sent_now (exceeds bytes ∷ steps) = sent_now steps
-sent_now (flushes ∷ steps) = sent_now steps
-sent_now (sends o ∷ steps) = suc (sent_now steps)
-sent_now (hears turn heard ∷ steps) = 0
+stage_of steps = if has_flush (ops steps) then stage.Flushing else stage_fed (owns steps)
 
 -- how many sectors these bytes are
 abbrev pub count_of : List (List ℕ) → ℕ
@@ -149,83 +81,67 @@ count_of (bytes ∷ earlier) = count_of earlier + length bytes / 512
 abbrev pub written : List PutStep → List ℕ
 written steps = in_order (pieces steps)
 
--- the write behind others is of the sectors behind theirs (ATA, WRITE SECTORS EXT)
-abbrev pub write_behind : Plan → List (List ℕ) → List ℕ → Op
-write_behind p earlier bytes = op.Write (p.at + count_of earlier) bytes
+-- the write after others is of the sectors that follow theirs (ATA, WRITE SECTORS EXT)
+abbrev pub write_after : Plan → List (List ℕ) → List ℕ → Op
+write_after p earlier bytes = op.Write (p.at + count_of earlier) bytes
 
--- what the host did, as the host law speaks of it
-abbrev pub log_of : Plan → List PutStep → List Event
-log_of p [] = []
-log_of p (ticks answer gave_up ∷ steps) = after_tick answer gave_up (log_of p steps)
-log_of p (writes bytes ∷ steps) = Submits (ticket_at (asked steps)) the_device (write_behind p (pieces steps) bytes) ∷ log_of p steps
-log_of p (ends rest ∷ steps) = log_of p steps
-log_of p (exceeds bytes ∷ steps) = log_of p steps
-log_of p (flushes ∷ steps) = Submits (ticket_at (asked steps)) the_device op.Flush ∷ log_of p steps
-log_of p (sends o ∷ steps) = Sends o.sent.ticket o.sent.tag o.sent.path ∷ log_of p steps
-log_of p (hears turn heard ∷ steps) = after_heard heard (log_of p steps)
-
--- how many commands have no outcome
-abbrev pub open_of : Plan → List PutStep → ℕ
-open_of p steps = open_in (log_of p steps)
-
--- no command was refused or given up
-abbrev pub GoesOn : List PutStep → Type 0
-GoesOn steps = All IsWell (outcomes steps)
-
--- the most sectors of the command behind these: as many as one may have, or those that the device has left
-abbrev pub room_behind : Plan → List (List ℕ) → ℕ
-room_behind p earlier = min p.max (p.count - count_of earlier)
+-- the most sectors of the command after these: as many as one may have, or those that the device has left
+abbrev pub room_after : Plan → List (List ℕ) → ℕ
+room_after p earlier = min p.max (p.count - count_of earlier)
 
 -- each of these is as long as it may be
 abbrev pub AreFull : Plan → List (List ℕ) → Type 0
 AreFull p [] = Unit {0}
-AreFull p (bytes ∷ earlier) = AreFull p earlier × (length bytes ≡ 512 * room_behind p earlier)
+AreFull p (bytes ∷ earlier) = AreFull p earlier × (length bytes ≡ 512 * room_after p earlier)
 
 -- more of the input may be read: it goes on, each write before was as long as it may be, and fewer than a window are under way
-pub record MayRead (p : Plan) (steps : List PutStep) : Type 0 where
+pub record MayRead (b : Start) (p : Plan) (steps : List PutStep) : Type 0 where
   pub reads : stage_of steps ≡ stage.Reading
   pub full : AreFull p (pieces steps)
-  pub few : open_of p steps < most_open
+  pub few : open_of b steps < most_open
 
 -- these bytes may be the next write: whole sectors, at least one, and no more than it may have
 pub record IsPart (p : Plan) (earlier : List (List ℕ)) (bytes : List ℕ) : Type 0 where
   pub some : 0 < length bytes
   pub whole : length bytes % 512 ≡ 0
-  pub most : length bytes ≤ 512 * room_behind p earlier
+  pub most : length bytes ≤ 512 * room_after p earlier
 
--- nothing is left to be submitted now
+-- The flush may be submitted, where one is asked for: the input ended with whole sectors, and each command was acknowledged.
+pub record MayFlush (b : Start) (flush : Bool) (steps : List PutStep) : Type 0 where
+  pub wanted : flush ≡ true
+  pub ended : stage_of steps ≡ stage.Ended
+  pub none_open : open_of b steps ≡ 0
+
+-- a command may be submitted: the write of the input's next sectors, or the flush
+abbrev pub MayWrite : Start → Plan → Bool → List PutStep → Op → Type 0
+MayWrite b p flush steps (op.Write at bytes) = (at ≡ p.at + count_of (pieces steps)) × MayRead b p steps × IsPart p (pieces steps) bytes
+MayWrite b p flush steps op.Flush = MayFlush b flush steps
+MayWrite b p flush steps (op.Read span) = ⊥
+MayWrite b p flush steps op.Identify = ⊥
+MayWrite b p flush steps (op.Config ccmd text) = ⊥
+MayWrite b p flush steps (op.Masks edit dirs) = ⊥
+MayWrite b p flush steps (op.Reserve rcmd list) = ⊥
+
+-- with a number of commands under way nothing is left to be submitted now, and the copy isn't over
 abbrev pub NothingLeft : Stage → ℕ → Type 0
 NothingLeft stage.Reading n = ⊥
 NothingLeft stage.Ended n = 0 < n
-NothingLeft stage.Broken n = Unit {0}
-NothingLeft stage.Beyond n = Unit {0}
-NothingLeft stage.Flushing n = Unit {0}
+NothingLeft stage.Broken n = 0 < n
+NothingLeft stage.Beyond n = 0 < n
+NothingLeft stage.Flushing n = 0 < n
 
 -- as many as may be were submitted: a window is under way, or nothing is left until those are acknowledged that are
-abbrev pub IsFilled : Plan → List PutStep → Type 0
-IsFilled p steps = (most_open ≤ open_of p steps) ⊎ NothingLeft (stage_of steps) (open_of p steps)
+abbrev pub IsFilled : Start → List PutStep → Type 0
+IsFilled b steps = (most_open ≤ open_of b steps) ⊎ NothingLeft (stage_of steps) (open_of b steps)
 
--- nothing more may be sent, or as many frames were as commands can be open
-abbrev pub IsSent : Host → Plan → List PutStep → Type 0
-IsSent base p steps = IsSilent base (log_of p steps) ⊎ (most_open ≤ sent_now steps)
-
--- The flush may be submitted: the input ended with whole sectors, and each command was acknowledged.
-pub record MayFlush (p : Plan) (steps : List PutStep) : Type 0 where
-  pub ended : stage_of steps ≡ stage.Ended
-  pub none_open : open_of p steps ≡ 0
-
--- a step may come behind others
-abbrev pub MayCome : Host → Plan → List PutStep → PutStep → Type 0
-MayCome base p steps (ticks answer gave_up) = GivesUp base (log_of p steps) answer gave_up
-MayCome base p steps (writes bytes) = GoesOn steps × MayRead p steps × IsPart p (pieces steps) bytes
-MayCome base p steps (ends rest) = GoesOn steps × (stage_of steps ≡ stage.Reading) × (length rest < 512)
-MayCome base p steps (exceeds bytes) =
-    GoesOn steps × MayRead p steps × (room_behind p (pieces steps) ≡ 0) × (0 < length bytes) × (length bytes ≤ 512)
-MayCome base p steps flushes = GoesOn steps × MayFlush p steps
-MayCome base p steps (sends o) = GoesOn steps × MaySend base (log_of p steps) o
-MayCome base p steps (hears turn heard) = GoesOn steps × IsFilled p steps × IsSent base p steps × Hears base (log_of p steps) turn heard
-
--- steps of a copy, each of which might come
-abbrev pub AreSteps : Host → Plan → List PutStep → Type 0
-AreSteps base p [] = Unit {0}
-AreSteps base p (step ∷ steps) = AreSteps base p steps × MayCome base p steps step
+-- The law of a copy into a device: a command writes the input's next sectors, those that follow on the ones before; once the input has ended
+-- and all was acknowledged the flush is submitted; and before a turn of the link as much as may be was submitted, and there is more to wait
+-- for.
+abbrev pub PutLaw : Start → Plan → Bool → List PutStep → PutStep → Type 0
+PutLaw b p flush steps (ticks answer gave_up) = Unit {0}
+PutLaw b p flush steps (submits o) = MayWrite b p flush steps o
+PutLaw b p flush steps (own (ends rest)) = GoesOn steps × (stage_of steps ≡ stage.Reading) × (length rest < 512)
+PutLaw b p flush steps (own (exceeds bytes)) =
+    GoesOn steps × MayRead b p steps × (room_after p (pieces steps) ≡ 0) × (0 < length bytes) × (length bytes ≤ 512)
+PutLaw b p flush steps (sends o) = Unit {0}
+PutLaw b p flush steps (hears turn heard) = IsFilled b steps

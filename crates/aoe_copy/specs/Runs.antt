@@ -1,7 +1,7 @@
 -- A whole copy out of a device, over a link, a clock and a sink that tell what they gave and took.
-use Rattle.std.specs.Prelude.{ℕ, ◌≡◌, ◌+◌, ◌<◌, ◌≤◌, ◌⊎◌, [], Option, Result, Ok, Err}
+use Rattle.std.specs.Prelude.{ℕ, ◌≡◌, ◌+◌, ◌<◌, ◌≤◌, ◌⊎◌, List, [], Option, Result, Ok, Err}
 use Rattle.aoe_base.specs.declared.address.TargetId.{TargetId}
-use Rattle.aoe_block.specs.Steps.{outcomes, quiet_turns, AreSteps, GoesOn, HasSeen, Seen, Start}
+use Rattle.aoe_block.specs.Steps.{outcomes, new_start, quiet_turns, AreSteps, GoesOn, HasSeen, Seen, Start}
 use Rattle.aoe_block.specs.Turns.{host_of}
 use Rattle.aoe_initiator.specs.Host.{Host}
 use Rattle.aoe_io.specs.Bytes.{Took, TookSome}
@@ -52,10 +52,6 @@ pub record Runs (result : Result Unit CopyRefusal) (b : Start) (p : Plan) (turns
   pub steps : List ReadStep
   pub are : AreSteps (ReadLaw b p) b (patience turns) steps
   pub ends : Ends result b p turns before now steps
-
--- a host that did nothing before
-abbrev pub new_start : Host → Start
-new_start host = record { host = host; log = [] }
 
 -- the host of a copy, attached to a device
 abbrev pub host_at : Terms → TargetId → Device → Host

@@ -1,5 +1,5 @@
 -- The steps of a copy out of a device, latest first: a step of its own is that the sink takes the sectors of the next command.
-use Rattle.std.specs.Prelude.{ℕ, ◌≡◌, ◌+◌, ◌<◌, ◌≤◌, ◌⊎◌, List, [], ◌∷◌, ◌++◌, length, Some, Contains, All}
+use Rattle.std.specs.Prelude.{ℕ, suc, ◌≡◌, ◌+◌, ◌<◌, ◌≤◌, ◌⊎◌, List, ◌∷◌, ◌++◌, length, Some, Contains, All}
 use Rattle.aoe_block.specs.Steps.{asked, outcomes, owns, IsWell, Patience, Start, Step}
 use Rattle.aoe_block.specs.Steps.Step.{hears, own, sends, submits, ticks}
 use Rattle.aoe_initiator.specs.declared.op.Op.{Op}
@@ -37,7 +37,7 @@ IsFilled p steps = (reach p (asked steps) ≡ p.count) ⊎ (given steps + most_o
 
 -- the next command for the sink was answered with these sectors
 abbrev pub IsNextRead : Start → List ReadStep → List ℕ → Type 0
-IsNextRead b steps bytes = Contains (outcomes steps) (read_done (b.host.last_ticket + given steps + 1) bytes)
+IsNextRead b steps bytes = Contains (outcomes steps) (read_done (suc (b.host.last_ticket + given steps)) bytes)
 
 -- the sink has the sectors of each command that was answered, and all before it
 abbrev pub IsGivenOut : Start → List ReadStep → Type 0

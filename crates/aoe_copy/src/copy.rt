@@ -1,21 +1,25 @@
 //! The copy of sectors out of a device.
 ghost use Rattle.std.specs.Prelude.{◌≡◌, ◌≢◌, ◌+◌, ◌<◌, ◌≤◌, ◌^◌, Err};
 ghost use Rattle.aoe_base.specs.Faults.{Blamed};
+ghost use Rattle.aoe_base.specs.Sizes.{longest_lifetime};
 ghost use Rattle.aoe_tools.specs.Runs.{told};
 ghost use Rattle.aoe_copy.specs.Runs.{Copies, MayRun};
 
 use crate::copying::Copying;
+use crate::end::CopyRefusal;
 use crate::plan::{Plan, plan_of};
+use crate::terms::Terms;
 use crate::watch::Watch;
 use aoe_base::{NoMemory, TargetId};
+use aoe_block::attach;
 use aoe_io::{Clock, Link, Sink};
-use aoe_tools::{Ask, CopyRefusal, Device, Refusal, ToolRefusal, look_up};
+use aoe_tools::{Device, Refusal, ToolRefusal, look_up};
 use std::alloc::Global;
 
 /// Copies sectors of a device that was found.
 fn copy_out<L: Link, C: Clock, K: Sink, W: Watch>(
     alloc: Global,
-    ask: &Ask,
+    terms: &Terms,
     id: TargetId,
     device: &Device,
     plan: Plan,
@@ -24,14 +28,17 @@ fn copy_out<L: Link, C: Clock, K: Sink, W: Watch>(
     clock: &mut C,
     watch: &mut W,
 ) -> Result<(), CopyRefusal>
+    requires requests { terms.now.life.requests.0 ≤ longest_lifetime }
+    requires responses { terms.now.life.responses.0 ≤ longest_lifetime }
     requires total { device.now.total < 2 ^ 48 }
     requires some { 0 < device.now.max }
     requires max { device.now.max ≤ 17 }
     requires same { plan.max ≡ device.now.max }
     requires within { plan.at + plan.count ≤ device.now.total }
-    ensures runs { MayRun result ask.now id device.now plan
-        (record { turns = L.turns link.old; given = L.given link.old; taken = L.taken link.old; answers = C.answers clock.old; held = K.held sink.old })
-        (record { turns = L.turns link.new; given = L.given link.new; taken = L.taken link.new; answers = C.answers clock.new; held = K.held sink.new }) }
+    ensures runs { MayRun result terms.now id device.now plan
+        (record { link = record { turns = L.turns link.old; given = L.given link.old; taken = L.taken link.old; answers = C.answers clock.old }; held = K.held sink.old })
+        (record { link = record { turns = L.turns link.new; given = L.given link.new; taken = L.taken link.new; answers = C.answers clock.new }; held = K.held sink.new }) }
+    ensures unread { result ≢ Err CopyRefusal.SourceFault }
     ensures count { L.faults link.old ≤ L.faults link.new }
     ensures link { Blamed (result ≡ Err (CopyRefusal.Tool ToolRefusal.LinkFault))
         (L.faults link.old) (L.faults link.new) }
@@ -39,30 +46,41 @@ fn copy_out<L: Link, C: Clock, K: Sink, W: Watch>(
     ensures sink { Blamed (result ≡ Err CopyRefusal.SinkFault) (K.faults sink.old)
         (K.faults sink.new) }
 {
-    match Copying::new(alloc, ask.port, id, device, plan) {
-        Ok(mut copying) => copying.run(ask.turns, sink, link, clock, watch),
+    match attach(
+        alloc,
+        terms.ask.port,
+        terms.life,
+        id,
+        device.port,
+        device.total,
+        device.max,
+    ) {
+        Ok(host) => {
+            Copying::new(alloc, host, 0, plan).run(terms.ask.turns, sink, link, clock, watch)
+        }
         Err(NoMemory) => Err(CopyRefusal::Tool(ToolRefusal::NoMemory)),
     }
 }
 
 /// Reads the `count` sectors of a device from `at` on, or all that it has there, and writes them to
 /// the sink in their order, each as soon as all before it are there. A command asks for as many
-/// sectors as the device takes, but at most `most`.
+/// sectors as the device takes, but at most as many as the terms say.
 pub fn get<L: Link, C: Clock, K: Sink, W: Watch>(
     alloc: Global,
-    ask: &Ask,
+    terms: &Terms,
     id: TargetId,
     at: u64,
     count: Option<u64>,
-    most: u32,
     sink: &mut K,
     link: &mut L,
     clock: &mut C,
     watch: &mut W,
 ) -> Result<(), CopyRefusal>
-    requires some { 0 < most }
-    requires few { most ≤ 17 }
-    ensures run { Copies result ask.now id at count most
+    requires some { 0 < terms.now.most }
+    requires few { terms.now.most ≤ 17 }
+    requires requests { terms.now.life.requests.0 ≤ longest_lifetime }
+    requires responses { terms.now.life.responses.0 ≤ longest_lifetime }
+    ensures run { Copies result terms.now id at count
         (told C.least C.answers L.turns L.given L.taken clock.old clock.new link.old link.new)
         (K.held sink.old) (K.held sink.new) }
     ensures unread { result ≢ Err CopyRefusal.SourceFault }
@@ -74,12 +92,12 @@ pub fn get<L: Link, C: Clock, K: Sink, W: Watch>(
         (K.faults sink.new) }
 {
     let first = clock.now();
-    let device = match look_up(ask, id, first, most, link) {
+    let device = match look_up(&terms.ask, id, first, terms.most, link) {
         Ok(device) => device,
         Err(refusal) => return Err(CopyRefusal::Tool(refusal)),
     };
     match plan_of(&device, at, count) {
-        Some(plan) => copy_out(alloc, ask, id, &device, plan, sink, link, clock, watch),
+        Some(plan) => copy_out(alloc, terms, id, &device, plan, sink, link, clock, watch),
         None => Err(CopyRefusal::Tool(ToolRefusal::Refused(Refusal::Range))),
     }
 }

@@ -1,11 +1,13 @@
 //! A copy out of a device, turn by turn.
 ghost use Rattle.std.specs.Prelude.{◌≡◌, ◌≢◌, ◌+◌, ◌<◌, ◌≤◌, ◌^◌, ◌∷◌, ℕ, suc, List, [], Option, Err, IfOk, OnOk, IfSome, length, true, false};
 ghost use Rattle.aoe_base.specs.Faults.{Blamed};
-ghost use Rattle.aoe_block.specs.Steps.{has_ticked, outcomes, AreTagged, GoesOn, Seen, Start};
+ghost use Rattle.aoe_block.specs.Answered.{IsStart};
+ghost use Rattle.aoe_block.specs.Steps.{has_ticked, outcomes, GoesOn, Seen, Start};
 ghost use Rattle.aoe_initiator.specs.declared.outcome.Done.{Done};
 ghost use Rattle.aoe_initiator.specs.Host.{Matches};
 ghost use Rattle.aoe_initiator.specs.HostLog.{Event};
 ghost use Rattle.aoe_io.specs.Link.{Added};
+ghost use Rattle.aoe_copy.specs.declared.plan.Plan.{Plan as PlanOf};
 ghost use Rattle.aoe_copy.specs.Copying.{is_over, may_ask, AreUpTo, Asks, AsksOne, Begins, Collects, InOrder, IsFit, Keeps, MayBegin, Setting, Stands, TakesAll, Turns};
 ghost use Rattle.aoe_copy.specs.Runs.{ReadSeen, Runs};
 ghost use Rattle.aoe_copy.specs.Steps.{IsGivenOut, ReadStep};
@@ -61,7 +63,8 @@ impl Copying {
         requires some { 0 < plan.max }
         requires max { plan.max ≤ 17 }
         ensures fit { IsFit result }
-        ensures begins { (log : List Event) → Matches log host → AreTagged host.flight.last_tag log
+        ensures waiting { result.host.waiting ≡ host.waiting }
+        ensures begins { (log : List Event) → IsStart (record { host = host; log = log })
             → Begins (record { host = host; log = log }) plan result }
     {
         Copying {
@@ -164,6 +167,7 @@ impl Copying {
         requires waiting { self.old.host.waiting ≡ [] }
         requires more { is_over self.old ≡ false }
         ensures fit { OnOk result (IsFit self.new) }
+        ensures source { result ≢ Err CopyRefusal.SourceFault }
         ensures sink { result ≢ Err CopyRefusal.SinkFault }
         ensures exchanges { (c : Setting) (answers : Option (List ℕ)) (held : Option (List ℕ)) (steps : List ReadStep)
             → Stands c (record { link = record { turns = L.turns link.old; given = L.given link.old; taken = L.taken link.old; answers = answers }; held = held }) steps
@@ -192,6 +196,7 @@ impl Copying {
         ensures over { IfOk result (λ over. over ≡ is_over self.new) }
         ensures waiting { OnOk result (self.new.host.waiting ≡ []) }
         ensures link { result ≢ Err (CopyRefusal.Tool ToolRefusal.LinkFault) }
+        ensures source { result ≢ Err CopyRefusal.SourceFault }
         ensures collects { (c : Setting) (seen : Seen) (later : Option (List ℕ)) (steps : List ReadStep)
             → IfSome later (λ _. Added seen.answers later (now ∷ []))
             → Stands c (record { link = seen; held = K.held sink.old }) steps
@@ -232,6 +237,7 @@ impl Copying {
     ) -> Result<Passed, CopyRefusal>
         requires fit { IsFit self.old }
         ensures fit { OnOk result (IsFit self.new) }
+        ensures source { result ≢ Err CopyRefusal.SourceFault }
         ensures turn { (c : Setting) (answers : Option (List ℕ)) (later : Option (List ℕ)) (steps : List ReadStep)
             → IfSome later (λ _. Added answers later (now ∷ []))
             → Stands c (record { link = record { turns = L.turns link.old; given = L.given link.old; taken = L.taken link.old; answers = answers }; held = K.held sink.old }) steps
@@ -268,9 +274,10 @@ impl Copying {
         watch: &mut W,
     ) -> Result<(), CopyRefusal>
         requires fit { IsFit self.old }
+        requires begins { (b : Start) × (p : PlanOf) × Begins b p self.old }
         requires waiting { self.old.host.waiting ≡ [] }
-        ensures run { (b : Start) → Begins b self.old.plan self.old
-            → Runs result b self.old.plan turns
+        ensures run { (b : Start) (p : PlanOf) → Begins b p self.old
+            → Runs result b p turns
             (record { link = record { turns = L.turns link.old; given = L.given link.old; taken = L.taken link.old; answers = C.answers clock.old }; held = K.held sink.old })
             (record { link = record { turns = L.turns link.new; given = L.given link.new; taken = L.taken link.new; answers = C.answers clock.new }; held = K.held sink.new }) }
         ensures source { result ≢ Err CopyRefusal.SourceFault }

@@ -4,22 +4,22 @@ ghost use Rattle.aoe_base.specs.Faults.{Rose};
 ghost use Rattle.aoe_io.specs.Bytes.{GaveSome, IsEnded};
 ghost use Rattle.aoe_copy.specs.Feed.{ahead, Feeds, IsFeed};
 
-use aoe_base::{Blob, Failed};
+use aoe_base::Failed;
 use aoe_io::{Source, fill_from};
 
 /// What is left of an input: of its front, which was read before, and then of the source.
 #[derive(Drop)]
-pub(crate) struct Feed {
-    front: Blob,
+pub(crate) struct Feed<'a> {
+    front: &'a [u8],
 
     /// How many bytes of the front were used.
     used: usize,
 }
 
-impl Feed {
+impl<'a> Feed<'a> {
     /// An input with this front.
-    pub(crate) fn new(front: Blob) -> Feed
-        ensures front { result.front ≡ front }
+    pub(crate) fn new(front: &'a [u8]) -> Feed<'a>
+        ensures front { result.front.now ≡ front.now }
         ensures used { result.used ≡ 0 }
     {
         Feed { front, used: 0 }
@@ -33,7 +33,7 @@ impl Feed {
         ensures took { ahead self.old ≡ take result out.new ++ ahead self.new }
         ensures short { result < length out.old → ahead self.new ≡ [] }
     {
-        let left = &self.front.bytes()[self.used..];
+        let left = &self.front[self.used..];
         let n = left.len().min(out.len());
         out[..n].copy_from_slice(&left[..n]);
         self.used += n;

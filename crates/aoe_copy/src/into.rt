@@ -1,40 +1,51 @@
-//! The copy of an input into a device.
+//! The copy of an input into a device, and its flush.
 ghost use Rattle.std.specs.Prelude.{◌≡◌, ◌≢◌, ◌+◌, ◌/◌, ◌<◌, ◌≤◌, ◌^◌, Err, length};
 ghost use Rattle.aoe_base.specs.Faults.{Blamed};
+ghost use Rattle.aoe_base.specs.Sizes.{longest_lifetime};
 ghost use Rattle.aoe_tools.specs.Runs.{told};
-ghost use Rattle.aoe_copy.specs.PutRuns.{Copies, MayRun, PutsAll};
+ghost use Rattle.aoe_copy.specs.PutRuns.{Copies, MayRun};
+ghost use Rattle.aoe_copy.specs.Puts.{Flushes, IsToolEnd, Puts};
+ghost use Rattle.aoe_copy.specs.declared.end.CopyRefusal.{CopyRefusal as Refused};
+ghost use Rattle.aoe_tools.specs.declared.end.ToolRefusal.{ToolRefusal as ToolRefused};
 
+use crate::again::put_again;
+use crate::end::CopyRefusal;
+use crate::input::{Input, read_input};
+use crate::nothing::Nothing;
 use crate::plan::{Plan, plan_of};
 use crate::putting::Putting;
-use crate::watch::Watch;
-use aoe_base::{Blob, NoMemory, SECTOR_LEN, TargetId};
+use crate::terms::Terms;
+use crate::watch::{Unwatched, Watch};
+use aoe_base::{NoMemory, SECTOR_LEN, TargetId};
+use aoe_block::attach;
 use aoe_io::{Clock, Link, Source};
-use aoe_tools::{
-    Ask, CopyRefusal, Device, Input, Refusal, ToolRefusal, look_up, put_sectors, read_input,
-};
+use aoe_tools::{Device, Refusal, ToolRefusal, look_up};
 use std::alloc::Global;
 
 /// Copies an input with this front into a device that was found.
 fn copy_in<S: Source, L: Link, C: Clock, W: Watch>(
     alloc: Global,
-    ask: &Ask,
+    terms: &Terms,
     id: TargetId,
     device: &Device,
     plan: Plan,
-    front: Blob,
+    flush: bool,
+    front: &[u8],
     source: &mut S,
     link: &mut L,
     clock: &mut C,
     watch: &mut W,
 ) -> Result<(), CopyRefusal>
+    requires requests { terms.now.life.requests.0 ≤ longest_lifetime }
+    requires responses { terms.now.life.responses.0 ≤ longest_lifetime }
     requires total { device.now.total < 2 ^ 48 }
     requires some { 0 < device.now.max }
     requires max { device.now.max ≤ 17 }
     requires same { plan.max ≡ device.now.max }
     requires within { plan.at + plan.count ≤ device.now.total }
-    ensures runs { MayRun result ask.now id device.now plan front
-        (record { turns = L.turns link.old; given = L.given link.old; taken = L.taken link.old; answers = C.answers clock.old; left = S.left source.old })
-        (record { turns = L.turns link.new; given = L.given link.new; taken = L.taken link.new; answers = C.answers clock.new; left = S.left source.new }) }
+    ensures runs { MayRun result terms.now id device.now plan flush front.now
+        (record { link = record { turns = L.turns link.old; given = L.given link.old; taken = L.taken link.old; answers = C.answers clock.old }; left = S.left source.old })
+        (record { link = record { turns = L.turns link.new; given = L.given link.new; taken = L.taken link.new; answers = C.answers clock.new }; left = S.left source.new }) }
     ensures unwritten { result ≢ Err CopyRefusal.SinkFault }
     ensures count { L.faults link.old ≤ L.faults link.new }
     ensures link { Blamed (result ≡ Err (CopyRefusal.Tool ToolRefusal.LinkFault))
@@ -43,28 +54,44 @@ fn copy_in<S: Source, L: Link, C: Clock, W: Watch>(
     ensures source { Blamed (result ≡ Err CopyRefusal.SourceFault) (S.faults source.old)
         (S.faults source.new) }
 {
-    match Putting::new(alloc, ask.port, id, device, plan, front) {
-        Ok(mut putting) => putting.run(ask.turns, source, link, clock, watch),
+    match attach(
+        alloc,
+        terms.ask.port,
+        terms.life,
+        id,
+        device.port,
+        device.total,
+        device.max,
+    ) {
+        Ok(host) => Putting::new(alloc, host, plan, flush, front).run(
+            terms.ask.turns,
+            source,
+            link,
+            clock,
+            watch,
+        ),
         Err(NoMemory) => Err(CopyRefusal::Tool(ToolRefusal::NoMemory)),
     }
 }
 
 /// Copies an input with this front into a device, once it is found.
-fn put_longer<S: Source, L: Link, C: Clock, W: Watch>(
+fn put_front<S: Source, L: Link, C: Clock, W: Watch>(
     alloc: Global,
-    ask: &Ask,
+    terms: &Terms,
     id: TargetId,
     at: u64,
-    most: u32,
-    front: Blob,
+    flush: bool,
+    front: &[u8],
     source: &mut S,
     link: &mut L,
     clock: &mut C,
     watch: &mut W,
 ) -> Result<(), CopyRefusal>
-    requires some { 0 < most }
-    requires few { most ≤ 17 }
-    ensures run { Copies result ask.now id at most front
+    requires some { 0 < terms.now.most }
+    requires few { terms.now.most ≤ 17 }
+    requires requests { terms.now.life.requests.0 ≤ longest_lifetime }
+    requires responses { terms.now.life.responses.0 ≤ longest_lifetime }
+    ensures run { Copies result terms.now id at flush front.now
         (told C.least C.answers L.turns L.given L.taken clock.old clock.new link.old link.new)
         (S.left source.old) (S.left source.new) }
     ensures unwritten { result ≢ Err CopyRefusal.SinkFault }
@@ -76,11 +103,11 @@ fn put_longer<S: Source, L: Link, C: Clock, W: Watch>(
         (S.faults source.new) }
 {
     let first = clock.now();
-    let device = match look_up(ask, id, first, most, link) {
+    let device = match look_up(&terms.ask, id, first, terms.most, link) {
         Ok(device) => device,
         Err(refusal) => return Err(CopyRefusal::Tool(refusal)),
     };
-    let front_count = (front.bytes().len() / SECTOR_LEN) as u64;
+    let front_count = (front.len() / SECTOR_LEN) as u64;
     let plan = match plan_of(&device, at, None) {
         Some(plan) => plan,
         None => return Err(CopyRefusal::Tool(ToolRefusal::Refused(Refusal::Range))),
@@ -89,28 +116,33 @@ fn put_longer<S: Source, L: Link, C: Clock, W: Watch>(
         return Err(CopyRefusal::Tool(ToolRefusal::Refused(Refusal::Range)));
     }
     copy_in(
-        alloc, ask, id, &device, plan, front, source, link, clock, watch,
+        alloc, terms, id, &device, plan, flush, front, source, link, clock, watch,
     )
 }
 
-/// Writes what the source gives to the sectors of a device from `at` on, and flushes the device once
-/// all is acknowledged. An input of at most 16,777,216 bytes is read before anything is sent; a longer
-/// one is read on as commands are acknowledged. Of a longer one each command has as many sectors as
-/// the device takes, but at most `most`.
+/// Writes what the source gives to the sectors of a device from `at` on, and where `flush` is set
+/// flushes the device once all is acknowledged. The first 16,777,216 bytes are read before anything
+/// is sent, and what follows them as commands are acknowledged. A command has as many sectors as the
+/// device takes, but at most as many as the terms say. Where `verify` is set each sector is read again
+/// at the end, and compared with what was sent: an input of more than 16,777,216 bytes is refused then
+/// (`Limit`).
 pub fn put<S: Source, L: Link, C: Clock, W: Watch>(
     alloc: Global,
-    ask: &Ask,
+    terms: &Terms,
     id: TargetId,
     at: u64,
-    most: u32,
+    flush: bool,
+    verify: bool,
     source: &mut S,
     link: &mut L,
     clock: &mut C,
     watch: &mut W,
 ) -> Result<(), CopyRefusal>
-    requires some { 0 < most }
-    requires few { most ≤ 17 }
-    ensures run { PutsAll result ask.now id at most
+    requires some { 0 < terms.now.most }
+    requires few { terms.now.most ≤ 17 }
+    requires requests { terms.now.life.requests.0 ≤ longest_lifetime }
+    requires responses { terms.now.life.responses.0 ≤ longest_lifetime }
+    ensures run { Puts result terms.now id at flush verify
         (told C.least C.answers L.turns L.given L.taken clock.old clock.new link.old link.new)
         (S.left source.old) (S.left source.new) }
     ensures unwritten { result ≢ Err CopyRefusal.SinkFault }
@@ -122,10 +154,91 @@ pub fn put<S: Source, L: Link, C: Clock, W: Watch>(
         (S.faults source.new) }
 {
     match read_input(alloc, source) {
-        Ok(Input::Sectors(sectors)) => put_sectors(alloc, ask, id, at, sectors, false, link, clock),
-        Ok(Input::Longer(front)) => put_longer(
-            alloc, ask, id, at, most, front, source, link, clock, watch,
+        Ok(Input::Sectors(sectors)) if verify => put_again(
+            alloc,
+            terms,
+            id,
+            at,
+            flush,
+            sectors.bytes(),
+            source,
+            link,
+            clock,
+            watch,
+        ),
+        Ok(Input::Longer(_)) if verify => Err(CopyRefusal::Limit),
+        Ok(Input::Sectors(front)) => put_front(
+            alloc,
+            terms,
+            id,
+            at,
+            flush,
+            front.bytes(),
+            source,
+            link,
+            clock,
+            watch,
+        ),
+        Ok(Input::Longer(front)) => put_front(
+            alloc,
+            terms,
+            id,
+            at,
+            flush,
+            front.bytes(),
+            source,
+            link,
+            clock,
+            watch,
         ),
         Err(refusal) => Err(refusal),
     }
+}
+
+/// How a copy of nothing ends: as a tool ends.
+fn as_tool(ended: Result<(), CopyRefusal>) -> Result<(), ToolRefusal>
+    requires { (e : Refused) → ended ≡ Err e → (r : ToolRefused) × (e ≡ CopyRefusal.Tool r) }
+    ensures { IsToolEnd ended result }
+{
+    match ended {
+        Ok(()) => Ok(()),
+        Err(CopyRefusal::Tool(refusal)) => Err(refusal),
+        Err(CopyRefusal::Stream { .. }) => unreachable!(),
+        Err(CopyRefusal::Limit) => unreachable!(),
+        Err(CopyRefusal::SourceFault) => unreachable!(),
+        Err(CopyRefusal::SinkFault) => unreachable!(),
+    }
+}
+
+/// Flushes a device, so that what was written to it and acknowledged before lasts a loss of power of
+/// its shelf (ATA, FLUSH CACHE).
+pub fn flush<L: Link, C: Clock>(
+    alloc: Global,
+    terms: &Terms,
+    id: TargetId,
+    link: &mut L,
+    clock: &mut C,
+) -> Result<(), ToolRefusal>
+    requires some { 0 < terms.now.most }
+    requires few { terms.now.most ≤ 17 }
+    requires requests { terms.now.life.requests.0 ≤ longest_lifetime }
+    requires responses { terms.now.life.responses.0 ≤ longest_lifetime }
+    ensures run { Flushes result terms.now id
+        (told C.least C.answers L.turns L.given L.taken clock.old clock.new link.old link.new) }
+    ensures count { L.faults link.old ≤ L.faults link.new }
+    ensures link { Blamed (result ≡ Err ToolRefusal.LinkFault) (L.faults link.old)
+        (L.faults link.new) }
+{
+    as_tool(put_front(
+        alloc,
+        terms,
+        id,
+        0,
+        true,
+        &[],
+        &mut Nothing,
+        link,
+        clock,
+        &mut Unwatched,
+    ))
 }

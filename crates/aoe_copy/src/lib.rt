@@ -24,19 +24,25 @@
 //! off (`aoe_host_tests`, `copies`; `tests/tools`). No clause bounds its memory or its tags.
 #![tactic(auto)]
 
+mod again;
 mod copy;
 mod copying;
+mod end;
 mod feed;
 mod flying;
-mod host;
+mod input;
 mod into;
 mod law;
+mod nothing;
 mod plan;
 mod putting;
+mod terms;
 mod watch;
 mod window;
 
 pub use copy::get;
-pub use into::put;
+pub use end::CopyRefusal;
+pub use into::{flush, put};
 pub use law::{copied_law, put_law};
+pub use terms::Terms;
 pub use watch::Watch;

@@ -1,32 +1,33 @@
 //! A copy into a device, turn by turn.
-ghost use Rattle.std.specs.Prelude.{◌≡◌, ◌≢◌, ◌+◌, ◌*◌, ◌/◌, ◌%◌, ◌<◌, ◌≤◌, ◌^◌, ◌∷◌, ℕ, List, [], Option, Err, IfErr, IfOk, OnErr, OnOk, IfSome, is_err, length, true};
+ghost use Rattle.std.specs.Prelude.{◌≡◌, ◌≢◌, ◌+◌, ◌*◌, ◌/◌, ◌%◌, ◌<◌, ◌≤◌, ◌^◌, ◌∷◌, ℕ, List, [], Option, Ok, Err, IfErr, IfOk, OnErr, OnOk, IfSome, length, false, true};
 ghost use Rattle.aoe_base.specs.Faults.{Blamed};
+ghost use Rattle.aoe_block.specs.Answered.{IsStart};
+ghost use Rattle.aoe_block.specs.Steps.{has_ticked, outcomes, Drives, GoesOn, Seen};
 ghost use Rattle.aoe_initiator.specs.declared.outcome.Done.{Done};
 ghost use Rattle.aoe_initiator.specs.Host.{Matches};
 ghost use Rattle.aoe_initiator.specs.HostLog.{Event};
 ghost use Rattle.aoe_io.specs.Bytes.{GaveSome};
 ghost use Rattle.aoe_io.specs.Link.{Added};
-ghost use Rattle.aoe_tools.specs.TransferRun.{host_of};
-ghost use Rattle.aoe_tools.specs.TransferSteps.{HearsOne, IsUnused};
 ghost use Rattle.aoe_copy.specs.Copying.{InOrder, Takes};
 ghost use Rattle.aoe_copy.specs.Feed.{ahead};
-ghost use Rattle.aoe_copy.specs.PutRuns.{PutSeen, Runs};
-ghost use Rattle.aoe_copy.specs.PutSteps.{outcomes, GoesOn, PutStep};
-ghost use Rattle.aoe_copy.specs.Putting.{end_of, may_flush, may_read, reads_left, room_of, stage_behind, stage_past, Asks, Begins, Collects, FlushesOne, IsFit, IsPiece, Keeps, ReadsOn, Sends, Setting, Stands, Turns, WritesOne, WritesSome};
+ghost use Rattle.aoe_copy.specs.PutRuns.{PutSeen, PutSetting, Runs};
+ghost use Rattle.aoe_copy.specs.PutSteps.{PutStep};
+ghost use Rattle.aoe_copy.specs.Putting.{end_of, may_flush, may_read, reads_left, room_of, stage_behind, stage_past, Begins, Collects, FlushesOne, IsFit, IsPiece, Keeps, MayBegin, ReadsOn, Setting, Stands, Turns, WritesOne, WritesSome};
 ghost use Rattle.aoe_copy.specs.Window.{most_open};
 
 use crate::copying::Passed;
+use crate::end::{CopyRefusal, failure};
 use crate::feed::Feed;
 use crate::flying::Flying;
-use crate::host::{DEVICE, attach, hear};
 use crate::plan::Plan;
 use crate::watch::Watch;
 use crate::window::MAX_OPEN;
-use aoe_base::{Blob, Failed, Mac, Millis, NoMemory, SECTOR_LEN, TargetId};
+use aoe_base::{Blob, Failed, Millis, NoMemory, SECTOR_LEN};
+use aoe_block::{DEVICE, exchange};
 use aoe_frame::Frame;
 use aoe_initiator::{Initiator, Op};
 use aoe_io::{Clock, Link, Source};
-use aoe_tools::{CopyRefusal, Device, Refusal, ToolRefusal, failure};
+use aoe_tools::{Refusal, ToolRefusal};
 use std::alloc::Global;
 
 /// What is left to do.
@@ -35,13 +36,13 @@ pub(crate) enum Stage {
     /// To read the input on.
     Reading,
 
-    /// The input ended: to flush, once all is acknowledged.
+    /// The input ended: to flush, once all is acknowledged, where that is asked for.
     Ended,
 
     /// It ended within a sector: to say so, once all before it is acknowledged.
     Broken,
 
-    /// It goes on behind the last sector of the device: to say so, once all is acknowledged.
+    /// It goes on after the last sector of the device: to say so, once all is acknowledged.
     Beyond,
 
     /// The flush is under way.
@@ -72,11 +73,18 @@ fn stage_past(rest: usize) -> Stage
 
 /// A host that writes to sectors of one device in their order.
 #[derive(Drop)]
-pub(crate) struct Putting {
+pub(crate) struct Putting<'a> {
     alloc: Global,
     host: Initiator,
     plan: Plan,
-    feed: Feed,
+
+    /// Whether the device is flushed at the end.
+    flush: bool,
+
+    feed: Feed<'a>,
+
+    /// How many commands were submitted.
+    asked: u64,
 
     /// How many sectors were submitted.
     reached: u64,
@@ -86,36 +94,49 @@ pub(crate) struct Putting {
     flying: Flying,
 }
 
-impl Putting {
-    /// A host with one port, attached to a device at one port, for an input with this front.
+impl<'a> Putting<'a> {
+    /// A copy of an input with this front by a host that is attached to the one device, and did
+    /// nothing yet.
     pub(crate) fn new(
         alloc: Global,
-        port: Mac,
-        id: TargetId,
-        device: &Device,
+        host: Initiator,
         plan: Plan,
-        front: Blob,
-    ) -> Result<Putting, NoMemory>
-        requires total { device.now.total ≤ 2 ^ 48 }
-        requires some { 0 < device.now.max }
-        requires max { device.now.max ≤ 17 }
-        requires same { plan.max ≡ device.now.max }
-        requires within { plan.at + plan.count ≤ device.now.total }
-        ensures fit { IfOk result IsFit }
-        ensures waiting { IfOk result (λ x. x.host.waiting ≡ []) }
-        ensures new { IfOk result (λ x. x.host.last_ticket ≡ 0) }
-        ensures begins { IfOk result (Begins (host_of port id device.now) plan front) }
+        flush: bool,
+        front: &'a [u8],
+    ) -> Putting<'a>
+        requires attached { length host.devices ≡ 1 }
+        requires new { host.last_ticket ≡ 0 }
+        requires small { plan.at + plan.count ≤ 2 ^ 48 }
+        requires some { 0 < plan.max }
+        requires max { plan.max ≤ 17 }
+        ensures fit { IsFit result }
+        ensures host { result.host ≡ host }
+        ensures begins { (log : List Event) (turns : ℕ) → IsStart (record { host = host; log = log })
+            → Begins (record { start = record { host = host; log = log }; plan = plan; flush = flush; turns = turns; front = front.now }) result }
     {
-        let host = attach(alloc, port, id, device)?;
-        Ok(Putting {
+        Putting {
             alloc,
             host,
             plan,
+            flush,
             feed: Feed::new(front),
+            asked: 0,
             reached: 0,
             stage: Stage::Reading,
             flying: Flying::new(),
-        })
+        }
+    }
+
+    /// The host, and how many tickets it gave.
+    pub(crate) fn into_host(self) -> (Initiator, u64)
+        requires { IsFit self }
+        ensures host { result.0 ≡ self.entry.host }
+        ensures asked { result.1 ≡ self.entry.host.last_ticket }
+        ensures few { result.1 ≤ 2 ^ 49 }
+        ensures attached { length self.entry.host.devices ≡ 1 }
+    {
+        let Putting { host, asked, .. } = self;
+        (host, asked)
     }
 
     /// Takes the outcomes that wait, up to the first that ends the copy.
@@ -143,14 +164,16 @@ impl Putting {
     /// Whether all is written and flushed; or why it isn't and won't be.
     fn end(&self) -> Result<bool, CopyRefusal>
         requires { IsFit self.now }
-        ensures { result ≡ end_of self.now }
+        ensures end { result ≡ end_of self.now }
+        ensures link { result ≢ Err (CopyRefusal.Tool ToolRefusal.LinkFault) }
+        ensures source { result ≢ Err CopyRefusal.SourceFault }
     {
         if self.host.unfinished() > 0 {
             return Ok(false);
         }
         match self.stage {
             Stage::Reading => Ok(false),
-            Stage::Ended => Ok(false),
+            Stage::Ended => Ok(!self.flush),
             Stage::Broken => Err(CopyRefusal::Stream {
                 offset: SECTOR_LEN as u64 * self.reached,
             }),
@@ -174,7 +197,7 @@ impl Putting {
         ensures { result ≡ may_flush self.now }
     {
         match self.stage {
-            Stage::Ended => self.host.unfinished() == 0,
+            Stage::Ended => self.flush && self.host.unfinished() == 0,
             Stage::Reading | Stage::Broken | Stage::Beyond | Stage::Flushing => false,
         }
     }
@@ -240,6 +263,7 @@ impl Putting {
             Ok(ticket) => self.flying.add(ticket),
             Err(_) => return Err(CopyRefusal::Tool(ToolRefusal::NoMemory)),
         }
+        self.asked += 1;
         self.reached += count as u64;
         Ok(())
     }
@@ -290,10 +314,10 @@ impl Putting {
         ensures fit { OnOk result (IsFit self.new) }
         ensures waiting { OnOk result (self.new.host.waiting ≡ self.old.host.waiting) }
         ensures less { OnOk result (reads_left self.new < reads_left self.old) }
-        ensures reads { (c : Setting) (turns : ℕ) (seen : PutSeen) (steps : List PutStep)
-            → Stands c (record seen { left = S.left source.old }) (ahead self.old.feed) steps
-            → Keeps c steps self.old → GoesOn steps
-            → ReadsOn result c turns (record seen { left = S.left source.new }) steps self.new }
+        ensures reads { (c : Setting) (seen : Seen) (steps : List PutStep)
+            → Stands c (record { link = seen; left = S.left source.old }) (ahead self.old.feed) steps
+            → Keeps c steps self.old → GoesOn steps → has_ticked steps ≡ true
+            → ReadsOn result c (record { link = seen; left = S.left source.new }) steps self.new }
         ensures link { result ≢ Err (CopyRefusal.Tool ToolRefusal.LinkFault) }
         ensures count { S.faults source.old ≤ S.faults source.new }
         ensures source { Blamed (result ≡ Err CopyRefusal.SourceFault) (S.faults source.old)
@@ -315,10 +339,10 @@ impl Putting {
         ensures fit { OnOk result (IsFit self.new) }
         ensures waiting { OnOk result (self.new.host.waiting ≡ self.old.host.waiting) }
         ensures less { OnOk result (reads_left self.new < reads_left self.old) }
-        ensures reads { (c : Setting) (turns : ℕ) (seen : PutSeen) (steps : List PutStep)
-            → Stands c (record seen { left = S.left source.old }) (ahead self.old.feed) steps
-            → Keeps c steps self.old → GoesOn steps
-            → ReadsOn result c turns (record seen { left = S.left source.new }) steps self.new }
+        ensures reads { (c : Setting) (seen : Seen) (steps : List PutStep)
+            → Stands c (record { link = seen; left = S.left source.old }) (ahead self.old.feed) steps
+            → Keeps c steps self.old → GoesOn steps → has_ticked steps ≡ true
+            → ReadsOn result c (record { link = seen; left = S.left source.new }) steps self.new }
         ensures link { result ≢ Err (CopyRefusal.Tool ToolRefusal.LinkFault) }
         ensures count { S.faults source.old ≤ S.faults source.new }
         ensures source { Blamed (result ≡ Err CopyRefusal.SourceFault) (S.faults source.old)
@@ -340,10 +364,10 @@ impl Putting {
         ensures fit { OnOk result (IsFit self.new) }
         ensures waiting { OnOk result (self.new.host.waiting ≡ self.old.host.waiting) }
         ensures less { OnOk result (reads_left self.new < reads_left self.old) }
-        ensures reads { (c : Setting) (turns : ℕ) (seen : PutSeen) (steps : List PutStep)
-            → Stands c (record seen { left = S.left source.old }) (ahead self.old.feed) steps
-            → Keeps c steps self.old → GoesOn steps
-            → ReadsOn result c turns (record seen { left = S.left source.new }) steps self.new }
+        ensures reads { (c : Setting) (seen : Seen) (steps : List PutStep)
+            → Stands c (record { link = seen; left = S.left source.old }) (ahead self.old.feed) steps
+            → Keeps c steps self.old → GoesOn steps → has_ticked steps ≡ true
+            → ReadsOn result c (record { link = seen; left = S.left source.new }) steps self.new }
         ensures link { result ≢ Err (CopyRefusal.Tool ToolRefusal.LinkFault) }
         ensures count { S.faults source.old ≤ S.faults source.new }
         ensures source { Blamed (result ≡ Err CopyRefusal.SourceFault) (S.faults source.old)
@@ -366,6 +390,7 @@ impl Putting {
             Ok(ticket) => self.flying.add(ticket),
             Err(_) => return Err(NoMemory),
         }
+        self.asked += 1;
         self.stage = Stage::Flushing;
         Ok(())
     }
@@ -377,10 +402,10 @@ impl Putting {
         ensures fit { OnOk result (IsFit self.new) }
         ensures waiting { OnOk result (self.new.host.waiting ≡ self.old.host.waiting) }
         ensures done { OnOk result (may_read self.new ≢ true) }
-        ensures reads { (c : Setting) (turns : ℕ) (seen : PutSeen) (steps : List PutStep)
-            → Stands c (record seen { left = S.left source.old }) (ahead self.old.feed) steps
-            → Keeps c steps self.old → GoesOn steps
-            → ReadsOn result c turns (record seen { left = S.left source.new }) steps self.new }
+        ensures reads { (c : Setting) (seen : Seen) (steps : List PutStep)
+            → Stands c (record { link = seen; left = S.left source.old }) (ahead self.old.feed) steps
+            → Keeps c steps self.old → GoesOn steps → has_ticked steps ≡ true
+            → ReadsOn result c (record { link = seen; left = S.left source.new }) steps self.new }
         ensures link { result ≢ Err (CopyRefusal.Tool ToolRefusal.LinkFault) }
         ensures count { S.faults source.old ≤ S.faults source.new }
         ensures source { Blamed (result ≡ Err CopyRefusal.SourceFault) (S.faults source.old)
@@ -395,16 +420,18 @@ impl Putting {
         Ok(())
     }
 
-    /// Submits commands, as many as may be: writes of what the source gives, and the flush behind
+    /// Submits commands, as many as may be: writes of what the source gives, and the flush after
     /// them.
     fn ask_all<S: Source>(&mut self, source: &mut S) -> Result<(), CopyRefusal>
         requires fit { IsFit self.old }
         ensures fit { OnOk result (IsFit self.new) }
         ensures waiting { OnOk result (self.new.host.waiting ≡ self.old.host.waiting) }
-        ensures asks { (c : Setting) (turns : ℕ) (seen : PutSeen) (steps : List PutStep)
-            → Stands c (record seen { left = S.left source.old }) (ahead self.old.feed) steps
-            → Keeps c steps self.old → GoesOn steps
-            → Asks result c turns (record seen { left = S.left source.new }) steps self.new }
+        ensures read { OnOk result (may_read self.new ≢ true) }
+        ensures flushed { OnOk result (may_flush self.new ≡ false) }
+        ensures asks { (c : Setting) (seen : Seen) (steps : List PutStep)
+            → Stands c (record { link = seen; left = S.left source.old }) (ahead self.old.feed) steps
+            → Keeps c steps self.old → GoesOn steps → has_ticked steps ≡ true
+            → ReadsOn result c (record { link = seen; left = S.left source.new }) steps self.new }
         ensures link { result ≢ Err (CopyRefusal.Tool ToolRefusal.LinkFault) }
         ensures count { S.faults source.old ≤ S.faults source.new }
         ensures source { Blamed (result ≡ Err CopyRefusal.SourceFault) (S.faults source.old)
@@ -423,50 +450,54 @@ impl Putting {
         }
     }
 
-    /// Sends frames as long as one may be sent, up to as many as there are commands.
-    fn send_all<L: Link>(&mut self, link: &mut L, frame: &mut Frame) -> Result<(), Failed>
+    /// The last part of a turn: frames go out, and one may come.
+    fn exchange<L: Link>(&mut self, link: &mut L, frame: &mut Frame) -> Result<Passed, CopyRefusal>
         requires fit { IsFit self.old }
-        ensures fit { IsFit self.new }
-        ensures waiting { self.new.host.waiting ≡ self.old.host.waiting }
-        ensures sends { (c : Setting) (turns : ℕ) (seen : PutSeen) (steps : List PutStep)
-            → Stands c (record seen { taken = L.taken link.old }) (ahead self.old.feed) steps
-            → Keeps c steps self.old → GoesOn steps
-            → Sends result c turns (record seen { taken = L.taken link.new }) steps self.new }
-        ensures given { L.given link.new ≡ L.given link.old }
-        ensures turns { L.turns link.new ≡ L.turns link.old }
+        requires waiting { self.old.host.waiting ≡ [] }
+        requires read { may_read self.old ≢ true }
+        requires flushed { may_flush self.old ≡ false }
+        requires more { end_of self.old ≡ Ok false }
+        ensures fit { OnOk result (IsFit self.new) }
+        ensures source { result ≢ Err CopyRefusal.SourceFault }
+        ensures exchanges { (c : Setting) (answers left : Option (List ℕ)) (steps : List PutStep)
+            → Stands c (record { link = record { turns = L.turns link.old; given = L.given link.old; taken = L.taken link.old; answers = answers }; left = left }) (ahead self.old.feed) steps
+            → Keeps c steps self.old → GoesOn steps → has_ticked steps ≡ true
+            → Turns result c (record { link = record { turns = L.turns link.new; given = L.given link.new; taken = L.taken link.new; answers = answers }; left = left }) steps self.new }
         ensures count { L.faults link.old ≤ L.faults link.new }
-        ensures link { Blamed (is_err result ≡ true) (L.faults link.old) (L.faults link.new) }
+        ensures link { Blamed (result ≡ Err (CopyRefusal.Tool ToolRefusal.LinkFault))
+            (L.faults link.old) (L.faults link.new) }
     {
-        for _ in 0..MAX_OPEN {
-            if self.host.pull(frame).is_none() {
-                return Ok(());
-            }
-            match link.send(frame.as_slice()) {
-                Ok(()) => {}
-                Err(Failed) => return Err(Failed),
-            }
+        match exchange(&mut self.host, link, frame, MAX_OPEN) {
+            Ok(true) => Ok(Passed::Answered),
+            Ok(false) => Ok(Passed::Quiet),
+            Err(Failed) => Err(CopyRefusal::Tool(ToolRefusal::LinkFault)),
         }
-        Ok(())
     }
 
-    /// Takes what one turn of the link brings: whether it ended a command.
-    fn hear<L: Link>(&mut self, link: &mut L, frame: &mut Frame) -> Result<bool, Failed>
+    /// The first part of a turn, which begins at a time: outcomes are taken.
+    fn collect(&mut self, now: u64, turns: u32) -> Result<(), CopyRefusal>
         requires fit { IsFit self.old }
         ensures fit { OnOk result (IsFit self.new) }
-        ensures one { IfOk result (λ finished. HearsOne finished self.old.host self.new.host
-            (L.turns link.old) (L.turns link.new) (L.given link.old) (L.given link.new)) }
-        ensures same { self.new ≡ record self.old { host = self.new.host } }
-        ensures taken { L.taken link.new ≡ L.taken link.old }
-        ensures err { OnErr result (IsUnused (L.turns link.old) (L.turns link.new)
-            (L.given link.old) (L.given link.new)) }
-        ensures count { L.faults link.old ≤ L.faults link.new }
-        ensures link { Blamed (is_err result ≡ true) (L.faults link.old) (L.faults link.new) }
+        ensures waiting { OnOk result (self.new.host.waiting ≡ []) }
+        ensures link { result ≢ Err (CopyRefusal.Tool ToolRefusal.LinkFault) }
+        ensures source { result ≢ Err CopyRefusal.SourceFault }
+        ensures collects { (c : Setting) (seen : Seen) (left later : Option (List ℕ))
+            (steps : List PutStep) → IfSome later (λ _. Added seen.answers later (now ∷ []))
+            → Stands c (record { link = seen; left = left }) (ahead self.old.feed) steps
+            → Keeps c steps self.old → InOrder self.old.host.waiting (outcomes steps)
+            → MayBegin c turns steps
+            → Collects result c (record { link = record seen { answers = later }; left = left }) steps self.new }
     {
-        hear(&mut self.host, link, frame)
+        self.host.advance(Millis(now));
+        match self.take_all(turns) {
+            Ok(()) => Ok(()),
+            Err(refusal) => Err(CopyRefusal::Tool(refusal)),
+        }
     }
 
-    /// The second part of a turn: commands are submitted, frames go out, and one may come.
-    fn exchange<S: Source, L: Link>(
+    /// The rest of a turn: commands are submitted, and unless all is done frames go out, and one may
+    /// come.
+    fn go_on<S: Source, L: Link>(
         &mut self,
         source: &mut S,
         link: &mut L,
@@ -475,10 +506,10 @@ impl Putting {
         requires fit { IsFit self.old }
         requires waiting { self.old.host.waiting ≡ [] }
         ensures fit { OnOk result (IsFit self.new) }
-        ensures exchanges { (c : Setting) (turns : ℕ) (seen : PutSeen) (steps : List PutStep)
-            → Stands c (record seen { turns = L.turns link.old; given = L.given link.old; taken = L.taken link.old; left = S.left source.old }) (ahead self.old.feed) steps
-            → Keeps c steps self.old → GoesOn steps
-            → Turns result c turns (record seen { turns = L.turns link.new; given = L.given link.new; taken = L.taken link.new; left = S.left source.new }) steps self.new }
+        ensures goes { (c : Setting) (answers : Option (List ℕ)) (steps : List PutStep)
+            → Stands c (record { link = record { turns = L.turns link.old; given = L.given link.old; taken = L.taken link.old; answers = answers }; left = S.left source.old }) (ahead self.old.feed) steps
+            → Keeps c steps self.old → GoesOn steps → has_ticked steps ≡ true
+            → Turns result c (record { link = record { turns = L.turns link.new; given = L.given link.new; taken = L.taken link.new; answers = answers }; left = S.left source.new }) steps self.new }
         ensures count { L.faults link.old ≤ L.faults link.new }
         ensures link { Blamed (result ≡ Err (CopyRefusal.Tool ToolRefusal.LinkFault))
             (L.faults link.old) (L.faults link.new) }
@@ -490,35 +521,10 @@ impl Putting {
             Ok(()) => {}
             Err(refusal) => return Err(refusal),
         }
-        match self.send_all(link, frame) {
-            Ok(()) => {}
-            Err(Failed) => return Err(CopyRefusal::Tool(ToolRefusal::LinkFault)),
-        }
-        match self.hear(link, frame) {
-            Ok(true) => Ok(Passed::Answered),
-            Ok(false) => Ok(Passed::Quiet),
-            Err(Failed) => Err(CopyRefusal::Tool(ToolRefusal::LinkFault)),
-        }
-    }
-
-    /// The first part of a turn, which begins at a time: outcomes are taken. Whether all is written
-    /// and flushed.
-    fn collect(&mut self, now: u64, turns: u32) -> Result<bool, CopyRefusal>
-        requires fit { IsFit self.old }
-        ensures fit { OnOk result (IsFit self.new) }
-        ensures waiting { OnOk result (self.new.host.waiting ≡ []) }
-        ensures link { result ≢ Err (CopyRefusal.Tool ToolRefusal.LinkFault) }
-        ensures source { result ≢ Err CopyRefusal.SourceFault }
-        ensures collects { (c : Setting) (seen : PutSeen) (later : Option (List ℕ))
-            (steps : List PutStep) → IfSome later (λ _. Added seen.answers later (now ∷ []))
-            → Stands c seen (ahead self.old.feed) steps
-            → Keeps c steps self.old → InOrder self.old.host.waiting (outcomes steps)
-            → Collects result c turns (record seen { answers = later }) steps self.new }
-    {
-        self.host.advance(Millis(now));
-        match self.take_all(turns) {
-            Ok(()) => self.end(),
-            Err(refusal) => Err(CopyRefusal::Tool(refusal)),
+        match self.end() {
+            Ok(true) => Ok(Passed::Over),
+            Ok(false) => self.exchange(link, frame),
+            Err(refusal) => Err(refusal),
         }
     }
 
@@ -548,11 +554,12 @@ impl Putting {
     ) -> Result<Passed, CopyRefusal>
         requires fit { IsFit self.old }
         ensures fit { OnOk result (IsFit self.new) }
-        ensures turn { (c : Setting) (seen : PutSeen) (later : Option (List ℕ))
-            (steps : List PutStep) → IfSome later (λ _. Added seen.answers later (now ∷ []))
-            → Stands c (record { turns = L.turns link.old; given = L.given link.old; taken = L.taken link.old; answers = seen.answers; left = S.left source.old }) (ahead self.old.feed) steps
+        ensures turn { (c : Setting) (answers later : Option (List ℕ))
+            (steps : List PutStep) → IfSome later (λ _. Added answers later (now ∷ []))
+            → Stands c (record { link = record { turns = L.turns link.old; given = L.given link.old; taken = L.taken link.old; answers = answers }; left = S.left source.old }) (ahead self.old.feed) steps
             → Keeps c steps self.old → InOrder self.old.host.waiting (outcomes steps)
-            → Turns result c turns (record { turns = L.turns link.new; given = L.given link.new; taken = L.taken link.new; answers = later; left = S.left source.new }) steps self.new }
+            → MayBegin c turns steps
+            → Turns result c (record { link = record { turns = L.turns link.new; given = L.given link.new; taken = L.taken link.new; answers = later }; left = S.left source.new }) steps self.new }
         ensures count { L.faults link.old ≤ L.faults link.new }
         ensures link { Blamed (result ≡ Err (CopyRefusal.Tool ToolRefusal.LinkFault))
             (L.faults link.old) (L.faults link.new) }
@@ -567,8 +574,7 @@ impl Putting {
             watch.reached(reached);
         }
         match collected {
-            Ok(true) => Ok(Passed::Over),
-            Ok(false) => self.exchange(source, link, frame),
+            Ok(()) => self.go_on(source, link, frame),
             Err(refusal) => Err(refusal),
         }
     }
@@ -583,12 +589,17 @@ impl Putting {
         watch: &mut W,
     ) -> Result<(), CopyRefusal>
         requires fit { IsFit self.old }
-        requires begins { Begins self.old.host self.old.plan (ahead self.old.feed) self.old }
+        requires begins { (c : PutSetting) × Begins c self.old × (c.turns ≡ turns) }
         requires waiting { self.old.host.waiting ≡ [] }
-        requires new { self.old.host.last_ticket ≡ 0 }
-        ensures run { Runs result self.old.host self.old.plan turns (ahead self.old.feed)
-            (record { turns = L.turns link.old; given = L.given link.old; taken = L.taken link.old; answers = C.answers clock.old; left = S.left source.old })
-            (record { turns = L.turns link.new; given = L.given link.new; taken = L.taken link.new; answers = C.answers clock.new; left = S.left source.new }) }
+        ensures fit { OnOk result (IsFit self.new) }
+        ensures run { (c : PutSetting) → Begins c self.old → c.turns ≡ turns → Runs result c
+            (record { link = record { turns = L.turns link.old; given = L.given link.old; taken = L.taken link.old; answers = C.answers clock.old }; left = S.left source.old })
+            (record { link = record { turns = L.turns link.new; given = L.given link.new; taken = L.taken link.new; answers = C.answers clock.new }; left = S.left source.new }) }
+        ensures ran { OnOk result ((c : PutSetting) → Begins c self.old → c.turns ≡ turns → (r : Runs (Ok record {}) c
+            (record { link = record { turns = L.turns link.old; given = L.given link.old; taken = L.taken link.old; answers = C.answers clock.old }; left = S.left source.old })
+            (record { link = record { turns = L.turns link.new; given = L.given link.new; taken = L.taken link.new; answers = C.answers clock.new }; left = S.left source.new }))
+            × Drives c.start r.steps self.new.host × (self.new.host.waiting ≡ [])) }
+        ensures sink { result ≢ Err CopyRefusal.SinkFault }
         ensures count { L.faults link.old ≤ L.faults link.new }
         ensures link { Blamed (result ≡ Err (CopyRefusal.Tool ToolRefusal.LinkFault))
             (L.faults link.old) (L.faults link.new) }

@@ -10,3 +10,13 @@ pub trait Watch {
     /// one into it as far as the device acknowledged.
     fn reached(&mut self, sectors: u64);
 }
+
+/// Nobody is told.
+#[derive(Drop)]
+pub(crate) struct Unwatched;
+
+impl Watch for Unwatched {
+    fn planned(&mut self, sectors: u64) {}
+
+    fn reached(&mut self, sectors: u64) {}
+}

@@ -2,7 +2,7 @@
 ghost use Rattle.std.specs.Prelude.{◌≡◌, ◌≢◌, ◌+◌, ◌^◌, ◌<◌, ◌≤◌, ◌⊎◌, ◌∷◌, ◌++◌, ℕ, suc, List, [], None, length, Contains, Err, IfErr, IfNone, IfSome, OnOk, Some, false, is_err, true};
 ghost use Rattle.aoe_base.specs.Faults.{Blamed};
 ghost use Rattle.aoe_initiator.specs.declared.outcome.Done.{Done as Ended};
-ghost use Rattle.aoe_tools.specs.TransferCourse.{failure};
+ghost use Rattle.aoe_copy.specs.Ending.{failure};
 ghost use Rattle.aoe_copy.specs.Window.{is_ready, read_done, AreThere, GivesSome, HasAll, IsAsLong, IsTaken};
 
 use aoe_base::{Blob, Failed, NoMemory, Ticket};
@@ -19,7 +19,7 @@ pub(crate) const MAX_OPEN: u64 = 8;
 /// The commands behind those whose sectors were given to the sink, in the order of their tickets.
 #[derive(Drop)]
 pub(crate) struct Window {
-    /// How many commands' sectors were given: the last ticket of these.
+    /// The last ticket of those whose sectors were given.
     given: u64,
 
     /// The sectors of each command behind them, where they came.
@@ -27,18 +27,18 @@ pub(crate) struct Window {
 }
 
 impl Window {
-    /// No command.
-    pub(crate) fn new(alloc: Global) -> Window
-        ensures given { result.given ≡ 0 }
+    /// No command after those with a ticket up to this one.
+    pub(crate) fn new(alloc: Global, given: u64) -> Window
+        ensures given { result.given ≡ given }
         ensures slots { result.slots.items ≡ [] }
     {
         Window {
-            given: 0,
+            given,
             slots: Vec::new(alloc),
         }
     }
 
-    /// How many commands' sectors were given to the sink.
+    /// The last ticket of the commands whose sectors were given to the sink.
     pub(crate) fn given(&self) -> u64 {
         self.given
     }

@@ -53,9 +53,9 @@ abbrev pub with_args : List ℕ → Result Reply ToolRefusal → Result Response
 with_args frame (Ok r) = Ok record { reply = r; args = drop 24 frame }
 with_args frame (Err e) = Err e
 
--- the turns that a request of a look-up waits: as many as a tool has, but no more than 50, those of `discover` where nothing is said of it
+-- the turns that a request of a look-up waits: as many as a tool has, but no more than 300, three seconds on a link where nothing comes
 abbrev pub look_up_turns : Ask → ℕ
-look_up_turns ask = min ask.turns 50
+look_up_turns ask = min ask.turns 300
 
 -- how many sectors a command has at most: as many as the device says (AoEr11, "Query Config Information", Sector Count), but one at
 -- least, and no more than a number

@@ -7,7 +7,7 @@
 //! - [`cfg`], [`mask`] and [`reserve`] read or change the config string and the lists of one
 //!   device, and give the arguments of its response.
 //! - [`look_up`] finds the device that a copy goes to: where it is, how many sectors a command to it
-//!   has at most, and how many sectors there are. Each of its two requests has 50 turns at most.
+//!   has at most, and how many sectors there are. Each of its two requests has 300 turns at most.
 //! - [`print_found`], [`print_stat`], [`print_config`], [`print_masks`] and [`print_reserves`] then
 //!   make the text of an answer. A refusal has the exit status and the text of the program (`code`,
 //!   `text`); two of a [`Refusal`]'s kinds, of a range and of a sector that differs, are those of a

@@ -15,9 +15,9 @@ use aoe_frame::{Frame, HEADER_LEN};
 use aoe_initiator::{Op, write_request};
 use aoe_io::Link;
 
-/// How many turns a request of a look-up waits at most: as many as `discover` where nothing is said of
-/// it.
-const LOOK_UP_TURNS: u32 = 50;
+/// How many turns a request of a look-up waits at most: three seconds on a link where nothing comes,
+/// since a turn waits 10 ms there.
+const LOOK_UP_TURNS: u32 = 300;
 
 /// A device that answered.
 #[derive(Clone, Copy, PartialEq, Eq)]
@@ -113,7 +113,7 @@ fn find_total<L: Link>(
 }
 
 /// Finds a device: where it is, and how long. A command to it has at most `most` sectors. Each of the
-/// two requests waits as many turns as `ask_by` says, but no more than 50.
+/// two requests waits as many turns as `ask_by` says, but no more than 300.
 pub fn look_up<L: Link>(
     ask_by: &Ask,
     id: TargetId,

@@ -9,7 +9,7 @@ returns-in-Err-clause-run g c = record {
   found = _;
   mid = _;
   finds = c.in-Err.ensures.finds;
-  copies = (refl, record { turns = refl; given = refl; taken = refl; answers = refl; held = refl });
+  copies = (refl, refl);
 }
 
 pub returns-in-Some-clause-run : goal.returns-in-Some-clause-run
@@ -31,5 +31,5 @@ returns-in-None-clause-run g c = record {
   found = _;
   mid = _;
   finds = c.in-Ok.ensures.finds;
-  copies = inl (c.in-None.ensures.none, refl, record { turns = refl; given = refl; taken = refl; answers = refl; held = refl });
+  copies = inl (c.in-None.ensures.none, refl, refl);
 }

@@ -11,6 +11,7 @@ outcomes-init c = record {
   host = refl;
   plan = refl;
   reached = refl;
+  before = refl;
   window = record { given_is = refl; length_is = refl };
   matches = λ log m. m;
 }
@@ -43,6 +44,7 @@ outcomes-preserved c =
       host = c.in-Some.ensures.same ∙ ap (λ (h : Host). record h { waiting = c.take_done.new.self.waiting }) i.host;
       plan = i.plan;
       reached = i.reached;
+      before = i.before;
       window = record { given_is = c.settle.ensures.same.given_is ∙ i.window.given_is; length_is = c.settle.ensures.same.length_is ∙ i.window.length_is };
       matches = λ log m. c.take_done.ensures.matches log (i.matches log m);
     }

@@ -17,6 +17,7 @@ invariant-outcomes l = record {
   host : l.self.host ≡ record l.fn.self.host { waiting = l.self.host.waiting };
   plan : l.self.plan ≡ l.fn.self.plan;
   reached : l.self.reached ≡ l.fn.self.reached;
+  before : l.self.before ≡ l.fn.self.before;
   window : IsAsLong l.fn.self.window l.self.window;
   matches : (log : List Event) → Matches log l.fn.self.host → Matches log l.self.host;
 }

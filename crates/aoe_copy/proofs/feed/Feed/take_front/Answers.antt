@@ -5,6 +5,6 @@ use Rattle.aoe_copy.proofs.feed.Feed.take_front.Goals as goal
 
 pub returns-clause-took : goal.returns-clause-took
 returns-clause-took c =
-    front-took c.args.self.now.front c.copy_from_slice.new.self _ c.args.self.now.used c.min-n.result
+    front-took c.args.self.now.front.now c.copy_from_slice.new.self _ c.args.self.now.used c.min-n.result
     (omega (arith, c.copy_from_slice.ensures.len, c.min-n.ensures, length-take c.min-n.result c.args.out.now))
-    (rw c.bytes.ensures at c.copy_from_slice.ensures.after)
+    c.copy_from_slice.ensures.after

@@ -4,11 +4,11 @@ use Rattle.aoe_copy.proofs.PutStepLemmas.{ends-unread, may-read, past-more, room
 use Rattle.aoe_copy.proofs.putting.Putting.look_behind.Goals as goal
 
 pub returns-in-Ok-clause-reads : goal.returns-in-Ok-clause-reads
-returns-in-Ok-clause-reads g c = λ s turns seen steps stands keeps well.
+returns-in-Ok-clause-reads g c = λ s seen steps stands keeps well ticked.
     let may = may-read stands keeps c.requires.may in
-    past-more seen _ stands may.reads well c.in-Ok.ensures.piece refl may (sym (room-is keeps) ∙ c.requires.none) keeps
+    past-more _ stands may.reads well ticked c.in-Ok.ensures.piece refl may (sym (room-is keeps) ∙ c.requires.none) keeps
     (ap (λ (z : Putting). record z { stage = c.stage_past-self.result }) c.in-Ok.ensures.same) (rw c.bytes.ensures at c.stage_past-self.ensures)
 
 pub returns-in-Err-clause-reads : goal.returns-in-Err-clause-reads
-returns-in-Err-clause-reads g c = λ s turns seen steps stands keeps well.
-    ends-unread seen turns c.in-Err.refusal stands well (may-read stands keeps c.requires.may) c.in-Err.ensures.failed c.in-Err.ensures.memory
+returns-in-Err-clause-reads g c = λ s seen steps stands keeps well ticked.
+    ends-unread c.in-Err.refusal stands well (may-read stands keeps c.requires.may) c.in-Err.ensures.failed c.in-Err.ensures.memory

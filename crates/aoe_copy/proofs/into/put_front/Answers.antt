@@ -1,6 +1,6 @@
 use Rattle.std.proofs.Common.{ℕ, List, length, ap, inl, inr, refl, arith}
 use Rattle.aoe_copy.specs.declared.plan.Plan.{Plan}
-use Rattle.aoe_copy.proofs.into.put_longer.Goals as goal
+use Rattle.aoe_copy.proofs.into.put_front.Goals as goal
 
 pub returns-in-Err-clause-run : goal.returns-in-Err-clause-run
 returns-in-Err-clause-run g c = record {
@@ -10,7 +10,7 @@ returns-in-Err-clause-run g c = record {
   found = _;
   mid = _;
   finds = c.in-Err.ensures.finds;
-  copies = (refl, record { turns = refl; given = refl; taken = refl; answers = refl; left = refl });
+  copies = (refl, refl);
 }
 
 pub returns-in-None-clause-run : goal.returns-in-None-clause-run
@@ -21,8 +21,7 @@ returns-in-None-clause-run g c = record {
   found = _;
   mid = _;
   finds = c.in-Ok.ensures.finds;
-  copies =
-      inl (omega (arith, c.in-None.ensures.none), refl, record { turns = refl; given = refl; taken = refl; answers = refl; left = refl });
+  copies = inl (omega (arith, c.in-None.ensures.none), refl, refl);
 }
 
 pub returns-then-front_count-plan-clause-run : goal.returns-then-front_count-plan-clause-run
@@ -33,14 +32,8 @@ returns-then-front_count-plan-clause-run g c = record {
   found = _;
   mid = _;
   finds = c.in-Ok.ensures.finds;
-  copies =
-      let plan = c.in-Some.ensures.some in
-      let long = ap (λ (l : List ℕ). length l) c.bytes.ensures in
-      inl (
-        omega (arith, plan.1, ap (λ (p : Plan). p.count) plan.0, c.if-front_count-plan.true, long),
-        refl,
-        record { turns = refl; given = refl; taken = refl; answers = refl; left = refl },
-      );
+  copies = let plan = c.in-Some.ensures.some in
+      inl (omega (arith, plan.1, ap (λ (p : Plan). p.count) plan.0, c.if-front_count-plan.true), refl, refl);
 }
 
 pub returns-clause-run : goal.returns-clause-run
@@ -51,8 +44,6 @@ returns-clause-run g c = record {
   found = _;
   mid = _;
   finds = c.in-Ok.ensures.finds;
-  copies =
-      let plan = c.in-Some.ensures.some in
-      let long = ap (λ (l : List ℕ). length l) c.bytes.ensures in
-      inr (omega (arith, plan.1, ap (λ (p : Plan). p.count) plan.0, c.if-front_count-plan.false, long), rw plan.0 at c.copy_in.ensures.runs);
+  copies = let plan = c.in-Some.ensures.some in
+      inr (omega (arith, plan.1, ap (λ (p : Plan). p.count) plan.0, c.if-front_count-plan.false), rw plan.0 at c.copy_in.ensures.runs);
 }
