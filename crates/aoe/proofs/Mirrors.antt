@@ -444,7 +444,6 @@ of-mirror command.Replay e p = absurd cc
 of-mirror (command.Soak x) e p = absurd cc
 of-mirror (command.Ask x) e p = absurd cc
 of-mirror (command.Get x) e p = absurd cc
-of-mirror (command.LongGet x) e p = absurd cc
 of-mirror (command.Put x) e p = absurd cc
 of-mirror (command.Live x) e p = absurd cc
 of-mirror (command.Switch x) e p = absurd cc

@@ -373,7 +373,6 @@ runs-of state command.Replay t s a b disks disks' other count run = over_none co
 runs-of state (command.Soak asked) t s a b disks disks' other count run = over_none count (λ disk e. no-disk run.0.end disk (sym run.0.ends ∙ e))
 runs-of state (command.Ask tool) t s a b disks disks' other count run = over_none count (λ disk e. let f = sym (ap is_tool_status e) ∙ run.0 in absurd cc)
 runs-of state (command.Get asked) t s a b disks disks' other count run = over_none count (λ disk e. let f = sym (ap is_copy_status e) ∙ run.0 in absurd cc)
-runs-of state (command.LongGet asked) t s a b disks disks' other count run = over_none count (λ disk e. let f = sym (ap is_copy_status e) ∙ run.0 in absurd cc)
 runs-of state (command.Put asked) t s a b disks disks' other count run = over_none count (λ disk e. let f = sym (ap is_copy_status e) ∙ run.0 in absurd cc)
 runs-of state (command.Live asked) t s a b disks disks' other count run = over_none count (λ disk e. let f = sym (ap is_live_status e) ∙ run.0 in absurd cc)
 runs-of state (command.Switch asked) t s a b disks disks' other count run = over_none count (λ disk e. no-disk-switched run.0.end disk (sym run.0.ends ∙ e))
@@ -497,7 +496,6 @@ pairs-only command.Replay e = absurd cc
 pairs-only (command.Soak asked) e = absurd cc
 pairs-only (command.Ask tool) e = absurd cc
 pairs-only (command.Get asked) e = absurd cc
-pairs-only (command.LongGet asked) e = absurd cc
 pairs-only (command.Put asked) e = absurd cc
 pairs-only (command.Live asked) e = absurd cc
 pairs-only (command.Switch asked) e = absurd cc

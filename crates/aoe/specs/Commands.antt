@@ -8,7 +8,7 @@ use Rattle.aoe_serve.specs.declared.over_stream.Format.TheVariants as format
 use Rattle.aoe_serve.specs.declared.plan.Plan.{Plan}
 use Rattle.aoe_serve.specs.declared.plan.Plan.TheVariants as plan
 use Rattle.aoe_args.specs.declared.command.Command.{Command}
-use Rattle.aoe_args.specs.declared.command.Command.TheVariants.{Answer, Ask, Audit, Get, Keep, Live, LongGet, Mirror, Put, Replay, Serve}
+use Rattle.aoe_args.specs.declared.command.Command.TheVariants.{Answer, Ask, Audit, Get, Keep, Live, Mirror, Put, Replay, Serve}
 use Rattle.aoe_args.specs.declared.command.Answer.{Answer as Answers}
 use Rattle.aoe_args.specs.declared.command.Mirror.{Mirror as Mirrors}
 use Rattle.aoe_args.specs.declared.command.Serve.{Serve as Serves}
@@ -56,7 +56,6 @@ is_over_keep command = false
 abbrev pub is_tool : Command → Bool
 is_tool (Ask tool) = true
 is_tool (Get asked) = true
-is_tool (LongGet asked) = true
 is_tool (Put asked) = true
 is_tool command = false
 
@@ -66,9 +65,9 @@ is_live (Live asked) = true
 is_live command = false
 
 -- it writes out what it has before it has all
-abbrev pub is_long_get : Command → Bool
-is_long_get (LongGet asked) = true
-is_long_get command = false
+abbrev pub is_get : Command → Bool
+is_get (Get asked) = true
+is_get command = false
 
 -- it takes frames of links and the clock, and serves nothing
 abbrev pub uses_clock : Command → Bool

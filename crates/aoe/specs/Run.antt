@@ -18,7 +18,6 @@ use Rattle.aoe_world.specs.declared.end.ReplayEnd.{ReplayEnd}
 use Rattle.aoe_args.specs.declared.command.Command.{Command}
 use Rattle.aoe_args.specs.declared.command.Command.TheVariants as command
 use Rattle.aoe_args.specs.declared.command.Get.{Get}
-use Rattle.aoe_args.specs.declared.command.LongGet.{LongGet}
 use Rattle.aoe_args.specs.declared.command.Put.{Put}
 use Rattle.aoe_args.specs.declared.command.Soak.{Soak}
 use Rattle.aoe_args.specs.declared.command.Tool.{Tool}
@@ -30,7 +29,7 @@ use Rattle.aoe.specs.Keeping.{RunsKeep}
 use Rattle.aoe.specs.Live.{is_live_status}
 use Rattle.aoe.specs.Mirror.{is_mirror_status}
 use Rattle.aoe.specs.Switching.{Switches}
-use Rattle.aoe.specs.Tools.{CopiesAll, CopiesIn, CopiesOut, RunsTool, is_copy_status, is_tool_status}
+use Rattle.aoe.specs.Tools.{CopiesIn, CopiesOut, RunsTool, is_copy_status, is_tool_status}
 use Rattle.aoe.specs.declared.status.Status.{Status}
 use Rattle.aoe.specs.declared.status.Status.TheVariants as status
 
@@ -66,7 +65,6 @@ Ran state command.Replay t s a b disks disks' = RanScript t.left t.held s a.sour
 Ran state (command.Soak asked) t s a b disks disks' = RanSoak t.held asked s a.sink b.sink × (b.source ≡ a.source) × (b.links ≡ a.links) × (disks' ≡ disks)
 Ran state (command.Ask tool) t s a b disks disks' = (is_tool_status s ≡ true) × (b.source ≡ a.source) × (disks' ≡ disks)
 Ran state (command.Get asked) t s a b disks disks' = (is_copy_status s ≡ true) × (b.source ≡ a.source) × (disks' ≡ disks)
-Ran state (command.LongGet asked) t s a b disks disks' = (is_copy_status s ≡ true) × (b.source ≡ a.source) × (disks' ≡ disks)
 Ran state (command.Put asked) t s a b disks disks' = (is_copy_status s ≡ true) × (b.sink ≡ a.sink) × (disks' ≡ disks)
 Ran state (command.Live asked) t s a b disks disks' = (is_live_status s ≡ true) × (b.source ≡ a.source) × (disks' ≡ disks)
 Ran state (command.Switch asked) t s a b disks disks' =
@@ -80,13 +78,9 @@ Ran state (command.Audit asked) t s a b disks disks' =
 abbrev pub Asked : {K L : Type 0} → (K → Option (List ℕ)) → (L → L → Told) → Tool → Status → K → K → List L → List L → Type 0
 Asked held told tool s sink sink' links links' = AtFirst (λ a b. RunsTool tool s (held sink) (held sink') (told a b)) links links'
 
--- `get` ran over the first link and a clock, and a sink took the sectors
+-- `get` ran over the first link and a clock, and a sink took the sectors as they came
 abbrev pub IsGot : {K L : Type 0} → (K → Option (List ℕ)) → (L → L → Told) → Get → Status → K → K → List L → List L → Type 0
 IsGot held told asked s sink sink' links links' = AtFirst (λ a b. CopiesOut asked s (held sink) (held sink') (told a b)) links links'
-
--- a `get` of any length ran over the first link and a clock, and a sink took the sectors as they came
-abbrev pub IsCopied : {K L : Type 0} → (K → Option (List ℕ)) → (L → L → Told) → LongGet → Status → K → K → List L → List L → Type 0
-IsCopied held told asked s sink sink' links links' = AtFirst (λ a b. CopiesAll asked s (held sink) (held sink') (told a b)) links links'
 
 -- `put` ran over a source, the first link and a clock
 abbrev pub IsPut : {S L : Type 0} → (S → Option (List ℕ)) → (L → L → Told) → Put → Status → S → S → List L → List L → Type 0

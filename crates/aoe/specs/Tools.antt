@@ -1,15 +1,18 @@
 -- What the tools ask and say, and how they end.
-use Rattle.std.specs.Prelude.{ℕ, ◌≡◌, ◌≢◌, ◌≤◌, Bool, true, false, List, [], Option, Result, Ok, Err, option_map}
+use Rattle.std.specs.Prelude.{ℕ, ◌≡◌, ◌≢◌, ◌≤◌, Bool, true, false, not, List, [], Option, Result, Ok, Err, option_map}
 use Rattle.arrayvec.specs.ArrayVec.{ArrayVec}
 use Rattle.aoe_base.specs.declared.failure.NoMemory.{NoMemory}
-use Rattle.aoe_copy.specs.PutRuns.{PutsAll}
+use Rattle.aoe_base.specs.Sizes.{longest_lifetime}
+use Rattle.aoe_base.specs.declared.counted.Lifetimes.{Lifetimes}
+use Rattle.aoe_copy.specs.Puts.{Flushes, Puts}
 use Rattle.aoe_copy.specs.Runs.{Copies}
+use Rattle.aoe_copy.specs.declared.end.CopyRefusal.{CopyRefusal}
+use Rattle.aoe_copy.specs.declared.end.CopyRefusal.TheVariants as copy
+use Rattle.aoe_copy.specs.declared.terms.Terms.{Terms}
 use Rattle.aoe_io.specs.Bytes.{Took, TookSome}
 use Rattle.aoe_lists.specs.declared.dir.Dir.{Dir}
-use Rattle.aoe_tools.specs.Runs.{RunsConfig, RunsDiscovery, RunsFlush, RunsGet, RunsMasks, RunsPut, RunsReserves, RunsStat, Told}
+use Rattle.aoe_tools.specs.Runs.{RunsConfig, RunsDiscovery, RunsMasks, RunsReserves, RunsStat, Told}
 use Rattle.aoe_tools.specs.Text.{config_text, found_text, masks_text, reserves_text, stat_text}
-use Rattle.aoe_tools.specs.declared.end.CopyRefusal.{CopyRefusal}
-use Rattle.aoe_tools.specs.declared.end.CopyRefusal.TheVariants as copy
 use Rattle.aoe_tools.specs.declared.end.ToolRefusal.{ToolRefusal}
 use Rattle.aoe_tools.specs.declared.end.ToolRefusal.TheVariants as refusal
 use Rattle.aoe_tools.specs.declared.found.Seen.{Seen}
@@ -19,7 +22,6 @@ use Rattle.aoe_args.specs.declared.command.Cfg.{Cfg}
 use Rattle.aoe_args.specs.declared.command.Discover.{Discover}
 use Rattle.aoe_args.specs.declared.command.Flush.{Flush}
 use Rattle.aoe_args.specs.declared.command.Get.{Get}
-use Rattle.aoe_args.specs.declared.command.LongGet.{LongGet}
 use Rattle.aoe_args.specs.declared.command.Mask.{Mask}
 use Rattle.aoe_args.specs.declared.command.Put.{Put}
 use Rattle.aoe_args.specs.declared.command.Reserve.{Reserve}
@@ -34,6 +36,18 @@ use Rattle.aoe.specs.declared.status.What.TheVariants as what
 -- who asks, and how long it listens
 abbrev pub ask_of : Asking → Ask
 ask_of asking = record { port = asking.port; turns = asking.turns }
+
+-- the most sectors of a command of a copy: as many as a frame of 9018 bytes has room for
+abbrev pub most_sectors : ℕ
+most_sectors = 17
+
+-- a frame can be on its way for so many milliseconds, whatever it is
+abbrev pub lifetimes : ℕ → Lifetimes
+lifetimes lifetime = record { requests = record { 0 = lifetime }; responses = record { 0 = lifetime } }
+
+-- who copies, how long it waits, and how long a frame can be on its way
+abbrev pub terms_of : Asking → ℕ → Terms
+terms_of asking lifetime = record { ask = ask_of asking; life = lifetimes lifetime; most = most_sectors }
 
 -- the directives of an edit
 abbrev pub dirs_of : Mask → Option (List Dir)
@@ -76,7 +90,7 @@ SaysReserves asked said t = (given : Result (ArrayVec ℕ) ToolRefusal)
 
 -- `flush` ran, and says nothing
 abbrev pub SaysFlush : Flush → Result (List ℕ) ToolRefusal → Told → Type 0
-SaysFlush asked said t = (flushed : Result Unit ToolRefusal) × RunsFlush flushed asked.id (ask_of asked.asking) t × IsSaid (λ done. []) flushed said
+SaysFlush asked said t = (flushed : Result Unit ToolRefusal) × Flushes flushed (terms_of asked.asking asked.lifetime) asked.id t × IsSaid (λ done. []) flushed said
 
 -- a tool ran, and says this
 abbrev pub Says : Tool → Result (List ℕ) ToolRefusal → Told → Type 0
@@ -94,7 +108,7 @@ CanAsk (tool.Stat asked) = Unit {0}
 CanAsk (tool.Cfg asked) = asked.ccmd ≤ 4
 CanAsk (tool.Mask asked) = Unit {0}
 CanAsk (tool.Reserve asked) = asked.rcmd ≤ 2
-CanAsk (tool.Flush asked) = Unit {0}
+CanAsk (tool.Flush asked) = asked.lifetime ≤ longest_lifetime
 
 -- the status of a tool that ended without its answer
 abbrev pub tool_status : ToolRefusal → Status
@@ -145,36 +159,16 @@ is_copy_status (status.Limit excess) = true
 is_copy_status status.SourceFault = true
 is_copy_status s = is_tool_status s
 
--- `get` ran over a link and a clock, a sink took what it read, and the status tells how it ended
+-- `get` ran over a link and a clock, a sink took what it read as it came, and the status tells how it ended
 pub record CopiesOut (asked : Get) (s : Status) (held held' : Option (List ℕ)) (t : Told) : Type 0 where
   pub result : Result Unit CopyRefusal
-  pub runs : RunsGet result (ask_of asked.asking) asked.id asked.at asked.count t held held'
+  pub runs : Copies result (terms_of asked.asking asked.lifetime) asked.id asked.at asked.count t held held'
   pub ends : s ≡ copied result
 
--- the most sectors of a command: as many as a frame of 9018 bytes has room for
-abbrev pub most_sectors : ℕ
-most_sectors = 17
-
--- A `get` of any length ran over a link and a clock, a sink took what it read as it came, and the status tells how it ended.
-pub record CopiesAll (asked : LongGet) (s : Status) (held held' : Option (List ℕ)) (t : Told) : Type 0 where
-  pub result : Result Unit CopyRefusal
-  pub runs : Copies result (ask_of asked.asking) asked.id asked.at asked.count most_sectors t held held'
-  pub ends : s ≡ copied result
-
--- `put` ran over a source, a link and a clock, read the sectors again, and the status tells how it ended
-pub record CopiesInAgain (asked : Put) (s : Status) (left left' : Option (List ℕ)) (t : Told) : Type 0 where
-  pub result : Result Unit CopyRefusal
-  pub runs : RunsPut result (ask_of asked.asking) asked.id asked.at true t left left'
-  pub ends : s ≡ copied result
-
--- A `put` of any length ran over a source, a link and a clock, and the status tells how it ended; no input is too long for it.
-pub record CopiesAllIn (asked : Put) (s : Status) (left left' : Option (List ℕ)) (t : Told) : Type 0 where
-  pub result : Result Unit CopyRefusal
-  pub runs : PutsAll result (ask_of asked.asking) asked.id asked.at most_sectors t left left'
-  pub ends : s ≡ copied result
-  pub unlimited : (excess : What) → s ≢ status.Limit excess
-
--- `put` ran as it was asked for: with its sectors read again, or of any length
+-- `put` ran over a source, a link and a clock, with a flush at its end unless it was asked for without, and the status tells how it ended. No
+-- input is too long for it where the sectors aren't read again.
 pub record CopiesIn (asked : Put) (s : Status) (left left' : Option (List ℕ)) (t : Told) : Type 0 where
-  pub again : asked.verify ≡ true → CopiesInAgain asked s left left' t
-  pub all : asked.verify ≡ false → CopiesAllIn asked s left left' t
+  pub result : Result Unit CopyRefusal
+  pub runs : Puts result (terms_of asked.asking asked.lifetime) asked.id asked.at (not asked.no_flush) asked.verify t left left'
+  pub ends : s ≡ copied result
+  pub unlimited : asked.verify ≡ false → (excess : What) → s ≢ status.Limit excess

@@ -371,7 +371,7 @@ fn run_over(
 /// What is known of how far a command comes: of a copy it is told.
 fn flow_of(rt: &HostRuntime, command: &Command, is_told: bool) -> Flow {
     match command {
-        Command::Get(_) | Command::LongGet(_) => Flow::new(rt, is_told, None),
+        Command::Get(_) => Flow::new(rt, is_told, None),
         Command::Put(_) => Flow::new(rt, is_told, input_sectors(rt)),
         _ => Flow::nowhere(rt),
     }
@@ -381,7 +381,7 @@ fn flow_of(rt: &HostRuntime, command: &Command, is_told: bool) -> Flow {
 /// Where standard output failed more may be written, a part of a sector too.
 fn tell_reached(rt: &HostRuntime, command: &Command, is_sink: bool, reached: u64) {
     let (at, done) = match command {
-        Command::LongGet(asked) => (asked.at, "were written"),
+        Command::Get(asked) => (asked.at, "were written"),
         Command::Put(asked) => (asked.at, "were acknowledged, but no flush was"),
         _ => return,
     };
@@ -390,7 +390,7 @@ fn tell_reached(rt: &HostRuntime, command: &Command, is_sink: bool, reached: u64
         if let Ok(text) = format!(in rt.alloc(); "aoe: the sectors before {next} {done}\n") {
             say(rt, text.as_bytes());
         }
-    } else if matches!(command, Command::LongGet(_)) && !is_sink {
+    } else if matches!(command, Command::Get(_)) && !is_sink {
         say(rt, b"aoe: nothing was written\n");
     }
 }

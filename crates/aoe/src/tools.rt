@@ -2,24 +2,25 @@
 ghost use Rattle.std.specs.Prelude.{◌≡◌, ◌≢◌, ◌≤◌, ℕ, Err, true, length, option_copied};
 ghost use Rattle.aoe_tools.specs.One.{edits_by};
 ghost use Rattle.aoe_tools.specs.Runs.{told};
-ghost use Rattle.aoe_args.specs.Tools.{CanGet};
+ghost use Rattle.aoe_args.specs.Tools.{CanGet, CanPut};
 ghost use Rattle.aoe_base.specs.Faults.{Blamed};
 ghost use Rattle.aoe_lists.specs.Settings.{max_directives};
-ghost use Rattle.aoe.specs.Tools.{CanAsk, CopiesAll, CopiesAllIn, CopiesIn, CopiesInAgain, CopiesOut, RunsTool, Says, SaysConfig, SaysFlush, SaysFound, SaysMasks, SaysReserves, SaysStat, ask_of, copy_status, dirs_of, is_copy_status, is_tool_status, said, tool_status};
+ghost use Rattle.aoe_base.specs.Sizes.{longest_lifetime};
+ghost use Rattle.aoe.specs.Tools.{CanAsk, CopiesIn, CopiesOut, RunsTool, Says, SaysConfig, SaysFlush, SaysFound, SaysMasks, SaysReserves, SaysStat, ask_of, copy_status, dirs_of, is_copy_status, is_tool_status, said, terms_of, tool_status};
 
 use crate::status::{Status, What};
-use aoe_args::{Asking, Cfg, Discover, Flush, Get, LongGet, Mask, Put, Reserve, Stat, Tool};
-use aoe_base::{Blob, Failed, NoMemory};
-use aoe_copy::Watch;
+use aoe_args::{Asking, Cfg, Discover, Flush, Get, Mask, Put, Reserve, Stat, Tool};
+use aoe_base::{Blob, Failed, Lifetimes, Millis, NoMemory};
+use aoe_copy::{CopyRefusal, Terms, Watch, flush, get, put};
 use aoe_io::{Clock, Link, Sink, Source, give_all};
 use aoe_lists::Dir;
 use aoe_tools::{
-    Ask, CopyRefusal, ToolRefusal, cfg, discover, flush, get, mask, print_config, print_found,
-    print_masks, print_reserves, print_stat, put, reserve, stat,
+    Ask, ToolRefusal, cfg, discover, mask, print_config, print_found, print_masks, print_reserves,
+    print_stat, reserve, stat,
 };
 use std::alloc::Global;
 
-/// The most sectors of a command of a long `get`: as many as a frame has room for.
+/// The most sectors of a command of a copy: as many as a frame of 9018 bytes has room for.
 const MOST_SECTORS: u32 = 17;
 
 /// Who asks, and how long it listens.
@@ -29,6 +30,21 @@ fn ask_of(asking: Asking) -> Ask
     Ask {
         port: asking.port,
         turns: asking.turns,
+    }
+}
+
+/// Who copies, how long it waits, and how long a frame can be on its way.
+fn terms_of(asking: Asking, lifetime: u32) -> Terms
+    ensures { result ≡ terms_of asking lifetime }
+{
+    let lifetime = Millis(u64::from(lifetime));
+    Terms {
+        ask: ask_of(asking),
+        life: Lifetimes {
+            requests: lifetime,
+            responses: lifetime,
+        },
+        most: MOST_SECTORS,
     }
 }
 
@@ -156,12 +172,14 @@ fn say_flush<L: Link, C: Clock>(
     link: &mut L,
     clock: &mut C,
 ) -> Result<Blob, ToolRefusal>
+    requires { asked.now.lifetime ≤ longest_lifetime }
     ensures run { SaysFlush asked.now result
         (told C.least C.answers L.turns L.given L.taken clock.old clock.new link.old link.new) }
     ensures link { Blamed (result ≡ Err ToolRefusal.LinkFault) (L.faults link.old)
         (L.faults link.new) }
 {
-    flush(alloc, &ask_of(asked.asking), asked.id, link, clock)?;
+    let terms = terms_of(asked.asking, asked.lifetime);
+    flush(alloc, &terms, asked.id, link, clock)?;
     Ok(Blob::from_vec(Vec::new(alloc)))
 }
 
@@ -240,125 +258,32 @@ fn copy_status(refusal: CopyRefusal) -> Status
     }
 }
 
-/// Copies sectors of a device to the sink.
-pub(crate) fn run_get<K: Sink, L: Link, C: Clock>(
+/// Copies sectors of a device to the sink, each as soon as all before it came.
+pub(crate) fn run_get<K: Sink, L: Link, C: Clock, W: Watch>(
     alloc: Global,
     asked: &Get,
     sink: &mut K,
     link: &mut L,
     clock: &mut C,
+    watch: &mut W,
 ) -> Status
     requires { CanGet asked.now }
     ensures run { CopiesOut asked.now result (K.held sink.old) (K.held sink.new)
         (told C.least C.answers L.turns L.given L.taken clock.old clock.new link.old link.new) }
-    ensures leaves { result ≢ Status.Ok → result ≢ Status.SinkFault → sink.new ≡ sink.old }
     ensures status { is_copy_status result ≡ true }
     ensures unread { result ≢ Status.SourceFault }
     ensures sink { Blamed (result ≡ Status.SinkFault) (K.faults sink.old) (K.faults sink.new) }
     ensures link { Blamed (result ≡ Status.LinkFault 0) (L.faults link.old) (L.faults link.new) }
     ensures alone { (port : ℕ) → result ≡ Status.LinkFault port → port ≡ 0 }
 {
-    let ask = ask_of(asked.asking);
+    let terms = terms_of(asked.asking, asked.lifetime);
     match get(
         alloc,
-        &ask,
+        &terms,
         asked.id,
         asked.at,
         asked.count,
         sink,
-        link,
-        clock,
-    ) {
-        Ok(()) => Status::Ok,
-        Err(refusal) => copy_status(refusal),
-    }
-}
-
-/// Copies sectors of a device to the sink, each as soon as all before it came.
-pub(crate) fn run_long_get<K: Sink, L: Link, C: Clock, W: Watch>(
-    alloc: Global,
-    asked: &LongGet,
-    sink: &mut K,
-    link: &mut L,
-    clock: &mut C,
-    watch: &mut W,
-) -> Status
-    ensures run { CopiesAll asked.now result (K.held sink.old) (K.held sink.new)
-        (told C.least C.answers L.turns L.given L.taken clock.old clock.new link.old link.new) }
-    ensures status { is_copy_status result ≡ true }
-    ensures unread { result ≢ Status.SourceFault }
-    ensures sink { Blamed (result ≡ Status.SinkFault) (K.faults sink.old) (K.faults sink.new) }
-    ensures link { Blamed (result ≡ Status.LinkFault 0) (L.faults link.old) (L.faults link.new) }
-    ensures alone { (port : ℕ) → result ≡ Status.LinkFault port → port ≡ 0 }
-{
-    let ask = ask_of(asked.asking);
-    match aoe_copy::get(
-        alloc,
-        &ask,
-        asked.id,
-        asked.at,
-        asked.count,
-        MOST_SECTORS,
-        sink,
-        link,
-        clock,
-        watch,
-    ) {
-        Ok(()) => Status::Ok,
-        Err(refusal) => copy_status(refusal),
-    }
-}
-
-/// Copies what the source gives, 16,777,216 bytes at most, to sectors of a device, and reads them again.
-fn run_verified_put<S: Source, L: Link, C: Clock>(
-    alloc: Global,
-    asked: &Put,
-    source: &mut S,
-    link: &mut L,
-    clock: &mut C,
-) -> Status
-    ensures run { CopiesInAgain asked.now result (S.left source.old) (S.left source.new)
-        (told C.least C.answers L.turns L.given L.taken clock.old clock.new link.old link.new) }
-    ensures status { is_copy_status result ≡ true }
-    ensures unwritten { result ≢ Status.SinkFault }
-    ensures source { Blamed (result ≡ Status.SourceFault) (S.faults source.old)
-        (S.faults source.new) }
-    ensures link { Blamed (result ≡ Status.LinkFault 0) (L.faults link.old) (L.faults link.new) }
-    ensures alone { (port : ℕ) → result ≡ Status.LinkFault port → port ≡ 0 }
-{
-    let ask = ask_of(asked.asking);
-    match put(alloc, &ask, asked.id, asked.at, true, source, link, clock) {
-        Ok(()) => Status::Ok,
-        Err(refusal) => copy_status(refusal),
-    }
-}
-
-/// Copies what the source gives to sectors of a device.
-fn run_long_put<S: Source, L: Link, C: Clock, W: Watch>(
-    alloc: Global,
-    asked: &Put,
-    source: &mut S,
-    link: &mut L,
-    clock: &mut C,
-    watch: &mut W,
-) -> Status
-    ensures run { CopiesAllIn asked.now result (S.left source.old) (S.left source.new)
-        (told C.least C.answers L.turns L.given L.taken clock.old clock.new link.old link.new) }
-    ensures status { is_copy_status result ≡ true }
-    ensures unwritten { result ≢ Status.SinkFault }
-    ensures source { Blamed (result ≡ Status.SourceFault) (S.faults source.old)
-        (S.faults source.new) }
-    ensures link { Blamed (result ≡ Status.LinkFault 0) (L.faults link.old) (L.faults link.new) }
-    ensures alone { (port : ℕ) → result ≡ Status.LinkFault port → port ≡ 0 }
-{
-    let ask = ask_of(asked.asking);
-    match aoe_copy::put(
-        alloc,
-        &ask,
-        asked.id,
-        asked.at,
-        MOST_SECTORS,
-        source,
         link,
         clock,
         watch,
@@ -377,6 +302,7 @@ pub(crate) fn run_put<S: Source, L: Link, C: Clock, W: Watch>(
     clock: &mut C,
     watch: &mut W,
 ) -> Status
+    requires { CanPut asked.now }
     ensures run { CopiesIn asked.now result (S.left source.old) (S.left source.new)
         (told C.least C.answers L.turns L.given L.taken clock.old clock.new link.old link.new) }
     ensures status { is_copy_status result ≡ true }
@@ -386,9 +312,20 @@ pub(crate) fn run_put<S: Source, L: Link, C: Clock, W: Watch>(
     ensures link { Blamed (result ≡ Status.LinkFault 0) (L.faults link.old) (L.faults link.new) }
     ensures alone { (port : ℕ) → result ≡ Status.LinkFault port → port ≡ 0 }
 {
-    if asked.verify {
-        run_verified_put(alloc, asked, source, link, clock)
-    } else {
-        run_long_put(alloc, asked, source, link, clock, watch)
+    let terms = terms_of(asked.asking, asked.lifetime);
+    match put(
+        alloc,
+        &terms,
+        asked.id,
+        asked.at,
+        !asked.no_flush,
+        asked.verify,
+        source,
+        link,
+        clock,
+        watch,
+    ) {
+        Ok(()) => Status::Ok,
+        Err(refusal) => copy_status(refusal),
     }
 }

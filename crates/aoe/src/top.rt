@@ -13,7 +13,6 @@ ghost use Rattle.aoe_args.specs.declared.command.Answer.{Answer as Answers};
 ghost use Rattle.aoe_args.specs.declared.command.Audit.{Audit as Audits};
 ghost use Rattle.aoe_args.specs.declared.command.Serve.{Serve as Serves};
 ghost use Rattle.aoe_args.specs.declared.command.Get.{Get as Gets};
-ghost use Rattle.aoe_args.specs.declared.command.LongGet.{LongGet as LongGets};
 ghost use Rattle.aoe_args.specs.declared.command.KeepAction.{KeepAction};
 ghost use Rattle.aoe_args.specs.declared.command.Live.{Live as Lives};
 ghost use Rattle.aoe_args.specs.declared.command.Mirror.{Mirror as Mirrors};
@@ -22,12 +21,12 @@ ghost use Rattle.aoe_args.specs.declared.command.Soak.{Soak as Soaks};
 ghost use Rattle.aoe_args.specs.declared.command.Tool.{Tool};
 ghost use Rattle.aoe_base.specs.Faults.{Blamed, Rose};
 ghost use Rattle.aoe.specs.Auditing.{RunsAudit};
-ghost use Rattle.aoe.specs.Commands.{exports, is_live, is_long_get, is_mirror, is_over_keep, reads_input, uses_clock};
+ghost use Rattle.aoe.specs.Commands.{exports, is_get, is_live, is_mirror, is_over_keep, reads_input, uses_clock};
 ghost use Rattle.aoe.specs.Keeping.{RunsKeep};
 ghost use Rattle.aoe.specs.Live.{AreBlamed, AtBoth, RunsLive, ends};
 ghost use Rattle.aoe.specs.Ending.{file_at, keep_at, refused_slot};
 ghost use Rattle.aoe.specs.Mirror.{RunsMirror};
-ghost use Rattle.aoe.specs.Run.{Asked, HasLists, HasReplayed, IsBad, IsCopied, IsGot, IsPut, IsSmall, NothingLoose, OnSlot, Ran, RanFiles, RanScript, RanSoak, Refused};
+ghost use Rattle.aoe.specs.Run.{Asked, HasLists, HasReplayed, IsBad, IsGot, IsPut, IsSmall, NothingLoose, OnSlot, Ran, RanFiles, RanScript, RanSoak, Refused};
 
 use crate::audit::run_audit;
 use crate::live::run_live;
@@ -35,7 +34,7 @@ use crate::mirror::run_mirror;
 use crate::plan::{answer_plan, refused_as, replayed_as, serve_plan, status_of};
 use crate::status::Status;
 use crate::switch::run_switch;
-use crate::tools::{run_get, run_long_get, run_put, run_tool};
+use crate::tools::{run_get, run_put, run_tool};
 use crate::upkeep::run_keep;
 use aoe_args::{Command, Soak};
 use aoe_copy::Watch;
@@ -150,11 +149,10 @@ fn run_command<S: Source, K: Sink, D: Disk + Drop, L: Link, C: Clock, W: Watch>(
         → RunsAudit D.state asked result (S.left source.old) (S.left source.new) (K.held sink.old)
         (K.held sink.new) disks.old disks.new }
     ensures memory { result ≡ Status.NoMemory → (reads_input command.now ≡ false
-        → source.new ≡ source.old) × (is_long_get command.now ≡ false → sink.new ≡ sink.old)
+        → source.new ≡ source.old) × (is_get command.now ≡ false → sink.new ≡ sink.old)
         × (is_mirror command.now ≡ false → is_over_keep command.now ≡ false → disks.new ≡ disks.old) × (uses_clock command.now ≡ false → links.new ≡ links.old) }
     ensures asks { (tool : Tool) → command.now ≡ Command.Ask tool → Asked K.held (λ a b. told C.least C.answers L.turns L.given L.taken clock.old clock.new a b) tool result sink.old sink.new links.old links.new }
     ensures gets { (asked : Gets) → command.now ≡ Command.Get asked → IsGot K.held (λ a b. told C.least C.answers L.turns L.given L.taken clock.old clock.new a b) asked result sink.old sink.new links.old links.new }
-    ensures copies { (asked : LongGets) → command.now ≡ Command.LongGet asked → IsCopied K.held (λ a b. told C.least C.answers L.turns L.given L.taken clock.old clock.new a b) asked result sink.old sink.new links.old links.new }
     ensures puts { (asked : Puts) → command.now ≡ Command.Put asked → IsPut S.left (λ a b. told C.least C.answers L.turns L.given L.taken clock.old clock.new a b) asked result source.old source.new links.old links.new }
     ensures lives { (asked : Lives) → command.now ≡ Command.Live asked → AtBoth (λ one one' two two'. RunsLive asked result (K.held sink.old) (K.held sink.new)
         (ends C.answers L.turns L.given L.taken one two clock.old) (ends C.answers L.turns L.given L.taken one' two' clock.new)
@@ -194,8 +192,7 @@ fn run_command<S: Source, K: Sink, D: Disk + Drop, L: Link, C: Clock, W: Watch>(
         }
         Command::Switch(asked) => run_switch(alloc, asked.ports.as_slice(), source, sink),
         Command::Ask(tool) => run_tool(alloc, tool, sink, &mut links[0], clock),
-        Command::Get(asked) => run_get(alloc, asked, sink, &mut links[0], clock),
-        Command::LongGet(asked) => { run_long_get(alloc, asked, sink, &mut links[0], clock, watch) }
+        Command::Get(asked) => run_get(alloc, asked, sink, &mut links[0], clock, watch),
         Command::Put(asked) => run_put(alloc, asked, source, &mut links[0], clock, watch),
         Command::Keep(action) => run_keep(alloc, *action, sink, disks),
         Command::Audit(asked) => run_audit(alloc, asked, source, sink, disks),
@@ -219,10 +216,11 @@ fn run_command<S: Source, K: Sink, D: Disk + Drop, L: Link, C: Clock, W: Watch>(
 ///
 /// The tools ask over the first link and the clock: `discover` and `stat` which targets there are, with
 /// their sizes and states, `cfg`, `mask` and `reserve` one target for a list or a change of it; what they
-/// are told goes to the sink as text. `get` copies sectors of a target to the sink, up to 32,768 of them
-/// once all have come and more of them as they come, and `put` what the source gives to sectors, up to
-/// 32,768 of them once all are read and more of them as they are read. How far a copy of more has come the
-/// watch is told. `--port` is who asks, and `--turns` how long each listens.
+/// are told goes to the sink as text. `get` copies sectors of a target to the sink, each as soon as all
+/// before it came, and `put` what the source gives to sectors, up to 32,768 of them once all are read and
+/// more of them as they are read; `--no-flush` leaves out the flush at its end. `--lifetime` is how long a
+/// frame can be on its way. How far a copy has come the watch is told. `--port` is who asks, and `--turns`
+/// how long each listens.
 ///
 /// `replay` reads the source to its end as a script, runs the events of the script through shelves
 /// and hosts in memory, and puts the text of what happened on the sink. Whatever a schedule loses,
@@ -320,14 +318,13 @@ pub fn aoe<S: Source, K: Sink, D: Disk + Drop, L: Link, C: Clock, W: Watch>(
     ensures keep_bad { exports command.now ≡ true → (slot bad : ℕ) → OnSlot (λ _ _ keep _. IfSome (D.state keep).contents (λ c.
         (result ≡ Status.KeepBad (keep_at slot) bad) ↔ IsBad (D.state keep) c result slot bad)) slot disks.old disks.new }
     ensures memory { result ≡ Status.NoMemory → (reads_input command.now ≡ false → source.new ≡ source.old)
-        × (is_long_get command.now ≡ false → sink.new ≡ sink.old)
+        × (is_get command.now ≡ false → sink.new ≡ sink.old)
         × (is_mirror command.now ≡ false → is_over_keep command.now ≡ false → disks.new ≡ disks.old)
         × (uses_clock command.now ≡ false → links.new ≡ links.old) }
 
     // What a tool asks, when it ends and what it says.
     ensures asks { (tool : Tool) → command.now ≡ Command.Ask tool → Asked K.held (λ a b. told C.least C.answers L.turns L.given L.taken clock.old clock.new a b) tool result sink.old sink.new links.old links.new }
     ensures gets { (asked : Gets) → command.now ≡ Command.Get asked → IsGot K.held (λ a b. told C.least C.answers L.turns L.given L.taken clock.old clock.new a b) asked result sink.old sink.new links.old links.new }
-    ensures copies { (asked : LongGets) → command.now ≡ Command.LongGet asked → IsCopied K.held (λ a b. told C.least C.answers L.turns L.given L.taken clock.old clock.new a b) asked result sink.old sink.new links.old links.new }
     ensures puts { (asked : Puts) → command.now ≡ Command.Put asked → IsPut S.left (λ a b. told C.least C.answers L.turns L.given L.taken clock.old clock.new a b) asked result source.old source.new links.old links.new }
     ensures lives { (asked : Lives) → command.now ≡ Command.Live asked → AtBoth (λ one one' two two'. RunsLive asked result (K.held sink.old) (K.held sink.new)
         (ends C.answers L.turns L.given L.taken one two clock.old) (ends C.answers L.turns L.given L.taken one' two' clock.new)

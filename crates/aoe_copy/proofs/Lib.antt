@@ -12,4 +12,5 @@ mod PutStepLemmas
 mod PutTurnLemmas
 mod StepLemmas
 mod TurnLemmas
+mod Unlimited
 mod WindowLemmas

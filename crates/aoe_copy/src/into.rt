@@ -1,5 +1,5 @@
 //! The copy of an input into a device, and its flush.
-ghost use Rattle.std.specs.Prelude.{◌≡◌, ◌≢◌, ◌+◌, ◌/◌, ◌<◌, ◌≤◌, ◌^◌, Err, length};
+ghost use Rattle.std.specs.Prelude.{◌≡◌, ◌≢◌, ◌+◌, ◌/◌, ◌<◌, ◌≤◌, ◌^◌, Err, false, length};
 ghost use Rattle.aoe_base.specs.Faults.{Blamed};
 ghost use Rattle.aoe_base.specs.Sizes.{longest_lifetime};
 ghost use Rattle.aoe_tools.specs.Runs.{told};
@@ -94,6 +94,7 @@ fn put_front<S: Source, L: Link, C: Clock, W: Watch>(
     ensures run { Copies result terms.now id at flush front.now
         (told C.least C.answers L.turns L.given L.taken clock.old clock.new link.old link.new)
         (S.left source.old) (S.left source.new) }
+    ensures unlimited { result ≢ Err CopyRefusal.Limit }
     ensures unwritten { result ≢ Err CopyRefusal.SinkFault }
     ensures count { L.faults link.old ≤ L.faults link.new }
     ensures link { Blamed (result ≡ Err (CopyRefusal.Tool ToolRefusal.LinkFault))
@@ -145,6 +146,7 @@ pub fn put<S: Source, L: Link, C: Clock, W: Watch>(
     ensures run { Puts result terms.now id at flush verify
         (told C.least C.answers L.turns L.given L.taken clock.old clock.new link.old link.new)
         (S.left source.old) (S.left source.new) }
+    ensures unlimited { verify ≡ false → result ≢ Err CopyRefusal.Limit }
     ensures unwritten { result ≢ Err CopyRefusal.SinkFault }
     ensures count { L.faults link.old ≤ L.faults link.new }
     ensures link { Blamed (result ≡ Err (CopyRefusal.Tool ToolRefusal.LinkFault))
