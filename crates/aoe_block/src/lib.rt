@@ -1,4 +1,11 @@
-//! A read or a write of any length, as commands of a host that its device takes.
+//! One host at one device: its turns over a link, and reads and writes of any length as commands
+//! that the device takes.
+//!
+//! [`attach`] makes a host (`aoe_initiator`) that is attached to one device, [`DEVICE`], at one port.
+//! In each turn of a job the host is told the time (`advance`), its outcomes are taken and commands
+//! submitted, and then [`exchange`] sends the frames that are due, up to a number, and takes one
+//! turn of the link (`aoe_io`). What such a job did is one list of steps (specs/Steps): the law of
+//! the job says which commands come, and which steps of its own. `aoe_copy` has two such jobs.
 //!
 //! A device says how many sectors a command may have. A `Block` cuts a range of sectors into parts of
 //! that many, hands them out as operations, and puts together what came of them.
@@ -32,15 +39,20 @@
 //! where it is written. The other calls take none. A part isn't asked for again: a block of which
 //! one failed never becomes whole, and its other parts can still end.
 //!
-//! Promised: the parts of a block are its range in order, each of as many sectors as a command may
-//! have, but for the last (`IsCut`), and `OutOfRange` comes exactly for a range that isn't within
-//! the device. `pending` returns the operation of the first part that wasn't handed, whose sectors
-//! a host doesn't refuse (`op_refusal`). `take` answers `took`: what was read is put in the place
-//! of its part, and a command that is no part changes nothing. `into_bytes` returns all parts in
-//! order. A block of which a part failed never becomes whole (`broken_law`).
+//! Neither part looks at a clock by itself, and nothing is done again that failed: after a fault of
+//! the link `exchange` has sent some of the frames.
 //!
-//! Only tested: nothing. `aoe_host_tests` (`block`) has a read whose parts end out of order, and
-//! ranges within a device and past its end.
+//! Promised: `exchange` sends what the host law allows next, as many frames as are due but no more
+//! than asked for, and then takes one turn of the link (`Exchanges`). With no more than
+//! 4,294,967,295 commands each has a tag from 1 to their number (`AreTagged`). The parts of a block
+//! are its range in order, each of as many sectors as a command may have, but for the last
+//! (`IsCut`); `OutOfRange` comes exactly for a range that isn't within the device. `pending` returns
+//! the first part that wasn't handed, which a host doesn't refuse for its sectors (`op_refusal`).
+//! `take` answers `took`, `into_bytes` returns all parts in order, and a block of which a part
+//! failed never becomes whole (`broken_law`).
+//!
+//! Only tested: nothing. `aoe_host_tests` (`block`, `copies`) has a read whose parts end out of
+//! order, ranges within a device and past its end, and copies over links in memory.
 #![tactic(auto)]
 
 mod block;
