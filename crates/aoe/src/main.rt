@@ -44,6 +44,7 @@ use aoe_system::{
     say, words,
 };
 use aoe_tap::{OpenRefusal as TapRefusal, TapMedium};
+use aoe_tools::Refusal;
 use aoe_udp::{OpenRefusal, UdpMedium};
 use aoe_wire::WireLink;
 use log::Log;
@@ -378,10 +379,12 @@ fn flow_of(rt: &HostRuntime, command: &Command, is_told: bool) -> Flow {
 }
 
 /// Says how far a copy came that broke off behind so many sectors, so that another can go on from there.
-/// Where standard output failed more may be written, a part of a sector too.
+/// Where standard output failed more may be written, a part of a sector too. A copy that reads its sectors
+/// again may have come as far as its flush.
 fn tell_reached(rt: &HostRuntime, command: &Command, is_sink: bool, reached: u64) {
     let (at, done) = match command {
         Command::Get(asked) => (asked.at, "were written"),
+        Command::Put(asked) if asked.verify || asked.no_flush => (asked.at, "were acknowledged"),
         Command::Put(asked) => (asked.at, "were acknowledged, but no flush was"),
         _ => return,
     };
@@ -418,10 +421,13 @@ fn tell_end(
     if let Status::Stale { file, sectors } = status {
         tell_stale(rt, files, file, sectors);
     }
-    let is_ok = matches!(status, Status::Ok);
+    let is_whole = matches!(
+        status,
+        Status::Ok | Status::Refused(Refusal::Differs { .. })
+    );
     let is_sink = matches!(status, Status::SinkFault);
     let code = tell(rt, status);
-    if !is_ok {
+    if !is_whole {
         tell_reached(rt, command, is_sink, reached);
     }
     code

@@ -254,7 +254,9 @@ impl Copying {
         let before = self.written();
         let collected = self.collect(now, turns, sink);
         let written = self.written();
-        if written != before {
+        // The command that a failing sink was given isn't written.
+        let is_sunk = matches!(collected, Err(CopyRefusal::SinkFault));
+        if written != before && !is_sunk {
             watch.reached(written);
         }
         match collected {
