@@ -1,5 +1,5 @@
 -- Each command of a new host that has its outcome, while the job goes on, was answered by a frame, and with a success.
-use Rattle.std.proofs.Common.{ℕ, suc, ◌≡◌, ◌+◌, true, false, nat_eq, List, [], ◌∷◌, ◌++◌, length, Some, None, refl, sym, ap, ◌∙◌, arith, inl, inr, length-append}
+use Rattle.std.proofs.Common.{ℕ, ◌≡◌, true, false, nat_eq, List, [], ◌∷◌, ◌++◌, length, Some, None, refl, sym, ap, ◌∙◌, arith, inl, inr, length-append}
 use Rattle.std.specs.Prelude.{◌⊎◌, All, Contains}
 use Rattle.std.proofs.lemmas.Bool.{cases_Bool, eqb-true}
 use Rattle.std.proofs.lemmas.List.Elements.{All-head, All-tail, Contains-append_cases}
@@ -14,11 +14,11 @@ use Rattle.aoe_initiator.specs.HostLaw.{GaveUpInTurn}
 use Rattle.aoe_initiator.specs.HostLog.{after_end, after_send, at_ticket, clock, commands, path_log, submitted, Event, HostCommand}
 use Rattle.aoe_io.specs.Link.{came, quiet, ended as over}
 use Rattle.aoe_paths.specs.PathLog.{timeout_on}
-use Rattle.aoe_block.specs.Answered.{as_asked, IsDone, IsStart, Submission}
+use Rattle.aoe_block.specs.Answered.{as_asked, IsDone, Submission}
 use Rattle.aoe_block.specs.Steps.{asked, is_success, log_of, new_start, ops, outcomes, ticket_at, AreSteps, GoesOn, IsWell, Patience, Start, Step}
 use Rattle.aoe_block.specs.Steps.Step.{hears, own, sends, submits, ticks}
 use Rattle.aoe_block.specs.Turns.{the_device}
-use Rattle.aoe_block.proofs.StepLaws.{end-asks, old-or-own, send-asks, told-later, IsOneOf}
+use Rattle.aoe_block.proofs.StepLaws.{end-asks, old-or-own, send-asks, IsOneOf}
 
 done-later : {A : Type 0} {b : Start} {steps : List (Step A)} {c c' : HostCommand} (step : Step A) → IsDone b steps c → as_asked c' ≡ as_asked c
     → IsDone b (step ∷ steps) c'

@@ -1,7 +1,6 @@
 -- The frames of a turn, one by one.
 use Rattle.std.proofs.Common.{ℕ, ◌≡◌, ◌≤◌, ◌+◌, List, [], ◌∷◌, length, map, Option, Some, None, ◌∙◌, refl, arith, inl, inr}
-use Rattle.std.specs.Prelude.{Ok, Err, IfNone, IfSome, is_some, true, false}
-use Rattle.aoe_base.specs.declared.failure.Failed.{Failed}
+use Rattle.std.specs.Prelude.{IfNone, IfSome, is_some, true, false}
 use Rattle.aoe_initiator.proofs.MatchLemmas.{same-then}
 use Rattle.aoe_initiator.specs.declared.step.Sent.{Sent}
 use Rattle.aoe_initiator.specs.Host.{Host, IsSame, Matches}
@@ -11,7 +10,7 @@ use Rattle.aoe_initiator.specs.HostLog.Event.{Sends as Sent-as}
 use Rattle.aoe_initiator.specs.Steps.{GivesTag}
 use Rattle.aoe_io.proofs.LinkLemmas.{Added-then}
 use Rattle.aoe_io.specs.Link.{Added}
-use Rattle.aoe_block.specs.Exchange.{IsHeld, Sends, SendsAll, SendsSome}
+use Rattle.aoe_block.specs.Exchange.{IsHeld, Sends, SendsAll}
 use Rattle.aoe_block.specs.Turns.{after_frames, most_tagged, AreSent, AreTagged, IsSilent, MaySend, Outgoing}
 use Rattle.aoe_block.proofs.HostLemmas.{many-sent, same-self}
 use Rattle.aoe_block.proofs.TagLemmas.{tags-sent}

@@ -1,5 +1,5 @@
 -- What each step changes of what a host did, and of what link and clock tell.
-use Rattle.std.proofs.Common.{ℕ, suc, ◌≡◌, ◌+◌, ◌≤◌, true, false, List, [], ◌∷◌, ◌++◌, length, map, max, reverse, Option, Some, None, refl, sym, ap, ◌∙◌, arith, inl, inr}
+use Rattle.std.proofs.Common.{ℕ, ◌≡◌, ◌+◌, ◌≤◌, true, false, List, [], ◌∷◌, ◌++◌, length, map, max, reverse, Option, Some, None, refl, sym, ap, ◌∙◌, arith, inl, inr}
 use Rattle.std.specs.Prelude.{All, Ok, Err, IfSome}
 use Rattle.aoe_base.specs.declared.counted.Ticket.{Ticket}
 use Rattle.aoe_flight.specs.Outstanding.{is_expired}
@@ -15,7 +15,7 @@ use Rattle.aoe_io.specs.Link.{Added, Turn}
 use Rattle.aoe_block.specs.Exchange.{is_heard, Exchanges, Sends}
 use Rattle.aoe_block.specs.Steps.{answers_of, asked, frames_of, has_ticked, log_of, open_of, outcomes, owns, ops, quiet_turns, sent_now, ticket_at, turns_of, AreSteps, Drives, GoesOn, HasSeen, Patience, Seen, Start, Step, Told}
 use Rattle.aoe_block.specs.Steps.Step.{hears, own, sends, submits, ticks}
-use Rattle.aoe_block.specs.Turns.{after_frames, after_heard, after_tick, the_device, told_by, AreSent, AreTagged, GivesUp, Heard, Outgoing}
+use Rattle.aoe_block.specs.Turns.{after_frames, after_tick, the_device, told_by, AreSent, AreTagged, GivesUp, Heard, Outgoing}
 use Rattle.aoe_block.proofs.HostLemmas.{same-self}
 use Rattle.aoe_block.proofs.OpenLemmas.{count_heard, open-ended, open-frames, open-heard}
 use Rattle.aoe_block.proofs.TagLemmas.{tagged-gave-up, tagged-heard, tagged-submitted}

@@ -1,5 +1,5 @@
 -- What one host does at one device over a link, and what it hears there, in the words of the host law.
-use Rattle.std.specs.Prelude.{ℕ, suc, ◌≡◌, ◌+◌, ◌<◌, ◌≤◌, ◌⊎◌, Bool, false, List, [], ◌∷◌, length, drop, Option, Some, None, All, Contains, IfSome, is_none}
+use Rattle.std.specs.Prelude.{ℕ, ◌≡◌, ◌+◌, ◌<◌, ◌≤◌, Bool, false, List, [], ◌∷◌, length, drop, Option, Some, None, All, Contains, IfSome, is_none}
 use Rattle.std.specs.List.{count_by}
 use Rattle.aoe_base.specs.declared.address.Mac.{Mac}
 use Rattle.aoe_base.specs.declared.address.TargetId.{TargetId}

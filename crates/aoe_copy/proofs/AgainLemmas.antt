@@ -1,5 +1,5 @@
 -- The sectors of a copy into a device that are read again by the same host.
-use Rattle.std.proofs.Common.{ℕ, ◌≡◌, ◌+◌, ◌*◌, ◌/◌, ◌%◌, List, [], ◌++◌, length, Option, Some, refl, sym, ap, ◌∙◌, arith}
+use Rattle.std.proofs.Common.{ℕ, ◌≡◌, ◌*◌, ◌/◌, ◌%◌, List, [], length, Some, ap, ◌∙◌, arith}
 use Rattle.std.specs.Prelude.{Ok, Err, OnOk, Result}
 use Rattle.std.proofs.lemmas.Option.{same_Some}
 use Rattle.aoe_block.specs.Answered.{IsStart}
@@ -8,9 +8,8 @@ use Rattle.aoe_initiator.specs.Host.{Host}
 use Rattle.aoe_copy.specs.declared.end.CopyRefusal.{CopyRefusal}
 use Rattle.aoe_copy.specs.declared.plan.Plan.{Plan}
 use Rattle.aoe_copy.specs.PutSteps.{PutStep}
-use Rattle.aoe_copy.specs.Plan.{reach}
-use Rattle.aoe_copy.specs.Runs.{ReadSeen, Runs}
-use Rattle.aoe_copy.specs.Steps.{given, patience, written}
+use Rattle.aoe_copy.specs.Runs.{Runs}
+use Rattle.aoe_copy.specs.Steps.{patience, written}
 use Rattle.aoe_copy.proofs.LawLemmas.{front-law}
 
 -- a host that did a job begins the next one

@@ -1,9 +1,9 @@
 -- The first part of a turn: the clock answers, outcomes are taken, and the sink takes sectors.
-use Rattle.std.proofs.Common.{ℕ, suc, ◌≡◌, ◌+◌, ◌≤◌, true, false, List, [], ◌∷◌, ◌++◌, length, reverse, Option, Some, None, refl, sym, ap, ◌∙◌, arith, inl, inr, append-nil}
-use Rattle.std.specs.Prelude.{Contains, Err, IfSome}
+use Rattle.std.proofs.Common.{ℕ, suc, ◌≡◌, ◌+◌, ◌≤◌, true, false, List, [], ◌∷◌, ◌++◌, length, reverse, Option, Some, refl, sym, ap, ◌∙◌, arith, inl, inr, append-nil}
+use Rattle.std.specs.Prelude.{Err, IfSome}
 use Rattle.std.proofs.lemmas.List.{append_assoc, reverse-append, reverse-reverse}
 use Rattle.std.proofs.lemmas.List.Elements.{Contains-append_cases, Contains-append_left, Contains-append_right}
-use Rattle.aoe_block.specs.Steps.{answers_of, asked, frames_of, has_ticked, log_of, open_of, ops, outcomes, owns, quiet_turns, turns_of, AreSteps, Drives, GoesOn, HasSeen, Seen, Start}
+use Rattle.aoe_block.specs.Steps.{answers_of, asked, frames_of, has_ticked, log_of, outcomes, owns, quiet_turns, turns_of, AreSteps, GoesOn, Seen, Start}
 use Rattle.aoe_block.specs.Steps.Step.{own, ticks}
 use Rattle.aoe_block.proofs.StepLemmas.{drives-ticks, seen-ticks, ticks-gives-up, ticks-open, Advanced}
 use Rattle.aoe_block.proofs.StepLaws.{gave-up-none}
@@ -23,7 +23,6 @@ use Rattle.aoe_copy.specs.declared.plan.Plan.{Plan}
 use Rattle.aoe_copy.specs.declared.window.Window.{Window}
 use Rattle.aoe_copy.specs.Copying.{left_of, AreUpTo, Collected, Ended, InOrder, Keeps, MayBegin, Setting, Stands}
 use Rattle.aoe_copy.specs.Ending.{failure}
-use Rattle.aoe_copy.specs.Plan.{reach}
 use Rattle.aoe_copy.specs.Runs.{Breaks, ReadSeen}
 use Rattle.aoe_copy.specs.Steps.{given, patience, written, Fails, ReadLaw, ReadStep}
 use Rattle.aoe_copy.specs.Window.{in_order, is_ready, read_done, HasAll, AreRead, AreThere, Given, GivenPart, IsAsLong}

@@ -4,7 +4,7 @@ use Rattle.std.specs.Prelude.{Ok, Err}
 use Rattle.std.proofs.lemmas.List.Elements.{Contains-append_cases, Contains-append_right}
 use Rattle.aoe_base.specs.declared.failure.Failed.{Failed}
 use Rattle.aoe_block.specs.Exchange.{is_heard, Exchanges}
-use Rattle.aoe_block.specs.Steps.{asked, outcomes, owns, GoesOn, Seen}
+use Rattle.aoe_block.specs.Steps.{outcomes, GoesOn}
 use Rattle.aoe_block.specs.Steps.Step.{hears}
 use Rattle.aoe_block.specs.Turns.{quiet_by, told_by, Heard, Outgoing}
 use Rattle.aoe_block.proofs.OpenLemmas.{count_heard as count_of}
@@ -15,7 +15,7 @@ use Rattle.aoe_io.specs.Link.{Turn}
 use Rattle.aoe_tools.specs.declared.end.ToolRefusal.TheVariants as tool
 use Rattle.aoe_copy.specs.declared.copying.Copying.{Copying}
 use Rattle.aoe_copy.specs.declared.end.CopyRefusal.TheVariants as copy
-use Rattle.aoe_copy.specs.Copying.{count_heard, is_over, Asked, Ended, IsFit, Keeps, Passes, Setting}
+use Rattle.aoe_copy.specs.Copying.{count_heard, is_over, Asked, Ended, IsFit, Passes, Setting}
 use Rattle.aoe_copy.specs.Plan.{reach}
 use Rattle.aoe_copy.specs.Runs.{ReadSeen}
 use Rattle.aoe_copy.specs.Steps.{patience, IsFilled, IsGivenOut, IsOver, ReadLaw, ReadStep}

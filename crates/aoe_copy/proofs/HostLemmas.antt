@@ -1,5 +1,5 @@
 -- The host of a copy before its first step.
-use Rattle.std.proofs.Common.{ℕ, ◌≡◌, [], refl, ap}
+use Rattle.std.proofs.Common.{ℕ, ◌≡◌, [], ap}
 use Rattle.aoe_base.specs.declared.address.Mac.{Mac}
 use Rattle.aoe_base.specs.declared.address.TargetId.{TargetId}
 use Rattle.aoe_base.specs.declared.counted.Lifetimes.{Lifetimes}

@@ -1,5 +1,5 @@
 -- What follows from the steps of a copy out of a device.
-use Rattle.std.proofs.Common.{ℕ, zero, suc, ◌≡◌, ◌+◌, ◌-◌, ◌*◌, ◌≤◌, cond, Bool, true, false, nat_le, List, [], ◌∷◌, ◌++◌, length, map, drop, Option, Some, None, refl, sym, ap, ◌∙◌, arith, inl, inr, length-append}
+use Rattle.std.proofs.Common.{ℕ, suc, ◌≡◌, ◌+◌, ◌-◌, ◌*◌, ◌≤◌, cond, Bool, true, false, nat_le, List, [], ◌∷◌, ◌++◌, length, map, drop, Some, None, refl, sym, ap, ◌∙◌, arith, inl, inr, length-append}
 use Rattle.std.specs.Prelude.{Contains, if◌then◌else◌, slice_index, slice_range}
 use Rattle.std.proofs.lemmas.Bool.{cases_Bool, leb-true}
 use Rattle.std.proofs.lemmas.List.{length-drop, length-take}
@@ -21,9 +21,9 @@ use Rattle.aoe_initiator.specs.HostLog.{commands}
 use Rattle.aoe_initiator.specs.Response.{answer, ata_success, has_flag, is_failure, outcome_of, success}
 use Rattle.aoe_copy.specs.declared.plan.Plan.{Plan}
 use Rattle.aoe_copy.specs.Law.{reads, AreResponses, IsFront, IsResponse}
-use Rattle.aoe_copy.specs.Plan.{reach, span_at}
+use Rattle.aoe_copy.specs.Plan.{span_at}
 use Rattle.aoe_copy.specs.Steps.{given, read_at, written, ReadLaw, ReadStep}
-use Rattle.aoe_copy.specs.Window.{in_order, most_open, read_done}
+use Rattle.aoe_copy.specs.Window.{most_open, read_done}
 
 abbrev AreReadSteps : Start → Plan → Patience → List ReadStep → Type 0
 AreReadSteps b p w steps = AreSteps (ReadLaw b p) b w steps

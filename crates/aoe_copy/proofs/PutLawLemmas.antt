@@ -1,5 +1,5 @@
 -- What follows from the steps of a copy into a device.
-use Rattle.std.proofs.Common.{ℕ, suc, ◌≡◌, ◌+◌, ◌≤◌, cond, Bool, true, false, nat_le, List, [], ◌∷◌, ◌++◌, length, map, drop, Some, None, refl, sym, ap, ◌∙◌, arith, inl, inr}
+use Rattle.std.proofs.Common.{ℕ, suc, ◌≡◌, ◌≤◌, cond, Bool, true, false, nat_le, List, [], ◌∷◌, ◌++◌, length, map, drop, Some, None, refl, sym, ap, ◌∙◌, arith, inl, inr}
 use Rattle.std.specs.Prelude.{All, Contains, if◌then◌else◌, slice_index}
 use Rattle.std.proofs.lemmas.Bool.{cases_Bool, not-false}
 use Rattle.std.proofs.lemmas.List.Elements.{All-contains, Contains-append_left, Contains-append_right}
@@ -7,11 +7,11 @@ use Rattle.std.proofs.lemmas.Option.{option_and_then_some, same_Some}
 use Rattle.aoe_base.proofs.CountLemmas.{none-all}
 use Rattle.aoe_base.specs.declared.counted.Ticket.{Ticket}
 use Rattle.aoe_block.specs.Answered.{as_asked, submissions, IsDone, IsTold, Submission}
-use Rattle.aoe_block.specs.Steps.{asked, has_ticked, is_open, is_success, log_of, new_start, open_of, ops, owns, ticket_at, AreSteps, GoesOn, Patience, Start}
+use Rattle.aoe_block.specs.Steps.{asked, is_open, is_success, log_of, new_start, open_of, ops, owns, ticket_at, AreSteps, GoesOn, Patience, Start}
 use Rattle.aoe_block.specs.Steps.Step.{hears, own, sends, submits, ticks}
 use Rattle.aoe_block.proofs.DoneLaws.{done-at}
 use Rattle.aoe_block.proofs.OpenLemmas.{open-ended, open-frames, open-heard, open-submits}
-use Rattle.aoe_block.proofs.StepLaws.{asked-law, told-later}
+use Rattle.aoe_block.proofs.StepLaws.{asked-law}
 use Rattle.aoe_frame.specs.declared.header.Header.{Header}
 use Rattle.aoe_frame.specs.Header.{head}
 use Rattle.aoe_initiator.proofs.ListLemmas.{Contains-map_from}
@@ -30,7 +30,7 @@ use Rattle.aoe_copy.specs.declared.plan.Plan.{Plan}
 use Rattle.aoe_copy.specs.declared.putting.Stage.{Stage}
 use Rattle.aoe_copy.specs.declared.putting.Stage.TheVariants as stage
 use Rattle.aoe_copy.specs.PutLaw.{flush_ops, write_ops, writes, AreAcknowledged, AreParts, IsWritten}
-use Rattle.aoe_copy.specs.PutSteps.{has_flush, pieces, stage_at_end, stage_fed, stage_of, write_after, Fed, PutLaw, PutStep}
+use Rattle.aoe_copy.specs.PutSteps.{has_flush, pieces, stage_fed, stage_of, write_after, Fed, PutLaw, PutStep}
 use Rattle.aoe_copy.specs.PutSteps.Fed.{ends, exceeds}
 use Rattle.aoe_copy.specs.Window.{most_open}
 use Rattle.aoe_copy.proofs.PutStepLemmas.{stage-own}
@@ -200,9 +200,12 @@ module _ (host : Host) (p : Plan) (flush : Bool) (w : Patience) where
     -- the command of a submission was answered
     submission-done : (s : Submission) → Contains (writes b p steps) s → (c : HostCommand) × (as_asked c ≡ s) × IsDone b steps c
     submission-done s there =
-        let x = Contains-map_from as_asked (commands (log_of b steps)) s (rw (← writes-law b p flush w steps are) at there) in
-        (x.0, x.2, done-at (PutLaw b p flush) host w steps x.0 are well x.1
-        (all-done (commands (log_of b steps)) x.0 x.1 (none-all is_open (commands (log_of b steps)) none)))
+        let x = Contains-map_from as_asked (commands (log_of b steps)) s (rw (← writes-law b p flush w steps are) at there) in (
+          x.0,
+          x.2,
+          done-at (PutLaw b p flush) host w steps x.0 are well x.1
+              (all-done (commands (log_of b steps)) x.0 x.1 (none-all is_open (commands (log_of b steps)) none)),
+        )
 
     told-of : (c : HostCommand) (says : Outcome) (t : Ticket) → (h : IsDone b steps c) → h.says ≡ says → c.ticket ≡ t → IsTold b steps t says
     told-of c says t h same ticket = record {

@@ -1,27 +1,24 @@
 -- What each step changes of what a copy into a device keeps and is true of: what is read and submitted.
-use Rattle.std.proofs.Common.{ℕ, suc, ◌≡◌, ◌+◌, ◌*◌, ◌%◌, ◌<◌, ◌≤◌, ◌&&◌, Bool, true, false, not, nat_eq, nat_lt, List, [], ◌∷◌, ◌++◌, length, Option, refl, sym, ap, ◌∙◌, arith, inl, inr, append_assoc, append-nil, length-append}
+use Rattle.std.proofs.Common.{ℕ, suc, ◌≡◌, ◌+◌, ◌*◌, ◌%◌, ◌<◌, ◌≤◌, ◌&&◌, Bool, true, false, nat_eq, nat_lt, List, [], ◌∷◌, ◌++◌, length, Option, refl, sym, ap, ◌∙◌, arith, inl, inr, append_assoc, append-nil, length-append}
 use Rattle.std.specs.Prelude.{◌≢◌, ◌⊎◌, IfErr, OnOk, Ok, Err, Result, if◌then◌else◌}
 use Rattle.std.proofs.lemmas.Bool.{and_parts, cases_Bool, cases_lt, eqb-true, lt-ltb, ltb-true}
 use Rattle.std.proofs.lemmas.List.{nil_from_length}
-use Rattle.aoe_block.specs.Steps.{answers_of, asked, frames_of, has_ticked, log_of, open_of, ops, outcomes, owns, quiet_turns, turns_of, AreSteps, Drives, GoesOn, HasSeen, Seen, Start, Step}
+use Rattle.aoe_block.specs.Steps.{asked, has_ticked, log_of, open_of, ops, outcomes, owns, quiet_turns, AreSteps, GoesOn, HasSeen, Seen}
 use Rattle.aoe_block.specs.Steps.Step.{own, submits}
 use Rattle.aoe_block.proofs.OpenLemmas.{open-submits, pending-open}
 use Rattle.aoe_block.proofs.StepLemmas.{drives-own, drives-submits, seen-own, seen-submits}
-use Rattle.aoe_initiator.specs.declared.op.Op.{Op}
 use Rattle.aoe_initiator.specs.declared.op.Op.TheVariants as op
-use Rattle.aoe_initiator.specs.Host.{Host}
 use Rattle.aoe_io.proofs.BytesLemmas.{Gave-then}
 use Rattle.aoe_io.specs.Bytes.{GaveSome, IsEnded}
 use Rattle.aoe_tools.specs.declared.end.ToolRefusal.TheVariants as tool
 use Rattle.aoe_copy.specs.declared.end.CopyRefusal.{CopyRefusal}
 use Rattle.aoe_copy.specs.declared.end.CopyRefusal.TheVariants as copy
-use Rattle.aoe_copy.specs.declared.plan.Plan.{Plan}
 use Rattle.aoe_copy.specs.declared.putting.Putting.{Putting}
 use Rattle.aoe_copy.specs.declared.putting.Stage.{Stage}
 use Rattle.aoe_copy.specs.declared.putting.Stage.TheVariants as stage
 use Rattle.aoe_copy.specs.Feed.{ahead, Feeds}
 use Rattle.aoe_copy.specs.PutRuns.{EndsBy, HasFed, HasPut, IsReadOut, PutSeen, IsLean as IsLeanAll}
-use Rattle.aoe_copy.specs.PutSteps.{count_of, has_flush, pieces, rest_of, room_after, stage_at_end, stage_fed, stage_of, write_after, written, Fed, IsFilled, IsPart, MayFlush, MayRead, NothingLeft, PutLaw, PutStep}
+use Rattle.aoe_copy.specs.PutSteps.{has_flush, pieces, rest_of, room_after, stage_at_end, stage_fed, stage_of, write_after, written, Fed, IsFilled, IsPart, MayFlush, MayRead, NothingLeft, PutLaw, PutStep}
 use Rattle.aoe_copy.specs.PutSteps.Fed.{ends, exceeds}
 use Rattle.aoe_copy.specs.Putting.{end_in, end_of, flushes_left, is_ended, is_reading, left_of, may_flush, may_read, room_of, stage_behind, stage_past, Asked, Ended, FlushesOne, IsLean, IsOver, IsPiece, IsRest, Keeps, ReadsOn, Setting, Stands, WritesOne, WritesSome}
 use Rattle.aoe_copy.specs.Steps.{patience}
@@ -163,11 +160,11 @@ module _ {c : Setting} {seen : PutSeen} {a : List ℕ} {steps : List PutStep} {x
     | inl few ↦ elim (cases_lt 0 (length x.host.pending)) [
       | inl some ↦ inr (by x.stage k.stage_is (lt-ltb _ _ few) no_read (omega (arith, some, pending-open k.drives.matches)))
       | inr none ↦ absurd (
-        let no : length x.host.pending ≡ 0 = omega (arith, none) in
-        let few_b = lt-ltb _ _ few in
-        let none_b = is-zero (length x.host.pending) no in
-        over-none x.flush x.stage (length x.host.pending) none_b (lt-ltb _ _ few) no_read no_flush more
-      )
+          let no : length x.host.pending ≡ 0 = omega (arith, none) in
+          let few_b = lt-ltb _ _ few in
+          let none_b = is-zero (length x.host.pending) no in
+          over-none x.flush x.stage (length x.host.pending) none_b (lt-ltb _ _ few) no_read no_flush more
+          )
     ]
     | inr full ↦ inl (omega (arith, full, pending-open k.drives.matches))
   ]
@@ -560,29 +557,29 @@ module _ {c : Setting} {seen : Seen} {left left' : Option (List ℕ)} {a : List 
 pub flushes-more : {c : Setting} {seen : PutSeen} {steps : List PutStep} {x y : Putting} → Stands c seen (ahead x.feed) steps → Keeps c steps x → GoesOn steps
     → has_ticked steps ≡ true → MayFlush c.put.start c.put.flush steps → FlushesOne x y → Asked c seen steps y
 flushes-more {c} {seen} {steps} {x} {y} s k well ticked may one = record {
-    steps' = submits op.Flush ∷ steps;
-    stands = record {
-      begins = s.begins;
-      are = (s.are, (well, ticked, may));
-      seen_is = rw one.feed_is (record { seen_is = seen-submits op.Flush s.seen_is.seen_is; fed = s.seen_is.fed });
-      lean = rw one.feed_is s.lean;
-      over = rw one.feed_is (rw may.ended at s.over);
-      rest = rw may.ended at s.rest;
-      full = λ still. absurd cc;
-    };
-    keeps = record {
-      plan_is = one.plan_is ∙ k.plan_is;
-      flush_is = one.flush_is ∙ k.flush_is;
-      drives = drives-submits op.Flush k.drives one.submits one.same (omega arith) (omega (arith, one.last)) one.tag;
-      reached_is = one.reached_is ∙ k.reached_is;
-      stage_is = one.stage_is;
-    };
-    outcomes_are = refl;
-    quiet_is = refl;
-    ticked = ticked;
-    left_is = omega (
-      arith,
-      open-submits (record { 0 = suc (c.put.start.host.last_ticket + asked steps) }) op.Flush (log_of c.put.start steps),
-      ap flushes_left may.ended,
-    );
+  steps' = submits op.Flush ∷ steps;
+  stands = record {
+    begins = s.begins;
+    are = (s.are, (well, ticked, may));
+    seen_is = rw one.feed_is (record { seen_is = seen-submits op.Flush s.seen_is.seen_is; fed = s.seen_is.fed });
+    lean = rw one.feed_is s.lean;
+    over = rw one.feed_is (rw may.ended at s.over);
+    rest = rw may.ended at s.rest;
+    full = λ still. absurd cc;
+  };
+  keeps = record {
+    plan_is = one.plan_is ∙ k.plan_is;
+    flush_is = one.flush_is ∙ k.flush_is;
+    drives = drives-submits op.Flush k.drives one.submits one.same (omega arith) (omega (arith, one.last)) one.tag;
+    reached_is = one.reached_is ∙ k.reached_is;
+    stage_is = one.stage_is;
+  };
+  outcomes_are = refl;
+  quiet_is = refl;
+  ticked = ticked;
+  left_is = omega (
+    arith,
+    open-submits (record { 0 = suc (c.put.start.host.last_ticket + asked steps) }) op.Flush (log_of c.put.start steps),
+    ap flushes_left may.ended,
+  );
 }

@@ -1,17 +1,17 @@
 -- A turn of a copy into a device: the clock answers, commands are submitted, frames go out, and a turn of the link passes; and one turn after
 -- another.
-use Rattle.std.proofs.Common.{ℕ, ◌≡◌, ◌+◌, ◌-◌, ◌*◌, ◌<◌, ◌≤◌, Bool, true, false, not, nat_eq, List, [], ◌∷◌, ◌++◌, length, reverse, Option, Some, None, refl, sym, ap, ◌∙◌, arith, append-nil, inl, inr}
+use Rattle.std.proofs.Common.{ℕ, ◌≡◌, ◌+◌, ◌-◌, ◌*◌, ◌<◌, ◌≤◌, Bool, true, false, nat_eq, List, [], ◌∷◌, ◌++◌, length, reverse, Option, Some, None, refl, sym, ap, ◌∙◌, arith, append-nil, inl, inr}
 use Rattle.std.specs.Prelude.{Result, Ok, Err, IfSome}
 use Rattle.std.proofs.lemmas.Bool.{cases_Bool, eqb-true}
 use Rattle.std.proofs.lemmas.List.{length-map}
 use Rattle.aoe_base.specs.declared.failure.Failed.{Failed}
 use Rattle.aoe_block.specs.Exchange.{is_heard, Exchanges, IsHeld}
-use Rattle.aoe_block.specs.Steps.{has_ticked, log_of, open_of, ops, outcomes, owns, quiet_turns, AreSteps, Drives, GoesOn, Patience, Seen, Start, Told}
+use Rattle.aoe_block.specs.Steps.{has_ticked, log_of, open_of, ops, outcomes, owns, quiet_turns, AreSteps, GoesOn, Patience, Seen, Start, Told}
 use Rattle.aoe_block.specs.Steps.Step.{hears, own, sends, submits, ticks}
 use Rattle.aoe_block.specs.Turns.{quiet_by, told_by, Heard, Outgoing}
 use Rattle.aoe_block.proofs.OpenLemmas.{open-frames, pending-open, smaller}
 use Rattle.aoe_block.proofs.SendLemmas.{added-nothing}
-use Rattle.aoe_block.proofs.StepLemmas.{after_sends, alike, broken, drives-start, drives-ticks, exchanged, seen-ticks, ticks-gives-up, ticks-open, Advanced, Alike, Exchanged}
+use Rattle.aoe_block.proofs.StepLemmas.{after_sends, alike, broken, drives-start, drives-ticks, exchanged, seen-ticks, ticks-gives-up, ticks-open, Advanced, Exchanged}
 use Rattle.aoe_initiator.specs.declared.device.Attached.{Attached}
 use Rattle.aoe_initiator.specs.declared.device.Device.{Device}
 use Rattle.aoe_initiator.specs.declared.outcome.Done.{Done}
@@ -33,11 +33,11 @@ use Rattle.aoe_copy.specs.declared.putting.Stage.{Stage}
 use Rattle.aoe_copy.specs.declared.putting.Stage.TheVariants as stage
 use Rattle.aoe_copy.specs.Copying.{InOrder}
 use Rattle.aoe_copy.specs.Feed.{ahead}
-use Rattle.aoe_copy.specs.PutRuns.{last_stage, PutSeen, PutSetting, Runs}
-use Rattle.aoe_copy.specs.PutSteps.{count_of, has_flush, pieces, rest_of, stage_fed, stage_of, Fed, IsFilled, PutLaw, PutStep}
+use Rattle.aoe_copy.specs.PutRuns.{PutSeen, PutSetting, Runs}
+use Rattle.aoe_copy.specs.PutSteps.{has_flush, rest_of, stage_fed, stage_of, Fed, IsFilled, PutLaw, PutStep}
 use Rattle.aoe_copy.specs.PutSteps.Fed.{ends, exceeds}
 use Rattle.aoe_copy.specs.declared.plan.Plan.{Plan}
-use Rattle.aoe_copy.specs.Putting.{end_in, end_of, left_now, left_of, Begins, Collected, Ended, IsFit, Keeps, MayBegin, Passes, Setting, Stands, Turns}
+use Rattle.aoe_copy.specs.Putting.{end_in, end_of, left_now, left_of, Begins, Ended, IsFit, Keeps, MayBegin, Passes, Setting, Stands, Turns}
 use Rattle.aoe_copy.specs.Steps.{patience, Fails}
 use Rattle.aoe_copy.proofs.CollectLemmas.{refused-why, still-in-order}
 use Rattle.aoe_copy.proofs.ExchangeLemmas.{count-same, told-back}

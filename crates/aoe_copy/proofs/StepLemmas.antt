@@ -1,24 +1,24 @@
 -- What the commands that are submitted change of what a copy out of a device keeps and is true of.
-use Rattle.std.proofs.Common.{ℕ, suc, ◌≡◌, ◌+◌, ◌<◌, ◌≤◌, true, false, nat_eq, nat_lt, List, [], ◌∷◌, length, Option, refl, sym, ap, ◌∙◌, arith, inl, inr}
+use Rattle.std.proofs.Common.{ℕ, suc, ◌≡◌, ◌+◌, ◌<◌, ◌≤◌, true, false, nat_lt, List, ◌∷◌, length, Option, refl, sym, ap, ◌∙◌, arith, inl, inr}
 use Rattle.std.specs.Prelude.{Ok, Err}
 use Rattle.std.proofs.lemmas.List.{length-map}
 use Rattle.std.proofs.lemmas.Bool.{and_parts, cases_lt, eq-eqb, lt-ltb, ltb-true}
 use Rattle.aoe_block.specs.Exchange.{Exchanges, IsHeld}
-use Rattle.aoe_block.specs.Steps.{asked, has_ticked, log_of, outcomes, owns, GoesOn, Start}
+use Rattle.aoe_block.specs.Steps.{asked, has_ticked, log_of, GoesOn}
 use Rattle.aoe_block.specs.Steps.Step.{submits}
 use Rattle.aoe_block.proofs.OpenLemmas.{open-submits}
 use Rattle.aoe_block.proofs.StepLemmas.{drives-submits, seen-submits}
 use Rattle.aoe_initiator.proofs.MatchLemmas.{same-then}
 use Rattle.aoe_initiator.specs.declared.device.Attached.{Attached}
 use Rattle.aoe_initiator.specs.declared.device.Device.{Device}
-use Rattle.aoe_initiator.specs.Host.{Host, IsSame}
+use Rattle.aoe_initiator.specs.Host.{Host}
 use Rattle.aoe_io.specs.Link.{Turn}
 use Rattle.aoe_tools.specs.declared.end.ToolRefusal.TheVariants as tool
 use Rattle.aoe_copy.specs.Window.{most_open}
 use Rattle.aoe_copy.specs.declared.copying.Copying.{Copying}
 use Rattle.aoe_copy.specs.declared.end.CopyRefusal.TheVariants as copy
 use Rattle.aoe_copy.specs.declared.plan.Plan.{Plan}
-use Rattle.aoe_copy.specs.Copying.{is_over, left_of, may_ask, next_count, Asked, AsksOne, Ended, IsFit, Keeps, Setting, Stands}
+use Rattle.aoe_copy.specs.Copying.{is_over, left_of, may_ask, Asked, AsksOne, Ended, IsFit, Keeps, Setting, Stands}
 use Rattle.aoe_copy.specs.Plan.{reach}
 use Rattle.aoe_copy.specs.Runs.{ReadSeen}
 use Rattle.aoe_copy.specs.Steps.{given, read_at, IsFilled, IsOver, MayAsk, ReadStep}
@@ -70,11 +70,11 @@ module _ {c : Setting} {steps : List ReadStep} {x : Copying} (k : Keeps c steps 
       let none : length x.window.slots.items ≡ 0 = omega (arith, open-is, o.given_all) in
       let all : x.reached ≡ x.plan.count = k.reached_is ∙ o.asked_all ∙ ap (λ (p : Plan). p.count) (sym k.plan_is) in
       absurd (
-          let none_b = eq-eqb _ _ none in
-          let all_b = eq-eqb _ _ all in
-          let no = rw (none_b, all_b) at more in
-          cc
-          )
+      let none_b = eq-eqb _ _ none in
+      let all_b = eq-eqb _ _ all in
+      let no = rw (none_b, all_b) at more in
+      cc
+      )
 
 -- one more command leaves no more to do: it asks for a sector at least
 asks-left : (c : Setting) (steps : List ReadStep) → 0 < c.plan.max → reach c.plan (asked steps) < c.plan.count

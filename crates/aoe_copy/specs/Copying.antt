@@ -6,7 +6,7 @@ use Rattle.aoe_block.specs.Steps.{asked, has_ticked, open_of, outcomes, owns, qu
 use Rattle.aoe_block.specs.Turns.{quiet_by, the_device, Heard}
 use Rattle.aoe_initiator.specs.declared.op.Op.TheVariants as op
 use Rattle.aoe_initiator.specs.declared.outcome.Done.{Done}
-use Rattle.aoe_initiator.specs.Host.{Host, IsSame, Matches}
+use Rattle.aoe_initiator.specs.Host.{IsSame, Matches}
 use Rattle.aoe_initiator.specs.HostLog.{Event}
 use Rattle.aoe_initiator.specs.HostLog.Event.{Submits}
 use Rattle.aoe_tools.specs.declared.end.ToolRefusal.{ToolRefusal}

@@ -1,7 +1,7 @@
 -- What a copy into a device keeps while it runs, and what it is true of: the steps so far, and what link, clock and source tell of them.
 use Rattle.std.specs.Prelude.{ℕ, suc, ◌≡◌, ◌+◌, ◌-◌, ◌*◌, ◌/◌, ◌%◌, ◌^◌, ◌<◌, ◌≤◌, ◌⊎◌, min, nat_eq, nat_lt, not, Bool, true, false, ◌&&◌, List, [], ◌∷◌, ◌++◌, length, Option, Some, None, Result, Ok, Err, if◌then◌else◌}
 use Rattle.aoe_block.specs.Answered.{IsStart}
-use Rattle.aoe_block.specs.Steps.{has_ticked, open_of, outcomes, quiet_turns, AreSteps, Drives, GoesOn, Start}
+use Rattle.aoe_block.specs.Steps.{has_ticked, open_of, outcomes, quiet_turns, AreSteps, Drives, GoesOn}
 use Rattle.aoe_block.specs.Turns.{quiet_by, the_device, Heard}
 use Rattle.aoe_initiator.specs.declared.op.Op.TheVariants as op
 use Rattle.aoe_initiator.specs.Host.{IsSame, Matches}
@@ -14,7 +14,6 @@ use Rattle.aoe_copy.specs.declared.copying.Passed.{Passed}
 use Rattle.aoe_copy.specs.declared.copying.Passed.TheVariants as passed
 use Rattle.aoe_copy.specs.declared.end.CopyRefusal.{CopyRefusal}
 use Rattle.aoe_copy.specs.declared.end.CopyRefusal.TheVariants as copy
-use Rattle.aoe_copy.specs.declared.plan.Plan.{Plan}
 use Rattle.aoe_copy.specs.declared.putting.Putting.{Putting}
 use Rattle.aoe_copy.specs.declared.putting.Stage.{Stage}
 use Rattle.aoe_copy.specs.declared.putting.Stage.TheVariants as stage

@@ -1,5 +1,5 @@
 -- A whole copy out of a device, over a link, a clock and a sink that tell what they gave and took.
-use Rattle.std.specs.Prelude.{ℕ, ◌≡◌, ◌+◌, ◌<◌, ◌≤◌, ◌⊎◌, List, [], Option, Result, Ok, Err}
+use Rattle.std.specs.Prelude.{ℕ, ◌≡◌, ◌+◌, ◌<◌, ◌≤◌, ◌⊎◌, List, Option, Result, Ok, Err}
 use Rattle.aoe_base.specs.declared.address.TargetId.{TargetId}
 use Rattle.aoe_block.specs.Steps.{outcomes, new_start, quiet_turns, AreSteps, GoesOn, HasSeen, Seen, Start}
 use Rattle.aoe_block.specs.Turns.{host_of}

@@ -1,4 +1,4 @@
-use Rattle.std.proofs.Common.{[], inl, inr, refl, sym, ap, ◌∙◌, arith}
+use Rattle.std.proofs.Common.{[], inl, inr, refl, ap, ◌∙◌}
 use Rattle.aoe_block.specs.Steps.{log_of, new_start}
 use Rattle.aoe_initiator.specs.Host.{Host}
 use Rattle.aoe_copy.proofs.AgainLemmas.{starts-again}

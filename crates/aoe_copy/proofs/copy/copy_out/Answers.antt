@@ -1,4 +1,4 @@
-use Rattle.std.proofs.Common.{◌≡◌, [], inl, inr, refl, ap, ◌∙◌}
+use Rattle.std.proofs.Common.{[], inl, inr, refl, ap, ◌∙◌}
 use Rattle.aoe_initiator.specs.Host.{Host}
 use Rattle.aoe_copy.proofs.HostLemmas.{starts-new}
 use Rattle.aoe_block.specs.Steps.{new_start}

@@ -1,4 +1,4 @@
-use Rattle.std.proofs.Common.{ℕ, List, length, ap, inl, inr, refl, arith}
+use Rattle.std.proofs.Common.{ap, inl, inr, refl, arith}
 use Rattle.aoe_copy.specs.declared.plan.Plan.{Plan}
 use Rattle.aoe_copy.proofs.Unlimited.{unlimited}
 use Rattle.aoe_copy.proofs.into.put_front.Goals as goal

@@ -11,16 +11,16 @@ invariant-turns g l = record {
   fit : IsFit l.self;
   so : (b : Start) (p : Plan) → Begins b p l.fn.self
       → So
-          (record {
-            start = b;
-            plan = p;
-            turns = l.turns;
-            before = seen_by (g.L.Link.turns l.fn.link) (g.L.Link.given l.fn.link) (g.L.Link.taken l.fn.link) (g.C.Clock.answers l.fn.clock)
-                (g.K.Sink.held l.fn.sink);
-          })
-          l.quiet
-          (seen_by (g.L.Link.turns l.link) (g.L.Link.given l.link) (g.L.Link.taken l.link) (g.C.Clock.answers l.clock) (g.K.Sink.held l.sink))
-          l.self;
+      (record {
+        start = b;
+        plan = p;
+        turns = l.turns;
+        before = seen_by (g.L.Link.turns l.fn.link) (g.L.Link.given l.fn.link) (g.L.Link.taken l.fn.link) (g.C.Clock.answers l.fn.clock)
+            (g.K.Sink.held l.fn.sink);
+      })
+      l.quiet
+      (seen_by (g.L.Link.turns l.link) (g.L.Link.given l.link) (g.L.Link.taken l.link) (g.C.Clock.answers l.clock) (g.K.Sink.held l.sink))
+      l.self;
   within : l.quiet ≤ l.turns;
   faults : g.L.Link.faults l.link ≡ g.L.Link.faults l.fn.link;
   sink_faults : g.K.Sink.faults l.sink ≡ g.K.Sink.faults l.fn.sink;

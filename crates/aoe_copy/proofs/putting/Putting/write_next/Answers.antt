@@ -1,4 +1,4 @@
-use Rattle.std.proofs.Common.{ℕ, List, ap, ◌≡◌, ◌*◌, ◌∙◌, arith, length}
+use Rattle.std.proofs.Common.{ap, ◌≡◌, ◌*◌, ◌∙◌, arith, length}
 use Rattle.aoe_copy.specs.PutSteps.{pieces, room_after}
 use Rattle.aoe_copy.proofs.PutStepLemmas.{ends-unread, full-reads, keeps-fed, last-reads, may-read, room-is}
 use Rattle.aoe_copy.proofs.putting.Putting.write_next.Goals as goal
