@@ -1,0 +1,4 @@
+mod HeadLemmas
+mod MessageLemmas
+mod ReplyLemmas
+mod StepLemmas

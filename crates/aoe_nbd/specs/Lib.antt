@@ -1,0 +1,6 @@
+pub mod Errors
+pub mod Refusals
+pub mod Replies
+pub mod Requests
+pub mod Steps
+pub mod Streams

@@ -1,0 +1,34 @@
+//! What the definitions of requests, replies and streams come to.
+ghost use Rattle.std.specs.Prelude.{ℕ, List, ◌≡◌, ◌<◌, ◌++◌, Some, slice_index, take};
+ghost use Rattle.std.specs.List.{flat_map, AllByRecursion};
+ghost use Rattle.aoe_nbd.specs.declared.export.Export.{Export};
+ghost use Rattle.aoe_nbd.specs.declared.request.RequestHead.{RequestHead};
+ghost use Rattle.aoe_nbd.specs.declared.transmission.Stage.{Stage};
+ghost use Rattle.aoe_nbd.specs.Replies.{IsReply, Reply, reply_bytes};
+ghost use Rattle.aoe_nbd.specs.Requests.{Fits, head_bytes, head_of};
+ghost use Rattle.aoe_nbd.specs.Streams.{Past, StandsAt};
+
+/// A law: what is written as a request is read as it, whatever follows.
+pub fn request_reads_back()
+    ensures { (h : RequestHead) (rest : List ℕ) → Fits h → head_of (head_bytes h ++ rest) ≡ Some h }
+{}
+
+/// A law: what is read as a request begins with its one spelling.
+pub fn request_spelling_is_one()
+    ensures { (f : List ℕ) (h : RequestHead) → ((i : ℕ) → slice_index f i < 256) → head_of f ≡ Some h
+        → Fits h × (take 28 f ≡ head_bytes h) }
+{}
+
+/// A law: what a client said is a function of its bytes, however they are cut: the requests that came
+/// whole, and the data of the one that didn't.
+pub fn one_stream_says_one_thing()
+    ensures { (e : Export) (p q : Past) (s t : Stage) → StandsAt e p s → StandsAt e q t
+        → p.stream ≡ q.stream → (p.messages ≡ q.messages) × (p.part ≡ q.part) }
+{}
+
+/// A law: a client that knows how much it asked for reads each reply of a list, and no others.
+pub fn one_stream_has_one_list_of_replies()
+    ensures { (asked : ℕ → ℕ) (rs ss : List Reply) → AllByRecursion (IsReply asked) rs
+        → AllByRecursion (IsReply asked) ss
+        → flat_map reply_bytes rs ≡ flat_map reply_bytes ss → rs ≡ ss }
+{}
