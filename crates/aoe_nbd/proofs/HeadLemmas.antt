@@ -53,14 +53,14 @@ read h f is =
     record { long = grind arith; magic = grind arith; same = some-is (fields f) h some }
 
 -- a piece of bytes
-part-small : (f : List ℕ) (n k : ℕ) → ((i : ℕ) → get_or f i 0 < 256) → (i : ℕ) → get_or (take n (drop k f)) i 0 < 256
+pub part-small : (f : List ℕ) (n k : ℕ) → ((i : ℕ) → get_or f i 0 < 256) → (i : ℕ) → get_or (take n (drop k f)) i 0 < 256
 part-small f n k small i =
     elim (cases_lt i n) [
       | inl inside ↦ rw (get_or-take n (drop k f) i 0 inside, get_or-drop) (small (k + i))
       | inr past ↦ rw (get_or_past (take n (drop k f)) i 0 (omega (arith, length-take n (drop k f)))) (omega arith)
     ]
 
-piece-long : (f : List ℕ) (n k : ℕ) → k + n ≤ length f → length (take n (drop k f)) ≡ n
+pub piece-long : (f : List ℕ) (n k : ℕ) → k + n ≤ length f → length (take n (drop k f)) ≡ n
 piece-long f n k inside = length-take-le n (drop k f) (omega (arith, length-drop k f))
 
 pieces : (f : List ℕ) → take 28 f ≡ take 4 f ++ take 2 (drop 4 f) ++ take 2 (drop 6 f) ++ take 8 (drop 8 f) ++ take 8 (drop 16 f) ++ take 4 (drop 24 f)
@@ -76,7 +76,7 @@ joined : (x a b c d e f a' b' c' d' e' f' : List ℕ) → x ≡ a ++ b ++ c ++ d
     → x ≡ a' ++ b' ++ c' ++ d' ++ e' ++ f'
 joined x a b c d e f a' b' c' d' e' f' split p q r s t u = cc
 
-four-below : (f : List ℕ) → ((i : ℕ) → get_or f i 0 < 256) → from_be_bytes w32 f < 2 ^ 32
+pub four-below : (f : List ℕ) → ((i : ℕ) → get_or f i 0 < 256) → from_be_bytes w32 f < 2 ^ 32
 four-below f small = omega (arith, small 0, small 1, small 2, small 3)
 
 two-below : (f : List ℕ) → ((i : ℕ) → get_or f i 0 < 256) → from_be_bytes w16 f < 2 ^ 16

@@ -1,4 +1,6 @@
 mod HeadLemmas
 mod MessageLemmas
+mod OptionLemmas
 mod ReplyLemmas
 mod StepLemmas
+mod TalkLemmas

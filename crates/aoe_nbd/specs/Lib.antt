@@ -1,4 +1,6 @@
 pub mod Errors
+pub mod Handshakes
+pub mod Options
 pub mod Refusals
 pub mod Replies
 pub mod Requests

@@ -1,7 +1,8 @@
 //! Requests of the transmission phase.
-ghost use Rattle.std.specs.Prelude.{ℕ, ◌≡◌, ◌+◌, ◌≤◌, length, slice_range};
+ghost use Rattle.std.specs.Prelude.{◌≡◌};
 ghost use Rattle.aoe_nbd.specs.Requests.{action_of, data_len, head_of, request_of, span_of};
 
+use crate::bytes::array_at;
 use aoe_base::{SECTOR_LEN, Span};
 
 /// The magic number of a request.
@@ -65,17 +66,6 @@ pub struct Request {
     /// What the client knows it by. It needn't be its only one.
     pub handle: u64,
     pub action: Action,
-}
-
-/// The `N` bytes from `at` on.
-fn array_at<const N: usize>(bytes: &[u8], at: usize) -> [u8; N]
-    requires { at + N ≤ length bytes.now }
-    ensures { result ≡ slice_range bytes.now at (at + N) }
-{
-    match bytes[at..at + N].first_chunk::<N>() {
-        Some(array) => *array,
-        None => unreachable!(),
-    }
 }
 
 /// The head of the request that stands at the front, or `None` where there are fewer than 28 bytes or

@@ -1,0 +1,113 @@
+-- Where a handshake stands once an option was answered.
+use Rattle.std.proofs.Common.{◌≡◌, ℕ, ◌+◌, ◌<◌, ◌≤◌, inl, inr, List, [], ◌∷◌, ◌++◌, append-nil, append_assoc, length, get_or, take, drop, Bool, true, false, Option, Some, None, refl, sym, ap, subst, ◌∙◌, arith}
+use Rattle.std.specs.Prelude.{if◌then◌else◌, ◌==◌, ◌||◌}
+use Rattle.std.specs.Int.{w32, to_be_bytes}
+use Rattle.std.specs.List.{flat_map, AllByRecursion}
+use Rattle.std.proofs.lemmas.List.Concat.{flat_map-append}
+use Rattle.aoe_nbd.specs.declared.export.Export.{Export}
+use Rattle.aoe_nbd.specs.declared.handshake.HandshakeEvent.{HandshakeEvent}
+use Rattle.aoe_nbd.specs.declared.handshake.HandshakeEvent.TheVariants as events
+use Rattle.aoe_nbd.specs.declared.handshake.HandshakeStage.{HandshakeStage}
+use Rattle.aoe_nbd.specs.declared.handshake.HandshakeStage.TheVariants as stages
+use Rattle.aoe_nbd.specs.declared.option.OptionHead.{OptionHead}
+use Rattle.aoe_nbd.specs.Options.{IsOption, Opt, answer_of, event_of, go_event, greeting, info_error, is_name, option_bytes, option_head_of}
+use Rattle.aoe_nbd.specs.Handshakes.{IsBroken, IsLess, IsTalk, LeadsTo, Proceeds, TakesOption, Talk, stage_behind, talk_option, wants_no_zeroes}
+use Rattle.aoe_nbd.proofs.OptionLemmas.{Whole, less-option, other-magic, too-long, whole-option}
+
+-- what may come of an option
+abbrev IsOfOption : HandshakeEvent → Type 0
+IsOfOption events.More = ⊥
+IsOfOption events.Flags = ⊥
+IsOfOption events.Answered = Unit {0}
+IsOfOption events.Begins = Unit {0}
+IsOfOption events.Leaves = Unit {0}
+IsOfOption events.Unknown = Unit {0}
+IsOfOption events.Broken = ⊥
+IsOfOption events.Ended = ⊥
+
+either : (b : Bool) (x y : HandshakeEvent) → IsOfOption x → IsOfOption y → IsOfOption (if b then x else y)
+either true x y x_is y_is = x_is
+either false x y x_is y_is = y_is
+
+go-is : (error : Option ℕ) → IsOfOption (go_event error)
+go-is None = tt
+go-is (Some error) = tt
+
+of-option : (e : Export) (o : Opt) → IsOfOption (event_of e o)
+of-option e o =
+    either (o.code == 1) _ _ (either (is_name e o.payload) events.Begins events.Unknown tt tt)
+    (either (o.code == 2) events.Leaves _ tt (either (o.code == 7) _ events.Answered (go-is (info_error e o.payload)) tt))
+
+proceeds : (e : Export) (talk : Talk) (old : HandshakeStage) (bytes : List ℕ) (len : ℕ) (event : HandshakeEvent) (out : List ℕ) (new : HandshakeStage)
+    → IsOfOption event → TakesOption e talk old (take len bytes) event out new → Proceeds e talk old bytes len event out new
+proceeds e talk old bytes len events.More out new is takes = absurd is
+proceeds e talk old bytes len events.Flags out new is takes = absurd is
+proceeds e talk old bytes len events.Answered out new is takes = takes
+proceeds e talk old bytes len events.Begins out new is takes = takes
+proceeds e talk old bytes len events.Leaves out new is takes = takes
+proceeds e talk old bytes len events.Unknown out new is takes = takes
+proceeds e talk old bytes len events.Broken out new is takes = absurd is
+proceeds e talk old bytes len events.Ended out new is takes = absurd is
+
+led : (e : Export) (talk : Talk) (no_zeroes : Bool) (event : HandshakeEvent) → IsTalk e talk → no_zeroes ≡ wants_no_zeroes talk.flags → LeadsTo e talk (stage_behind event no_zeroes)
+led e talk no_zeroes events.Answered is asked = (is, asked)
+led e talk no_zeroes _ is asked = inl is
+
+grown : (f : Opt → List ℕ) (x y front : List ℕ) (os : List Opt) (o : Opt) → x ≡ y ++ flat_map f os → front ≡ f o → x ++ front ≡ y ++ flat_map f (os ++ o ∷ [])
+grown f x y front os o e one =
+    ap (λ (x : List ℕ). x ++ front) e ∙ append_assoc y (flat_map f os) front
+    ∙ ap (λ (z : List ℕ). y ++ z) (ap (λ (z : List ℕ). flat_map f os ++ z) (one ∙ sym (append-nil (f o))) ∙ sym (flat_map-append f os (o ∷ [])))
+
+each-grown : (os : List Opt) (o : Opt) → AllByRecursion IsOption os → IsOption o → AllByRecursion IsOption (os ++ o ∷ [])
+each-grown [] o all is = (is, tt)
+each-grown (n ∷ os) o all is = (all.0, each-grown os o all.1 is)
+
+talk-on : (e : Export) (talk : Talk) (no_zeroes : Bool) (front out : List ℕ) (o : Opt) → IsTalk e talk → no_zeroes ≡ wants_no_zeroes talk.flags → IsOption o → front ≡ option_bytes o
+    → out ≡ answer_of e no_zeroes o → IsTalk e (talk_option e talk front o out)
+talk-on e talk no_zeroes front out o is asked o_is front_is out_is = record {
+  flags = is.flags;
+  each = each-grown talk.options o is.each o_is;
+  stream = grown option_bytes talk.stream (to_be_bytes w32 talk.flags) front talk.options o is.stream front_is;
+  replies = grown (answer_of e (wants_no_zeroes talk.flags)) talk.replies greeting out talk.options o is.replies
+      (out_is ∙ ap (λ b. answer_of e b o) asked);
+}
+
+-- an option was answered
+pub takes-option : (e : Export) (talk : Talk) (old : HandshakeStage) (no_zeroes : Bool) (bytes payload : List ℕ) (h : OptionHead) (event : HandshakeEvent) (out : List ℕ) (new : HandshakeStage)
+    → old ≡ stages.Options no_zeroes → ((i : ℕ) → get_or bytes i 0 < 256) → option_head_of bytes ≡ Some h → h.len ≤ 8192 → 16 + h.len ≤ length bytes
+    → payload ≡ take h.len (drop 16 bytes) → event ≡ event_of e (record { code = h.code; payload = payload })
+    → out ≡ answer_of e no_zeroes (record { code = h.code; payload = payload }) → new ≡ stage_behind event no_zeroes
+    → LeadsTo e talk old → Proceeds e talk old bytes (16 + h.len) event out new
+takes-option e talk old no_zeroes bytes payload h event out new old_is small some few long payload_is event_is out_is new_is leads =
+    let o : Opt = record { code = h.code; payload = payload } in
+    let P : HandshakeStage → Type 0 = λ old. LeadsTo e talk old in
+    let here = subst P old_is leads in
+    let W : List ℕ → Type 0 = λ payload. Whole h bytes payload in
+    let w = subst W (sym payload_is) (whole-option bytes h small some few long) in
+    let is = talk-on e talk no_zeroes (take (16 + h.len) bytes) out o here.0 here.1 w.is w.bytes out_is in
+    let Q : HandshakeStage → Type 0 = λ new. LeadsTo e (talk_option e talk (take (16 + h.len) bytes) o out) new in
+    let R : HandshakeEvent → Type 0 = λ event. IsOfOption event in
+    proceeds e talk old bytes (16 + h.len) event out new (subst R (sym event_is) (of-option e o)) (record {
+      option = o;
+      no_zeroes = no_zeroes;
+      stage = old_is;
+      event_is = event_is;
+      out_is = out_is;
+      new_is = new_is;
+      leads = subst Q (sym new_is) (led e (talk_option e talk (take (16 + h.len) bytes) o out) no_zeroes event is here.1);
+    })
+
+-- no option begins so
+pub breaks-magic : (old : HandshakeStage) (no_zeroes : Bool) (bytes : List ℕ) → old ≡ stages.Options no_zeroes → option_head_of bytes ≡ None → IsBroken old bytes
+breaks-magic old no_zeroes bytes old_is none =
+    let P : HandshakeStage → Type 0 = λ old. IsBroken old bytes in subst P (sym old_is) (other-magic bytes none)
+
+pub breaks-long : (old : HandshakeStage) (no_zeroes : Bool) (bytes : List ℕ) (h : OptionHead) → old ≡ stages.Options no_zeroes → option_head_of bytes ≡ Some h → 8192 < h.len → IsBroken old bytes
+breaks-long old no_zeroes bytes h old_is some long =
+    let P : HandshakeStage → Type 0 = λ old. IsBroken old bytes in subst P (sym old_is) (too-long bytes h some long)
+
+-- an option that isn't whole
+pub less : (old : HandshakeStage) (no_zeroes : Bool) (bytes : List ℕ) (h : OptionHead) → old ≡ stages.Options no_zeroes → ((i : ℕ) → get_or bytes i 0 < 256)
+    → option_head_of bytes ≡ Some h → h.len ≤ 8192 → length bytes < 16 + h.len → IsLess old bytes
+less old no_zeroes bytes h old_is small some few short =
+    let P : HandshakeStage → Type 0 = λ old. IsLess old bytes in subst P (sym old_is) (less-option bytes h small some few short)
