@@ -1,15 +1,13 @@
 -- What is written as an option is read as it, and what is read as one was written so.
-use Rattle.std.proofs.Common.{◌≡◌, ◌≢◌, ℕ, ◌+◌, ◌-◌, ◌^◌, ◌<◌, ◌≤◌, List, [], ◌∷◌, ◌++◌, append_assoc, length, length-append, get_or, drop, take, Option, Some, None, true, false, Bool, refl, sym, ap, subst, ◌∙◌, arith, inl, inr}
+use Rattle.std.proofs.Common.{◌≡◌, ℕ, ◌+◌, ◌^◌, ◌<◌, ◌≤◌, List, ◌++◌, append_assoc, length, get_or, drop, take, Some, None, true, false, Bool, refl, sym, ap, subst, ◌∙◌, arith, inr}
 use Rattle.std.specs.Prelude.{nat_le, if◌then◌else◌, ◌&&◌, ◌==◌}
 use Rattle.std.specs.Int.{w32, w64, to_be_bytes, from_be_bytes}
-use Rattle.std.specs.List.{flat_map}
 use Rattle.std.proofs.lemmas.Bool.{le-leb}
-use Rattle.std.proofs.lemmas.Bool.Decides.{nat_tests}
 use Rattle.std.proofs.lemmas.List.{length-take-le, length-drop, take-append-drop}
 use Rattle.std.proofs.Math.Seq.{take-add}
 use Rattle.std.proofs.lemmas.Nat.{be_bytes_4, be_bytes_8, from_be_bytes-to_be_bytes_4}
 use Rattle.aoe_nbd.specs.declared.option.OptionHead.{OptionHead}
-use Rattle.aoe_nbd.specs.Options.{IsOption, Opt, ack, option_bytes, option_head_bytes, option_head_of, reply_front, reply_to}
+use Rattle.aoe_nbd.specs.Options.{IsOption, ClientOption, ack, option_bytes, option_head_bytes, option_head_of, reply_front, reply_to}
 use Rattle.aoe_nbd.specs.Handshakes.{IsPartialOption}
 use Rattle.aoe_nbd.proofs.HeadLemmas.{four-below, part-small, piece-long}
 
@@ -69,18 +67,8 @@ option-spelled h f small is =
     })
 
 -- the head of a whole option
-pub whole-head : (o : Opt) (rest : List ℕ) → IsOption o → option_head_of (option_bytes o ++ rest) ≡ Some (record { code = o.code; len = length o.payload })
+pub whole-head : (o : ClientOption) (rest : List ℕ) → IsOption o → option_head_of (option_bytes o ++ rest) ≡ Some (record { code = o.code; len = length o.payload })
 whole-head o rest is = option-again (record { code = o.code; len = length o.payload }) (o.payload ++ rest) is.code (let few = is.few in omega arith)
-
--- no option begins with another magic number, or with more data than is read
-
-pub other-magic : (f : List ℕ) → option_head_of f ≡ None → (o : Opt) (rest : List ℕ) → IsOption o → f ≢ option_bytes o ++ rest
-other-magic f none o rest is e = let some = whole-head o rest is in let same = ap option_head_of e in absurd (cc)
-
-pub too-long : (f : List ℕ) (h : OptionHead) → option_head_of f ≡ Some h → 8192 < h.len → (o : Opt) (rest : List ℕ) → IsOption o → f ≢ option_bytes o ++ rest
-too-long f h some long o rest is e =
-    let same = some-is h (record { code = o.code; len = length o.payload }) (sym some ∙ ap option_head_of e ∙ whole-head o rest is) in
-    omega (arith, is.few, long, ap (λ (h : OptionHead). h.len) same)
 
 -- fewer bytes than the head says
 pub less-option : (f : List ℕ) (h : OptionHead) → ((i : ℕ) → get_or f i 0 < 256) → option_head_of f ≡ Some h → h.len ≤ 8192 → length f < 16 + h.len → IsPartialOption f

@@ -1,5 +1,5 @@
 -- Where a connection stands once more bytes are taken, and what is told.
-use Rattle.std.proofs.Common.{◌≡◌, ◌≢◌, ℕ, Bool, true, false, ◌+◌, ◌-◌, ◌<◌, ◌≤◌, inl, inr, List, [], ◌∷◌, ◌++◌, append-nil, append_assoc, length, get_or, length-append, take, drop, Option, Some, None, refl, sym, ap, subst, ◌∙◌, arith}
+use Rattle.std.proofs.Common.{◌≡◌, ◌≢◌, ℕ, Bool, true, false, ◌+◌, ◌-◌, ◌<◌, ◌≤◌, inl, List, [], ◌∷◌, ◌++◌, append-nil, append_assoc, length, get_or, length-append, take, Option, Some, None, refl, sym, ap, subst, ◌∙◌, arith}
 use Rattle.std.specs.List.{flat_map, AllByRecursion}
 use Rattle.std.specs.Prelude.{min, ◌==◌, if◌then◌else◌}
 use Rattle.std.proofs.lemmas.Bool.{eqb-true}
@@ -14,7 +14,7 @@ use Rattle.aoe_nbd.specs.declared.transmission.Event.TheVariants as events
 use Rattle.aoe_nbd.specs.declared.transmission.Stage.{Stage}
 use Rattle.aoe_nbd.specs.declared.transmission.Stage.TheVariants as stages
 use Rattle.aoe_nbd.specs.Refusals.{refusal}
-use Rattle.aoe_nbd.specs.Requests.{Fits, data_len, head_bytes, head_of, request_of}
+use Rattle.aoe_nbd.specs.Requests.{Fits, data_len, head_bytes, head_of}
 use Rattle.aoe_nbd.specs.Steps.{data_event, first_event, head_event, piece_event, stage_of, whole_event}
 use Rattle.aoe_nbd.specs.Streams.{Follows, IsBegun, IsMessage, IsVerdict, Message, Past, StandsAt, begun, message_bytes, past_data, past_head, past_message}
 use Rattle.aoe_nbd.proofs.HeadLemmas.{Spelled, head-spelled}
@@ -74,17 +74,23 @@ head-by : (e : Export) (past : Past) (bytes : List ℕ) (h : RequestHead) → St
     → Follows e past stages.Head bytes 28 (if t then whole_event h refused else first_event h refused) (if t then stages.Head else stages.Data h refused missing)
 head-by e past bytes h stands is other None verdict missing all true t_is =
     let none : missing ≡ 0 = eqb-true missing 0 t_is in
-    let m : Message = record { head = h; payload = [] } in
-    (m, refl, (other, verdict),
-    stands-whole e past stages.Head stages.Head (take 28 bytes) m stands (record { fits = is.fits; whole = sym none ∙ all }) (is.bytes ∙ sym (append-nil (head_bytes h))) refl refl)
+    let m : Message = record { head = h; payload = [] } in (
+      m,
+      refl,
+      (other, verdict),
+      stands-whole e past stages.Head stages.Head (take 28 bytes) m stands (record { fits = is.fits; whole = sym none ∙ all }) (is.bytes ∙ sym (append-nil (head_bytes h))) refl refl,
+    )
 head-by e past bytes h stands is other None verdict missing all false t_is =
     let some : 0 < missing = above missing t_is in
     (h, missing, refl, refl, (other, verdict), refl, stands-head e past (take 28 bytes) h None missing stands is.bytes is.fits some all (inl verdict))
 head-by e past bytes h stands is other (Some error) verdict missing all true t_is =
     let none : missing ≡ 0 = eqb-true missing 0 t_is in
-    let m : Message = record { head = h; payload = [] } in
-    (m, refl, (other, verdict),
-    stands-whole e past stages.Head stages.Head (take 28 bytes) m stands (record { fits = is.fits; whole = sym none ∙ all }) (is.bytes ∙ sym (append-nil (head_bytes h))) refl refl)
+    let m : Message = record { head = h; payload = [] } in (
+      m,
+      refl,
+      (other, verdict),
+      stands-whole e past stages.Head stages.Head (take 28 bytes) m stands (record { fits = is.fits; whole = sym none ∙ all }) (is.bytes ∙ sym (append-nil (head_bytes h))) refl refl,
+    )
 head-by e past bytes h stands is other (Some error) verdict missing all false t_is =
     let some : 0 < missing = above missing t_is in
     (omega arith, h, error, missing, [], (other, verdict), refl, stands-head e past (take 28 bytes) h (Some error) missing stands is.bytes is.fits some all (inl verdict))

@@ -1,18 +1,20 @@
 -- Where a handshake stands once an option was answered.
-use Rattle.std.proofs.Common.{◌≡◌, ℕ, ◌+◌, ◌<◌, ◌≤◌, inl, inr, List, [], ◌∷◌, ◌++◌, append-nil, append_assoc, length, get_or, take, drop, Bool, true, false, Option, Some, None, refl, sym, ap, subst, ◌∙◌, arith}
-use Rattle.std.specs.Prelude.{if◌then◌else◌, ◌==◌, ◌||◌}
-use Rattle.std.specs.Int.{w32, to_be_bytes}
+use Rattle.std.proofs.Common.{◌≡◌, ℕ, ◌+◌, ◌<◌, ◌≤◌, inl, inr, ◌⊎◌, List, [], ◌∷◌, ◌++◌, append-nil, append_assoc, length, get_or, take, drop, Bool, true, false, Option, Some, None, refl, sym, ap, subst, ◌∙◌, arith}
+use Rattle.std.specs.Prelude.{if◌then◌else◌, ◌==◌}
+use Rattle.std.specs.Int.{w32, from_be_bytes, to_be_bytes}
 use Rattle.std.specs.List.{flat_map, AllByRecursion}
 use Rattle.std.proofs.lemmas.List.Concat.{flat_map-append}
+use Rattle.std.proofs.lemmas.Nat.{from_be_bytes-to_be_bytes_4}
 use Rattle.aoe_nbd.specs.declared.export.Export.{Export}
 use Rattle.aoe_nbd.specs.declared.handshake.HandshakeEvent.{HandshakeEvent}
 use Rattle.aoe_nbd.specs.declared.handshake.HandshakeEvent.TheVariants as events
 use Rattle.aoe_nbd.specs.declared.handshake.HandshakeStage.{HandshakeStage}
 use Rattle.aoe_nbd.specs.declared.handshake.HandshakeStage.TheVariants as stages
 use Rattle.aoe_nbd.specs.declared.option.OptionHead.{OptionHead}
-use Rattle.aoe_nbd.specs.Options.{IsOption, Opt, answer_of, event_of, go_event, greeting, info_error, is_name, option_bytes, option_head_of}
-use Rattle.aoe_nbd.specs.Handshakes.{IsBroken, IsLess, IsTalk, LeadsTo, Proceeds, TakesOption, Talk, stage_behind, talk_option, wants_no_zeroes}
-use Rattle.aoe_nbd.proofs.OptionLemmas.{Whole, less-option, other-magic, too-long, whole-option}
+use Rattle.aoe_nbd.specs.Options.{IsOption, ClientOption, answer_of, event_of, go_event, greeting, info_error, is_name, option_bytes, option_head_of}
+use Rattle.aoe_nbd.specs.Handshakes.{IsLess, IsTalk, LeadsTo, Proceeds, TakesOption, Talk, greeted, stage_behind, talk_option, wants_no_zeroes}
+use Rattle.aoe_nbd.proofs.OptionLemmas.{Whole, less-option, whole-head, whole-option}
+use Rattle.aoe_nbd.proofs.MessageLemmas.{same-front}
 
 -- what may come of an option
 abbrev IsOfOption : HandshakeEvent → Type 0
@@ -33,7 +35,7 @@ go-is : (error : Option ℕ) → IsOfOption (go_event error)
 go-is None = tt
 go-is (Some error) = tt
 
-of-option : (e : Export) (o : Opt) → IsOfOption (event_of e o)
+of-option : (e : Export) (o : ClientOption) → IsOfOption (event_of e o)
 of-option e o =
     either (o.code == 1) _ _ (either (is_name e o.payload) events.Begins events.Unknown tt tt)
     (either (o.code == 2) events.Leaves _ tt (either (o.code == 7) _ events.Answered (go-is (info_error e o.payload)) tt))
@@ -53,16 +55,16 @@ led : (e : Export) (talk : Talk) (no_zeroes : Bool) (event : HandshakeEvent) →
 led e talk no_zeroes events.Answered is asked = (is, asked)
 led e talk no_zeroes _ is asked = inl is
 
-grown : (f : Opt → List ℕ) (x y front : List ℕ) (os : List Opt) (o : Opt) → x ≡ y ++ flat_map f os → front ≡ f o → x ++ front ≡ y ++ flat_map f (os ++ o ∷ [])
+grown : (f : ClientOption → List ℕ) (x y front : List ℕ) (os : List ClientOption) (o : ClientOption) → x ≡ y ++ flat_map f os → front ≡ f o → x ++ front ≡ y ++ flat_map f (os ++ o ∷ [])
 grown f x y front os o e one =
     ap (λ (x : List ℕ). x ++ front) e ∙ append_assoc y (flat_map f os) front
     ∙ ap (λ (z : List ℕ). y ++ z) (ap (λ (z : List ℕ). flat_map f os ++ z) (one ∙ sym (append-nil (f o))) ∙ sym (flat_map-append f os (o ∷ [])))
 
-each-grown : (os : List Opt) (o : Opt) → AllByRecursion IsOption os → IsOption o → AllByRecursion IsOption (os ++ o ∷ [])
+each-grown : (os : List ClientOption) (o : ClientOption) → AllByRecursion IsOption os → IsOption o → AllByRecursion IsOption (os ++ o ∷ [])
 each-grown [] o all is = (is, tt)
 each-grown (n ∷ os) o all is = (all.0, each-grown os o all.1 is)
 
-talk-on : (e : Export) (talk : Talk) (no_zeroes : Bool) (front out : List ℕ) (o : Opt) → IsTalk e talk → no_zeroes ≡ wants_no_zeroes talk.flags → IsOption o → front ≡ option_bytes o
+talk-on : (e : Export) (talk : Talk) (no_zeroes : Bool) (front out : List ℕ) (o : ClientOption) → IsTalk e talk → no_zeroes ≡ wants_no_zeroes talk.flags → IsOption o → front ≡ option_bytes o
     → out ≡ answer_of e no_zeroes o → IsTalk e (talk_option e talk front o out)
 talk-on e talk no_zeroes front out o is asked o_is front_is out_is = record {
   flags = is.flags;
@@ -79,7 +81,7 @@ pub takes-option : (e : Export) (talk : Talk) (old : HandshakeStage) (no_zeroes 
     → out ≡ answer_of e no_zeroes (record { code = h.code; payload = payload }) → new ≡ stage_behind event no_zeroes
     → LeadsTo e talk old → Proceeds e talk old bytes (16 + h.len) event out new
 takes-option e talk old no_zeroes bytes payload h event out new old_is small some few long payload_is event_is out_is new_is leads =
-    let o : Opt = record { code = h.code; payload = payload } in
+    let o : ClientOption = record { code = h.code; payload = payload } in
     let P : HandshakeStage → Type 0 = λ old. LeadsTo e talk old in
     let here = subst P old_is leads in
     let W : List ℕ → Type 0 = λ payload. Whole h bytes payload in
@@ -97,17 +99,78 @@ takes-option e talk old no_zeroes bytes payload h event out new old_is small som
       leads = subst Q (sym new_is) (led e (talk_option e talk (take (16 + h.len) bytes) o out) no_zeroes event is here.1);
     })
 
--- no option begins so
-pub breaks-magic : (old : HandshakeStage) (no_zeroes : Bool) (bytes : List ℕ) → old ≡ stages.Options no_zeroes → option_head_of bytes ≡ None → IsBroken old bytes
-breaks-magic old no_zeroes bytes old_is none =
-    let P : HandshakeStage → Type 0 = λ old. IsBroken old bytes in subst P (sym old_is) (other-magic bytes none)
-
-pub breaks-long : (old : HandshakeStage) (no_zeroes : Bool) (bytes : List ℕ) (h : OptionHead) → old ≡ stages.Options no_zeroes → option_head_of bytes ≡ Some h → 8192 < h.len → IsBroken old bytes
-breaks-long old no_zeroes bytes h old_is some long =
-    let P : HandshakeStage → Type 0 = λ old. IsBroken old bytes in subst P (sym old_is) (too-long bytes h some long)
-
 -- an option that isn't whole
 pub less : (old : HandshakeStage) (no_zeroes : Bool) (bytes : List ℕ) (h : OptionHead) → old ≡ stages.Options no_zeroes → ((i : ℕ) → get_or bytes i 0 < 256)
     → option_head_of bytes ≡ Some h → h.len ≤ 8192 → length bytes < 16 + h.len → IsLess old bytes
 less old no_zeroes bytes h old_is small some few short =
     let P : HandshakeStage → Type 0 = λ old. IsLess old bytes in subst P (sym old_is) (less-option bytes h small some few short)
+
+-- one stream is one talk
+
+record SameOption (o p : ClientOption) (x y : List ℕ) : Type 0 where
+  option : o ≡ p
+  behind : x ≡ y
+
+same-option : (o p : ClientOption) → o.code ≡ p.code → o.payload ≡ p.payload → o ≡ p
+same-option o p c l =
+    let of : ℕ → List ℕ → ClientOption = λ c l. record { code = c; payload = l } in
+    let all : of o.code o.payload ≡ of p.code p.payload = rw (c, l) refl in
+    all
+
+head-is : (h g : OptionHead) → Some h ≡ Some g → h ≡ g
+head-is h g e = cc
+
+one-option : (o p : ClientOption) (x y : List ℕ) → IsOption o → IsOption p → option_bytes o ++ x ≡ option_bytes p ++ y → SameOption o p x y
+one-option o p x y o_is p_is e =
+    let heads = head-is (record { code = o.code; len = length o.payload }) (record { code = p.code; len = length p.payload })
+    (sym (whole-head o x o_is) ∙ ap option_head_of e ∙ whole-head p y p_is) in
+    let behind : o.payload ++ x ≡ p.payload ++ y = ap (drop 16) e in
+    let parts = same-front o.payload p.payload x y (ap (λ (h : OptionHead). h.len) heads) behind in
+    record { option = same-option o p (ap (λ (h : OptionHead). h.code) heads) parts.0; behind = parts.1 }
+
+one-list : (os ps : List ClientOption) → AllByRecursion IsOption os → AllByRecursion IsOption ps → flat_map option_bytes os ≡ flat_map option_bytes ps → os ≡ ps
+one-list [] [] all each e = refl
+one-list [] (p ∷ ps) all each e = absurd (cc)
+one-list (o ∷ os) [] all each e = absurd (cc)
+one-list (o ∷ os) (p ∷ ps) all each e =
+    let one = one-option o p (flat_map option_bytes os) (flat_map option_bytes ps) all.0 each.0 e in
+    let rest = one-list os ps all.1 each.1 one.behind in
+    rw (one.option, rest) refl
+
+same-talk : (p q : Talk) → p.stream ≡ q.stream → p.flags ≡ q.flags → p.options ≡ q.options → p.replies ≡ q.replies → p ≡ q
+same-talk p q s f o r =
+    let of : List ℕ → ℕ → List ClientOption → List ℕ → Talk = λ s f o r. record { stream = s; flags = f; options = o; replies = r } in
+    let all : of p.stream p.flags p.options p.replies ≡ of q.stream q.flags q.options q.replies = rw (s, f, o, r) refl in
+    all
+
+flags-back : (flags : ℕ) (rest : List ℕ) → flags < 4 → from_be_bytes w32 (take 4 (to_be_bytes w32 flags ++ rest)) ≡ flags
+flags-back flags rest small = from_be_bytes-to_be_bytes_4 flags (omega arith)
+
+two-talks : (e : Export) (p q : Talk) → IsTalk e p → IsTalk e q → p.stream ≡ q.stream → p ≡ q
+two-talks e p q p_is q_is same =
+    let whole = sym p_is.stream ∙ same ∙ q_is.stream in
+    let flags : p.flags ≡ q.flags =
+    sym (flags-back p.flags (flat_map option_bytes p.options) p_is.flags) ∙ ap (λ f. from_be_bytes w32 (take 4 f)) whole
+    ∙ flags-back q.flags (flat_map option_bytes q.options) q_is.flags in
+    let options = one-list p.options q.options p_is.each q_is.each (ap (drop 4) whole) in
+    let said : ℕ → List ClientOption → List ℕ = λ flags os. greeting ++ flat_map (answer_of e (wants_no_zeroes flags)) os in
+    let replies : p.replies ≡ q.replies =
+    p_is.replies ∙ ap (λ f. said f p.options) flags ∙ ap (λ os. said q.flags os) options ∙ sym q_is.replies in
+    same-talk p q same flags options replies
+
+some-talk : (e : Export) (p : Talk) (s : HandshakeStage) → LeadsTo e p s → IsTalk e p ⊎ (p ≡ greeted)
+some-talk e p stages.Flags is = inr is
+some-talk e p (stages.Options no_zeroes) is = inl is.0
+some-talk e p stages.Over is = is
+
+not-greeted : (e : Export) (p q : Talk) → IsTalk e p → q ≡ greeted → p.stream ≡ q.stream → ⊥
+not-greeted e p q p_is q_is same = let none = ap (λ (q : Talk). q.stream) q_is in let whole = sym p_is.stream ∙ same ∙ none in absurd (cc)
+
+one-by : (e : Export) (p q : Talk) → IsTalk e p ⊎ (p ≡ greeted) → IsTalk e q ⊎ (q ≡ greeted) → p.stream ≡ q.stream → p ≡ q
+one-by e p q (inl p_is) (inl q_is) same = two-talks e p q p_is q_is same
+one-by e p q (inl p_is) (inr q_is) same = absurd (not-greeted e p q p_is q_is same)
+one-by e p q (inr p_is) (inl q_is) same = absurd (not-greeted e q p q_is p_is (sym same))
+one-by e p q (inr p_is) (inr q_is) same = p_is ∙ sym q_is
+
+pub one-talk : (e : Export) (p q : Talk) (s t : HandshakeStage) → LeadsTo e p s → LeadsTo e q t → p.stream ≡ q.stream → p ≡ q
+one-talk e p q s t p_is q_is same = one-by e p q (some-talk e p s p_is) (some-talk e q t q_is) same

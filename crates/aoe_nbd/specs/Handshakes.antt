@@ -1,5 +1,5 @@
 -- What a client says up to the transmission, and what is said to it.
-use Rattle.std.specs.Prelude.{ℕ, ◌+◌, ◌^◌, ◌<◌, ◌≤◌, ◌≡◌, ◌≢◌, ◌⊎◌, Bool, List, [], ◌∷◌, ◌++◌, length, take, nat_le}
+use Rattle.std.specs.Prelude.{ℕ, ◌^◌, ◌<◌, ◌≤◌, ◌≡◌, ◌≢◌, ◌⊎◌, Bool, List, [], ◌∷◌, ◌++◌, length, take, nat_le}
 use Rattle.std.specs.Int.{w32, to_be_bytes}
 use Rattle.std.specs.List.{flat_map, AllByRecursion}
 use Rattle.aoe_nbd.specs.declared.export.Export.{Export}
@@ -8,13 +8,13 @@ use Rattle.aoe_nbd.specs.declared.handshake.HandshakeEvent.TheVariants as events
 use Rattle.aoe_nbd.specs.declared.handshake.HandshakeStage.{HandshakeStage}
 use Rattle.aoe_nbd.specs.declared.handshake.HandshakeStage.TheVariants as stages
 use Rattle.aoe_nbd.specs.declared.option.OptionHead.{OptionHead}
-use Rattle.aoe_nbd.specs.Options.{IsOption, Opt, answer_of, event_of, greeting, option_bytes, option_head_bytes}
+use Rattle.aoe_nbd.specs.Options.{IsOption, ClientOption, answer_of, event_of, greeting, option_bytes, option_head_bytes}
 
 -- what was said so far: the client's bytes, its flags and its options, and the server's bytes
 pub record Talk : Type 0 where
   pub stream : List ℕ
   pub flags : ℕ
-  pub options : List Opt
+  pub options : List ClientOption
   pub replies : List ℕ
 
 -- the client wants no zeros behind the answer to EXPORT_NAME: flag NO_ZEROES (2)
@@ -50,7 +50,7 @@ IsLess stages.Over bytes = ⊥
 -- no talk goes on so
 abbrev pub IsBroken : HandshakeStage → List ℕ → Type 0
 IsBroken stages.Flags bytes = (flags : ℕ) (rest : List ℕ) → flags < 4 → bytes ≢ to_be_bytes w32 flags ++ rest
-IsBroken (stages.Options no_zeroes) bytes = (o : Opt) (rest : List ℕ) → IsOption o → bytes ≢ option_bytes o ++ rest
+IsBroken (stages.Options no_zeroes) bytes = (o : ClientOption) (rest : List ℕ) → IsOption o → bytes ≢ option_bytes o ++ rest
 IsBroken stages.Over bytes = ⊥
 
 -- behind an option that is answered the next one comes, and behind each other nothing
@@ -59,12 +59,12 @@ stage_behind events.Answered no_zeroes = stages.Options no_zeroes
 stage_behind _ no_zeroes = stages.Over
 
 -- an option came, and was answered
-abbrev pub talk_option : Export → Talk → List ℕ → Opt → List ℕ → Talk
+abbrev pub talk_option : Export → Talk → List ℕ → ClientOption → List ℕ → Talk
 talk_option e talk front o out = record { stream = talk.stream ++ front; flags = talk.flags; options = talk.options ++ o ∷ []; replies = talk.replies ++ out }
 
 -- a whole option stands at the front, is answered by out, and comes to this event
 pub record TakesOption (e : Export) (talk : Talk) (old : HandshakeStage) (front : List ℕ) (event : HandshakeEvent) (out : List ℕ) (new : HandshakeStage) : Type 0 where
-  pub option : Opt
+  pub option : ClientOption
   pub no_zeroes : Bool
   pub stage : old ≡ stages.Options no_zeroes
   pub event_is : event ≡ event_of e option
@@ -85,6 +85,6 @@ Proceeds e talk old bytes len events.Begins out new = TakesOption e talk old (ta
 Proceeds e talk old bytes len events.Leaves out new = TakesOption e talk old (take len bytes) events.Leaves out new
 Proceeds e talk old bytes len events.Unknown out new = TakesOption e talk old (take len bytes) events.Unknown out new
 -- no flags and no option that are read begin so
-Proceeds e talk old bytes len events.Broken out new = (len ≡ 0) × (out ≡ []) × (new ≡ stages.Over) × IsBroken old bytes
+Proceeds e talk old bytes len events.Broken out new = (len ≡ 0) × (out ≡ []) × (new ≡ stages.Over) × LeadsTo e talk new × IsBroken old bytes
 -- the end was told before
 Proceeds e talk old bytes len events.Ended out new = (len ≡ 0) × (out ≡ []) × (old ≡ stages.Over) × (new ≡ stages.Over)

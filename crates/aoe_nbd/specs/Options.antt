@@ -1,6 +1,7 @@
 -- The bytes of the handshake (NBD protocol, "Fixed newstyle negotiation" and "Option types"). All numbers are big-endian.
 use Rattle.std.specs.Prelude.{ℕ, ◌+◌, ◌*◌, ◌^◌, ◌<◌, ◌≤◌, ◌==◌, ◌&&◌, ◌||◌, ◌++◌, Bool, List, [], length, replicate, nat_le, Option, Some, None, if◌then◌else◌, slice_range}
 use Rattle.std.specs.Int.{w16, w32, w64, to_be_bytes, from_be_bytes}
+use Rattle.std.specs.List.{flat_map}
 use Rattle.std.specs.Str.{bytes_eq}
 use Rattle.aoe_nbd.specs.declared.export.Export.{Export}
 use Rattle.aoe_nbd.specs.declared.handshake.HandshakeEvent.{HandshakeEvent}
@@ -12,7 +13,7 @@ abbrev pub greeting : List ℕ
 greeting = to_be_bytes w64 0x4e42444d41474943 ++ to_be_bytes w64 0x49484156454f5054 ++ to_be_bytes w16 3
 
 -- an option of a client, with its data
-pub record Opt : Type 0 where
+pub record ClientOption : Type 0 where
   pub code : ℕ
   pub payload : List ℕ
 
@@ -20,11 +21,11 @@ pub record Opt : Type 0 where
 abbrev pub option_head_bytes : OptionHead → List ℕ
 option_head_bytes h = to_be_bytes w64 0x49484156454f5054 ++ to_be_bytes w32 h.code ++ to_be_bytes w32 h.len
 
-abbrev pub option_bytes : Opt → List ℕ
+abbrev pub option_bytes : ClientOption → List ℕ
 option_bytes o = option_head_bytes (record { code = o.code; len = length o.payload }) ++ o.payload
 
 -- an option that is read: 8,192 bytes of data at most, a limit of this program
-pub record IsOption (o : Opt) : Type 0 where
+pub record IsOption (o : ClientOption) : Type 0 where
   pub code : o.code < 2 ^ 32
   pub few : length o.payload ≤ 8192
 
@@ -64,12 +65,15 @@ block_info = to_be_bytes w16 3 ++ to_be_bytes w32 512 ++ to_be_bytes w32 4096 ++
 abbrev pub is_name : Export → List ℕ → Bool
 is_name e name = (length name == 0) || bytes_eq name e.name.items
 
+-- the data of INFO and GO: a length and the name, a count and so many infos that are asked for
+abbrev pub info_data : List ℕ → List ℕ → List ℕ
+info_data name infos = to_be_bytes w32 (length name) ++ name ++ to_be_bytes w16 (length infos) ++ flat_map (to_be_bytes w16) infos
+
 -- behind a name of n bytes stand a count, and so many numbers of two bytes, and no more
 abbrev pub is_named : List ℕ → ℕ → Bool
 is_named payload n = nat_le (n + 6) (length payload) && (length payload == n + 6 + 2 * from_be_bytes w16 (slice_range payload (n + 4) (n + 6)))
 
--- How long the name is that INFO and GO ask for, or nothing where the lengths disagree: their data is a
--- length, a name of so many bytes, a count, and so many numbers of two bytes.
+-- How long the name is that INFO and GO ask for, or nothing where the lengths disagree.
 abbrev pub name_len : List ℕ → Option ℕ
 name_len payload =
     let n = from_be_bytes w32 (slice_range payload 0 4) in
@@ -100,7 +104,7 @@ infos e code (Some error) = reply_to code error []
 
 -- What the server says to an option: EXPORT_NAME (1), ABORT (2), LIST (3), INFO (6), GO (7), and ERR_UNSUP
 -- (2^31 + 1) to each other.
-abbrev pub answer_of : Export → Bool → Opt → List ℕ
+abbrev pub answer_of : Export → Bool → ClientOption → List ℕ
 answer_of e no_zeroes o =
     if o.code == 1 then export_answer e no_zeroes o.payload
     else (if o.code == 2 then ack 2
@@ -114,7 +118,7 @@ go_event None = Begins
 go_event (Some error) = Answered
 
 -- what comes of an option
-abbrev pub event_of : Export → Opt → HandshakeEvent
+abbrev pub event_of : Export → ClientOption → HandshakeEvent
 event_of e o =
     if o.code == 1 then (if is_name e o.payload then Begins else Unknown)
     else (if o.code == 2 then Leaves

@@ -1,5 +1,5 @@
 -- Which requests are refused, and by which error.
-use Rattle.std.specs.Prelude.{ℕ, ◌+◌, ◌*◌, ◌%◌, ◌==◌, ◌&&◌, ◌||◌, Bool, not, nat_lt, Option, Some, None, if◌then◌else◌}
+use Rattle.std.specs.Prelude.{◌+◌, ◌%◌, ◌<◌, ◌≤◌, ◌≡◌, ◌≢◌, ◌⊎◌, true, false, ◌==◌, ◌&&◌, ◌||◌, Bool, not, nat_lt, Option, Some, None, if◌then◌else◌}
 use Rattle.aoe_nbd.specs.declared.error.NbdError.{NbdError}
 use Rattle.aoe_nbd.specs.declared.error.NbdError.TheVariants.{NotPermitted, Invalid, NoSpace}
 use Rattle.aoe_nbd.specs.declared.export.Export.{Export}
@@ -27,3 +27,20 @@ refusal e h =
     else (if not (is_aligned h) then Some Invalid
     else (if nat_lt e.size (h.offset + h.len) then Some (if h.kind == 1 then NoSpace else Invalid)
     else None)))))
+
+-- the range of a read or a write: whole sectors of the export, one at least and 16 MiB at most
+pub record IsInside (e : Export) (h : RequestHead) : Type 0 where
+  pub some : 0 < h.len
+  pub few : h.len ≤ 16777216
+  pub starts : h.offset % 512 ≡ 0
+  pub sectors : h.len % 512 ≡ 0
+  pub within : h.offset + h.len ≤ e.size
+
+-- what is carried out: reads and writes inside the export, writes where it can be written, and flushes where they are offered
+pub record IsCarriedOut (e : Export) (h : RequestHead) : Type 0 where
+  pub kind : (h.kind ≡ 0) ⊎ (h.kind ≡ 1) ⊎ (h.kind ≡ 3)
+  pub flags : (h.flags ≡ 0) ⊎ (h.flags ≡ 1)
+  pub inside : h.kind ≢ 3 → IsInside e h
+  pub written : h.kind ≡ 1 → e.read_only ≡ false
+  pub flushed : h.kind ≡ 3 → e.flushes ≡ true
+  pub lasting : h.flags ≡ 1 → e.flushes ≡ true

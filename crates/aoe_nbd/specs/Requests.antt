@@ -1,5 +1,5 @@
 -- The bytes of a request (NBD protocol, "Request message"). All numbers are big-endian.
-use Rattle.std.specs.Prelude.{ℕ, ◌+◌, ◌*◌, ◌/◌, ◌^◌, ◌<◌, ◌==◌, ◌&&◌, ◌++◌, List, length, nat_le, Option, Some, None, if◌then◌else◌, slice_range}
+use Rattle.std.specs.Prelude.{ℕ, ◌/◌, ◌^◌, ◌<◌, ◌==◌, ◌&&◌, ◌++◌, List, length, nat_le, Option, Some, None, if◌then◌else◌, slice_range}
 use Rattle.std.specs.Int.{w16, w32, w64, to_be_bytes, from_be_bytes}
 use Rattle.aoe_base.specs.declared.sectors.Span.{Span}
 use Rattle.aoe_nbd.specs.declared.request.RequestHead.{RequestHead}

@@ -1,5 +1,5 @@
 -- What a client says once the handshake is over: requests, each behind the other.
-use Rattle.std.specs.Prelude.{ℕ, ◌+◌, ◌<◌, ◌≤◌, ◌≡◌, ◌≢◌, ◌⊎◌, List, [], ◌∷◌, ◌++◌, length, take, Option, Some, None}
+use Rattle.std.specs.Prelude.{ℕ, ◌+◌, ◌<◌, ◌≡◌, ◌≢◌, ◌⊎◌, List, [], ◌∷◌, ◌++◌, length, take, Option, Some, None}
 use Rattle.std.specs.List.{flat_map, AllByRecursion}
 use Rattle.aoe_nbd.specs.declared.error.NbdError.{NbdError}
 use Rattle.aoe_nbd.specs.declared.error.NbdError.TheVariants.{NoMemory}
@@ -104,7 +104,7 @@ Follows e past old bytes len (events.Refused error handle) new = (m : Message) �
 Follows e past old bytes len events.Disconnected new = (m : Message) × (m.head.kind ≡ 2)
     × (new ≡ stages.Ended) × StandsAt e (past_message past (take len bytes) m) new
 -- no request begins so
-Follows e past old bytes len events.BadMagic new = (len ≡ 0) × (old ≡ stages.Head) × (new ≡ stages.Ended)
+Follows e past old bytes len events.BadMagic new = (len ≡ 0) × (old ≡ stages.Head) × (new ≡ stages.Ended) × StandsAt e past new
     × ((m : Message) (rest : List ℕ) → IsMessage m → bytes ≢ message_bytes m ++ rest)
 -- the end was told before
 Follows e past old bytes len events.Ended new = (len ≡ 0) × (old ≡ stages.Ended) × (new ≡ stages.Ended)

@@ -55,7 +55,8 @@ fn is_aligned(head: &RequestHead) -> bool
 }
 
 impl Export {
-    /// The error that refuses a request other than DISC, or `None`. The first row that applies decides.
+    /// The error that refuses a request other than DISC, or `None`. The first row that applies
+    /// decides.
     pub fn refusal(&self, head: &RequestHead) -> Option<NbdError>
         ensures { result ≡ refusal self.now head.now }
     {

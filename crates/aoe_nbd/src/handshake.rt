@@ -1,14 +1,12 @@
 //! The handshake: what a client says up to the transmission, whichever way its bytes are cut.
 ghost use Rattle.std.specs.Prelude.{◌≡◌};
 ghost use Rattle.aoe_nbd.specs.Handshakes.{stage_behind};
+ghost use Rattle.aoe_nbd.specs.Options.{greeting};
 
+use crate::Export;
 use crate::bytes::array_at;
 use crate::option::{MAX_OPTION, OPTION_HEAD_LEN, OptionReply, answer, read_option_head};
-use crate::Export;
 use std::marker::Model;
-
-/// What the server says first.
-pub const GREETING: [u8; 18] = *b"NBDMAGICIHAVEOPT\0\x03";
 
 /// How many bytes the client's flags have.
 const FLAGS_LEN: usize = 4;
@@ -62,12 +60,13 @@ pub enum HandshakeEvent {
 
 /// How many bytes were taken off the front, and what they said.
 #[derive(Clone, Copy, PartialEq, Eq)]
-pub struct Heard {
+pub struct HandshakeTaken {
     pub len: usize,
     pub event: HandshakeEvent,
 }
 
 /// A connection in its handshake. Contracts see where it stands.
+#[derive(Drop)]
 pub struct Handshake {
     stage: HandshakeStage,
 }
@@ -78,6 +77,13 @@ impl Model for Handshake {
     ghost Value = { HandshakeStage };
 
     ghost view = { λ h. h.stage };
+}
+
+/// What the server says first.
+pub fn greeting() -> [u8; 18]
+    ensures { result ≡ greeting }
+{
+    *b"NBDMAGICIHAVEOPT\0\x03"
 }
 
 /// Where a connection stands behind an option.
@@ -105,12 +111,13 @@ impl Handshake {
         }
     }
 
-    /// Takes what stands at the front of the bytes that came and weren't taken yet: the client's flags,
-    /// or an option; and makes `out` what is said to it.
-    pub fn take(&mut self, export: &Export, bytes: &[u8], out: &mut OptionReply) -> Heard
+    /// Takes what stands at the front of the bytes that came and weren't taken yet: the client's
+    /// flags, or an option; and makes `out` what is said to it.
+    pub fn take(&mut self, export: &Export, bytes: &[u8], out: &mut OptionReply) -> HandshakeTaken
         ensures len { result.len ≤ length bytes.now }
         ensures proceeds { (talk : Talk) → LeadsTo export.now talk self.old
-            → Proceeds export.now talk self.old bytes.now result.len result.event out.new.items self.new }
+            → Proceeds export.now talk self.old bytes.now result.len result.event out.new.items
+            self.new }
     {
         out.clear();
         match self.stage {
@@ -118,7 +125,7 @@ impl Handshake {
             HandshakeStage::Options { no_zeroes } => {
                 self.take_option(export, no_zeroes, bytes, out)
             }
-            HandshakeStage::Over => Heard {
+            HandshakeStage::Over => HandshakeTaken {
                 len: 0,
                 event: HandshakeEvent::Ended,
             },
@@ -126,14 +133,14 @@ impl Handshake {
     }
 
     /// The same where the client's flags come next.
-    fn take_flags(&mut self, bytes: &[u8]) -> Heard
+    fn take_flags(&mut self, bytes: &[u8]) -> HandshakeTaken
         requires { self.old ≡ HandshakeStage.Flags }
         ensures len { result.len ≤ length bytes.now }
         ensures proceeds { (e : Export) (talk : Talk) → LeadsTo e talk self.old
             → Proceeds e talk self.old bytes.now result.len result.event [] self.new }
     {
         if bytes.len() < FLAGS_LEN {
-            return Heard {
+            return HandshakeTaken {
                 len: 0,
                 event: HandshakeEvent::More,
             };
@@ -145,7 +152,7 @@ impl Handshake {
         self.stage = HandshakeStage::Options {
             no_zeroes: flags >= NO_ZEROES,
         };
-        Heard {
+        HandshakeTaken {
             len: FLAGS_LEN,
             event: HandshakeEvent::Flags,
         }
@@ -158,15 +165,16 @@ impl Handshake {
         no_zeroes: bool,
         bytes: &[u8],
         out: &mut OptionReply,
-    ) -> Heard
+    ) -> HandshakeTaken
         requires stage { self.old ≡ HandshakeStage.Options no_zeroes }
         requires out { out.old.items ≡ [] }
         ensures len { result.len ≤ length bytes.now }
         ensures proceeds { (talk : Talk) → LeadsTo export.now talk self.old
-            → Proceeds export.now talk self.old bytes.now result.len result.event out.new.items self.new }
+            → Proceeds export.now talk self.old bytes.now result.len result.event out.new.items
+            self.new }
     {
         if bytes.len() < OPTION_HEAD_LEN {
-            return Heard {
+            return HandshakeTaken {
                 len: 0,
                 event: HandshakeEvent::More,
             };
@@ -179,23 +187,29 @@ impl Handshake {
         }
         let len = OPTION_HEAD_LEN + head.len as usize;
         if bytes.len() < len {
-            return Heard {
+            return HandshakeTaken {
                 len: 0,
                 event: HandshakeEvent::More,
             };
         }
-        let event = answer(export, no_zeroes, head.code, &bytes[OPTION_HEAD_LEN..len], out);
+        let event = answer(
+            export,
+            no_zeroes,
+            head.code,
+            &bytes[OPTION_HEAD_LEN..len],
+            out,
+        );
         self.stage = stage_behind(event, no_zeroes);
-        Heard { len, event }
+        HandshakeTaken { len, event }
     }
 
     /// Ends the connection, for bytes that aren't taken.
-    fn end(&mut self) -> Heard
+    fn end(&mut self) -> HandshakeTaken
         ensures heard { result ≡ record { len = 0; event = HandshakeEvent.Broken } }
         ensures stage { self.new ≡ HandshakeStage.Over }
     {
         self.stage = HandshakeStage::Over;
-        Heard {
+        HandshakeTaken {
             len: 0,
             event: HandshakeEvent::Broken,
         }

@@ -1,9 +1,13 @@
 //! What the definitions of requests, replies and streams come to.
-ghost use Rattle.std.specs.Prelude.{ℕ, List, ◌≡◌, ◌<◌, ◌++◌, Some, slice_index, take};
+ghost use Rattle.std.specs.Prelude.{ℕ, List, ◌≡◌, ◌+◌, ◌^◌, ◌<◌, ◌++◌, None, Some, length, slice_index, slice_range, take};
 ghost use Rattle.std.specs.List.{flat_map, AllByRecursion};
 ghost use Rattle.aoe_nbd.specs.declared.export.Export.{Export};
 ghost use Rattle.aoe_nbd.specs.declared.request.RequestHead.{RequestHead};
 ghost use Rattle.aoe_nbd.specs.declared.transmission.Stage.{Stage};
+ghost use Rattle.aoe_nbd.specs.declared.handshake.HandshakeStage.{HandshakeStage};
+ghost use Rattle.aoe_nbd.specs.Handshakes.{LeadsTo, Talk};
+ghost use Rattle.aoe_nbd.specs.Options.{info_data, name_len};
+ghost use Rattle.aoe_nbd.specs.Refusals.{IsCarriedOut, refusal};
 ghost use Rattle.aoe_nbd.specs.Replies.{IsReply, Reply, reply_bytes};
 ghost use Rattle.aoe_nbd.specs.Requests.{Fits, head_bytes, head_of};
 ghost use Rattle.aoe_nbd.specs.Streams.{Past, StandsAt};
@@ -15,12 +19,12 @@ pub fn request_reads_back()
 
 /// A law: what is read as a request begins with its one spelling.
 pub fn request_spelling_is_one()
-    ensures { (f : List ℕ) (h : RequestHead) → ((i : ℕ) → slice_index f i < 256) → head_of f ≡ Some h
-        → Fits h × (take 28 f ≡ head_bytes h) }
+    ensures { (f : List ℕ) (h : RequestHead) → ((i : ℕ) → slice_index f i < 256)
+        → head_of f ≡ Some h → Fits h × (take 28 f ≡ head_bytes h) }
 {}
 
-/// A law: what a client said is a function of its bytes, however they are cut: the requests that came
-/// whole, and the data of the one that didn't.
+/// A law: what a client said is a function of its bytes, however they are cut: the requests that
+/// came whole, and the data of the one that didn't.
 pub fn one_stream_says_one_thing()
     ensures { (e : Export) (p q : Past) (s t : Stage) → StandsAt e p s → StandsAt e q t
         → p.stream ≡ q.stream → (p.messages ≡ q.messages) × (p.part ≡ q.part) }
@@ -31,4 +35,22 @@ pub fn one_stream_has_one_list_of_replies()
     ensures { (asked : ℕ → ℕ) (rs ss : List Reply) → AllByRecursion (IsReply asked) rs
         → AllByRecursion (IsReply asked) ss
         → flat_map reply_bytes rs ≡ flat_map reply_bytes ss → rs ≡ ss }
+{}
+
+/// A law: the same of the handshake: the client's flags, its options, and what is said to it.
+pub fn one_handshake_says_one_thing()
+    ensures { (e : Export) (p q : Talk) (s t : HandshakeStage) → LeadsTo e p s → LeadsTo e q t
+        → p.stream ≡ q.stream → p ≡ q }
+{}
+
+/// A law: what the table of refusals lets through.
+pub fn what_is_carried_out()
+    ensures { (e : Export) (h : RequestHead) → refusal e h ≡ None → IsCarriedOut e h }
+{}
+
+/// A law: the name that the data of INFO and GO spells is the one that is looked at.
+pub fn info_data_reads_back()
+    ensures { (name infos : List ℕ) → length name < 2 ^ 32 → length infos < 2 ^ 16
+        → (name_len (info_data name infos) ≡ Some (length name))
+        × (slice_range (info_data name infos) 4 (length name + 4) ≡ name) }
 {}

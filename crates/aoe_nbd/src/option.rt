@@ -55,8 +55,8 @@ pub struct OptionHead {
     pub len: u32,
 }
 
-/// The head of the option that stands at the front, or `None` where there are fewer than 16 bytes or
-/// another magic number.
+/// The head of the option that stands at the front, or `None` where there are fewer than 16 bytes
+/// or another magic number.
 pub fn read_option_head(bytes: &[u8]) -> Option<OptionHead>
     ensures { result ≡ option_head_of bytes.now }
 {
@@ -125,7 +125,8 @@ fn is_name(export: &Export, name: &[u8]) -> bool
     name.is_empty() || name == export.name.as_slice()
 }
 
-/// How long the name is that INFO and GO ask for, or `None` where the lengths of their data disagree.
+/// How long the name is that INFO and GO ask for, or `None` where the lengths of their data
+/// disagree.
 fn name_len(payload: &[u8]) -> Option<usize>
     ensures len { result ≡ name_len payload.now }
     ensures inside { IfSome result (λ n. n + 6 ≤ length payload.now) }
@@ -232,12 +233,7 @@ fn answer_list(export: &Export, payload: &[u8], out: &mut OptionReply) -> Handsh
 }
 
 /// What comes of INFO and GO, as `begins` says.
-fn answer_info(
-    export: &Export,
-    code: u32,
-    payload: &[u8],
-    out: &mut OptionReply,
-) -> HandshakeEvent
+fn answer_info(export: &Export, code: u32, payload: &[u8], out: &mut OptionReply) -> HandshakeEvent
     requires { out.old.items ≡ [] }
     ensures event { result ≡ (if code == 7 then go_event (info_error export.now payload.now)
         else HandshakeEvent.Answered) }

@@ -47,15 +47,10 @@ pub struct RequestHead {
 /// What a request asks for.
 #[derive(Clone, Copy, PartialEq, Eq)]
 pub enum Action {
-    Read {
-        span: Span,
-    },
+    Read { span: Span },
 
     /// Its data came before, and with `lasts` it is to be flushed before it is answered.
-    Write {
-        span: Span,
-        lasts: bool,
-    },
+    Write { span: Span, lasts: bool },
 
     Flush,
 }
@@ -68,8 +63,8 @@ pub struct Request {
     pub action: Action,
 }
 
-/// The head of the request that stands at the front, or `None` where there are fewer than 28 bytes or
-/// another magic number.
+/// The head of the request that stands at the front, or `None` where there are fewer than 28 bytes
+/// or another magic number.
 pub fn read_head(bytes: &[u8]) -> Option<RequestHead>
     ensures { result ≡ head_of bytes.now }
 {

@@ -63,6 +63,7 @@ pub struct Taken {
 }
 
 /// A connection in its transmission phase. Contracts see where it stands.
+#[derive(Drop)]
 pub struct Transmission {
     stage: Stage,
 }
@@ -145,8 +146,8 @@ impl Transmission {
         Transmission { stage: Stage::Head }
     }
 
-    /// Takes what stands at the front of the bytes that came and weren't taken yet: a request's head,
-    /// or data.
+    /// Takes what stands at the front of the bytes that came and weren't taken yet: a request's
+    /// head, or data.
     pub fn take(&mut self, export: &Export, bytes: &[u8]) -> Taken
         ensures len { result.len ≤ length bytes.now }
         ensures follows { (past : Past) → StandsAt export.now past self.old
@@ -230,11 +231,12 @@ impl Transmission {
         }
     }
 
-    /// Gives up the write whose data comes, for which there is no memory: its data is skipped, and then
-    /// it is refused. Where no write is carried out nothing changes.
+    /// Gives up the write whose data comes, for which there is no memory: its data is skipped, and
+    /// then it is refused. Where no write is carried out nothing changes.
     pub fn give_up(&mut self)
         ensures stage { self.new ≡ given_up self.old }
-        ensures stands { (e : Export) (past : Past) → StandsAt e past self.old → StandsAt e past self.new }
+        ensures stands { (e : Export) (past : Past) → StandsAt e past self.old
+            → StandsAt e past self.new }
     {
         if let Stage::Data {
             head,
