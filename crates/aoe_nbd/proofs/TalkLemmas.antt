@@ -1,5 +1,5 @@
 -- Where a handshake stands once an option was answered.
-use Rattle.std.proofs.Common.{◌≡◌, ℕ, ◌+◌, ◌<◌, ◌≤◌, inl, inr, ◌⊎◌, List, [], ◌∷◌, ◌++◌, append-nil, append_assoc, length, get_or, take, drop, Bool, true, false, Option, Some, None, refl, sym, ap, subst, ◌∙◌, arith}
+use Rattle.std.proofs.Common.{◌≡◌, ℕ, ◌+◌, ◌<◌, ◌≤◌, inl, inr, ◌⊎◌, List, [], ◌∷◌, ◌++◌, append-nil, append_assoc, length, length-append, get_or, take, drop, Bool, true, false, Option, Some, None, refl, sym, ap, subst, ◌∙◌, arith}
 use Rattle.std.specs.Prelude.{if◌then◌else◌, ◌==◌}
 use Rattle.std.specs.Int.{w32, from_be_bytes, to_be_bytes}
 use Rattle.std.specs.List.{flat_map, AllByRecursion}
@@ -12,8 +12,8 @@ use Rattle.aoe_nbd.specs.declared.handshake.HandshakeStage.{HandshakeStage}
 use Rattle.aoe_nbd.specs.declared.handshake.HandshakeStage.TheVariants as stages
 use Rattle.aoe_nbd.specs.declared.option.OptionHead.{OptionHead}
 use Rattle.aoe_nbd.specs.Options.{IsOption, ClientOption, answer_of, event_of, go_event, greeting, info_error, is_name, option_bytes, option_head_of}
-use Rattle.aoe_nbd.specs.Handshakes.{IsLess, IsTalk, LeadsTo, Proceeds, TakesOption, Talk, greeted, stage_behind, talk_option, wants_no_zeroes}
-use Rattle.aoe_nbd.proofs.OptionLemmas.{Whole, less-option, whole-head, whole-option}
+use Rattle.aoe_nbd.specs.Handshakes.{IsShortOption, IsPartialOption, IsTalk, LeadsTo, Proceeds, TakesOption, Talk, greeted, stage_behind, talk_option, wants_no_zeroes}
+use Rattle.aoe_nbd.proofs.OptionLemmas.{Whole, less-option, option-again, whole-head, whole-option}
 use Rattle.aoe_nbd.proofs.MessageLemmas.{same-front}
 
 -- what may come of an option
@@ -101,9 +101,9 @@ takes-option e talk old no_zeroes bytes payload h event out new old_is small som
 
 -- an option that isn't whole
 pub less : (old : HandshakeStage) (no_zeroes : Bool) (bytes : List ℕ) (h : OptionHead) → old ≡ stages.Options no_zeroes → ((i : ℕ) → get_or bytes i 0 < 256)
-    → option_head_of bytes ≡ Some h → h.len ≤ 8192 → length bytes < 16 + h.len → IsLess old bytes
+    → option_head_of bytes ≡ Some h → h.len ≤ 8192 → length bytes < 16 + h.len → IsShortOption old bytes
 less old no_zeroes bytes h old_is small some few short =
-    let P : HandshakeStage → Type 0 = λ old. IsLess old bytes in subst P (sym old_is) (less-option bytes h small some few short)
+    let P : HandshakeStage → Type 0 = λ old. IsShortOption old bytes in subst P (sym old_is) (less-option bytes h small some few short)
 
 -- one stream is one talk
 
@@ -128,14 +128,31 @@ one-option o p x y o_is p_is e =
     let parts = same-front o.payload p.payload x y (ap (λ (h : OptionHead). h.len) heads) behind in
     record { option = same-option o p (ap (λ (h : OptionHead). h.code) heads) parts.0; behind = parts.1 }
 
-one-list : (os ps : List ClientOption) → AllByRecursion IsOption os → AllByRecursion IsOption ps → flat_map option_bytes os ≡ flat_map option_bytes ps → os ≡ ps
-one-list [] [] all each e = refl
-one-list [] (p ∷ ps) all each e = absurd (cc)
-one-list (o ∷ os) [] all each e = absurd (cc)
-one-list (o ∷ os) (p ∷ ps) all each e =
-    let one = one-option o p (flat_map option_bytes os) (flat_map option_bytes ps) all.0 each.0 e in
-    let rest = one-list os ps all.1 each.1 one.behind in
-    rw (one.option, rest) refl
+-- what is less than an option begins with none
+partial-none : (x : List ℕ) (o : ClientOption) (y : List ℕ) → IsPartialOption x → IsOption o → x ≡ option_bytes o ++ y → ⊥
+partial-none x o y (inl short) is e = omega (arith, short, ap length e)
+partial-none x o y (inr (h, some, code, few, less, is)) o_is e =
+    let heads = head-is h (record { code = o.code; len = length o.payload })
+    (sym (option-again h some code (omega (arith, few))) ∙ ap option_head_of (sym is ∙ e) ∙ whole-head o y o_is) in
+    let behind : some ≡ o.payload ++ y = ap (drop 16) (sym is ∙ e) in
+    omega (arith, less, ap (λ (h : OptionHead). h.len) heads, ap length behind, length-append o.payload y)
+
+record SameOptions (os ps : List ClientOption) (x y : List ℕ) : Type 0 where
+  options : os ≡ ps
+  behind : x ≡ y
+
+one-list : (os ps : List ClientOption) (x y : List ℕ) → AllByRecursion IsOption os → AllByRecursion IsOption ps → IsPartialOption x → IsPartialOption y
+    → flat_map option_bytes os ++ x ≡ flat_map option_bytes ps ++ y → SameOptions os ps x y
+one-list [] [] x y all each x_is y_is e = record { options = refl; behind = e }
+one-list [] (p ∷ ps) x y all each x_is y_is e =
+    absurd (partial-none x p (flat_map option_bytes ps ++ y) x_is each.0 (e ∙ append_assoc (option_bytes p) (flat_map option_bytes ps) y))
+one-list (o ∷ os) [] x y all each x_is y_is e =
+    absurd (partial-none y o (flat_map option_bytes os ++ x) y_is all.0 (sym e ∙ append_assoc (option_bytes o) (flat_map option_bytes os) x))
+one-list (o ∷ os) (p ∷ ps) x y all each x_is y_is e =
+    let one = one-option o p (flat_map option_bytes os ++ x) (flat_map option_bytes ps ++ y) all.0 each.0
+    (sym (append_assoc (option_bytes o) (flat_map option_bytes os) x) ∙ e ∙ append_assoc (option_bytes p) (flat_map option_bytes ps) y) in
+    let rest = one-list os ps x y all.1 each.1 x_is y_is one.behind in
+    record { options = rw (one.option, rest.options) refl; behind = rest.behind }
 
 same-talk : (p q : Talk) → p.stream ≡ q.stream → p.flags ≡ q.flags → p.options ≡ q.options → p.replies ≡ q.replies → p ≡ q
 same-talk p q s f o r =
@@ -146,17 +163,26 @@ same-talk p q s f o r =
 flags-back : (flags : ℕ) (rest : List ℕ) → flags < 4 → from_be_bytes w32 (take 4 (to_be_bytes w32 flags ++ rest)) ≡ flags
 flags-back flags rest small = from_be_bytes-to_be_bytes_4 flags (omega arith)
 
-two-talks : (e : Export) (p q : Talk) → IsTalk e p → IsTalk e q → p.stream ≡ q.stream → p ≡ q
-two-talks e p q p_is q_is same =
-    let whole = sym p_is.stream ∙ same ∙ q_is.stream in
+record SameTalk (p q : Talk) (x y : List ℕ) : Type 0 where
+  talk : p ≡ q
+  behind : x ≡ y
+
+two-talks : (e : Export) (p q : Talk) (x y : List ℕ) → IsTalk e p → IsTalk e q → IsPartialOption x → IsPartialOption y → p.stream ++ x ≡ q.stream ++ y → SameTalk p q x y
+two-talks e p q x y p_is q_is x_is y_is same =
+    let left = ap (λ (z : List ℕ). z ++ x) p_is.stream ∙ append_assoc (to_be_bytes w32 p.flags) (flat_map option_bytes p.options) x in
+    let right = ap (λ (z : List ℕ). z ++ y) q_is.stream ∙ append_assoc (to_be_bytes w32 q.flags) (flat_map option_bytes q.options) y in
+    let whole = sym left ∙ same ∙ right in
     let flags : p.flags ≡ q.flags =
-    sym (flags-back p.flags (flat_map option_bytes p.options) p_is.flags) ∙ ap (λ f. from_be_bytes w32 (take 4 f)) whole
-    ∙ flags-back q.flags (flat_map option_bytes q.options) q_is.flags in
-    let options = one-list p.options q.options p_is.each q_is.each (ap (drop 4) whole) in
+    sym (flags-back p.flags (flat_map option_bytes p.options ++ x) p_is.flags) ∙ ap (λ f. from_be_bytes w32 (take 4 f)) whole
+    ∙ flags-back q.flags (flat_map option_bytes q.options ++ y) q_is.flags in
+    let r = one-list p.options q.options x y p_is.each q_is.each x_is y_is (ap (drop 4) whole) in
+    let stream : ℕ → List ClientOption → List ℕ = λ flags os. to_be_bytes w32 flags ++ flat_map option_bytes os in
     let said : ℕ → List ClientOption → List ℕ = λ flags os. greeting ++ flat_map (answer_of e (wants_no_zeroes flags)) os in
+    let streams : p.stream ≡ q.stream =
+    p_is.stream ∙ ap (λ f. stream f p.options) flags ∙ ap (λ os. stream q.flags os) r.options ∙ sym q_is.stream in
     let replies : p.replies ≡ q.replies =
-    p_is.replies ∙ ap (λ f. said f p.options) flags ∙ ap (λ os. said q.flags os) options ∙ sym q_is.replies in
-    same-talk p q same flags options replies
+    p_is.replies ∙ ap (λ f. said f p.options) flags ∙ ap (λ os. said q.flags os) r.options ∙ sym q_is.replies in
+    record { talk = same-talk p q streams flags r.options replies; behind = r.behind }
 
 some-talk : (e : Export) (p : Talk) (s : HandshakeStage) → LeadsTo e p s → IsTalk e p ⊎ (p ≡ greeted)
 some-talk e p stages.Flags is = inr is
@@ -167,10 +193,30 @@ not-greeted : (e : Export) (p q : Talk) → IsTalk e p → q ≡ greeted → p.s
 not-greeted e p q p_is q_is same = let none = ap (λ (q : Talk). q.stream) q_is in let whole = sym p_is.stream ∙ same ∙ none in absurd (cc)
 
 one-by : (e : Export) (p q : Talk) → IsTalk e p ⊎ (p ≡ greeted) → IsTalk e q ⊎ (q ≡ greeted) → p.stream ≡ q.stream → p ≡ q
-one-by e p q (inl p_is) (inl q_is) same = two-talks e p q p_is q_is same
+one-by e p q (inl p_is) (inl q_is) same =
+    (two-talks e p q [] [] p_is q_is (inl (omega arith)) (inl (omega arith)) (ap (λ (z : List ℕ). z ++ []) same)).talk
 one-by e p q (inl p_is) (inr q_is) same = absurd (not-greeted e p q p_is q_is same)
 one-by e p q (inr p_is) (inl q_is) same = absurd (not-greeted e q p q_is p_is (sym same))
 one-by e p q (inr p_is) (inr q_is) same = p_is ∙ sym q_is
 
 pub one-talk : (e : Export) (p q : Talk) (s t : HandshakeStage) → LeadsTo e p s → LeadsTo e q t → p.stream ≡ q.stream → p ≡ q
 one-talk e p q s t p_is q_is same = one-by e p q (some-talk e p s p_is) (some-talk e q t q_is) same
+
+-- the first bytes of a talk are the client's flags
+not-flags : (e : Export) (p q : Talk) (x y : List ℕ) → IsTalk e p → q ≡ greeted → length y < 4 → p.stream ++ x ≡ q.stream ++ y → ⊥
+not-flags e p q x y p_is q_is short same =
+    let none = ap (λ (q : Talk). q.stream ++ y) q_is in
+    let whole = ap (λ (z : List ℕ). z ++ x) (sym p_is.stream) ∙ same ∙ none in
+    omega (arith, short, ap length whole)
+
+pub one-wait : (e : Export) (p q : Talk) (s t : HandshakeStage) (x y : List ℕ) → LeadsTo e p s → LeadsTo e q t → IsShortOption s x → IsShortOption t y
+    → p.stream ++ x ≡ q.stream ++ y → (p ≡ q) × (x ≡ y)
+one-wait e p q stages.Flags stages.Flags x y p_is q_is x_is y_is same =
+    let none : Talk → List ℕ → List ℕ = λ p x. p.stream ++ x in
+    (p_is ∙ sym q_is, ap (λ p. none p x) (sym p_is) ∙ same ∙ ap (λ q. none q y) q_is)
+one-wait e p q stages.Flags (stages.Options b) x y p_is q_is x_is y_is same = absurd (not-flags e q p y x q_is.0 p_is x_is (sym same))
+one-wait e p q (stages.Options a) stages.Flags x y p_is q_is x_is y_is same = absurd (not-flags e p q x y p_is.0 q_is y_is same)
+one-wait e p q (stages.Options a) (stages.Options b) x y p_is q_is x_is y_is same =
+    let r = two-talks e p q x y p_is.0 q_is.0 x_is y_is same in (r.talk, r.behind)
+one-wait e p q stages.Over t x y p_is q_is x_is y_is same = absurd x_is
+one-wait e p q s stages.Over x y p_is q_is x_is y_is same = absurd y_is

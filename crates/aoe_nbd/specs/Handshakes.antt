@@ -42,10 +42,10 @@ LeadsTo e talk stages.Over = IsTalk e talk ⊎ (talk ≡ greeted)
 abbrev pub IsPartialOption : List ℕ → Type 0
 IsPartialOption rest = (length rest < 16) ⊎ ((h : OptionHead) × (some : List ℕ) × (h.code < 2 ^ 32) × (h.len ≤ 8192) × (length some < h.len) × (rest ≡ option_head_bytes h ++ some))
 
-abbrev pub IsLess : HandshakeStage → List ℕ → Type 0
-IsLess stages.Flags bytes = length bytes < 4
-IsLess (stages.Options no_zeroes) bytes = IsPartialOption bytes
-IsLess stages.Over bytes = ⊥
+abbrev pub IsShortOption : HandshakeStage → List ℕ → Type 0
+IsShortOption stages.Flags bytes = length bytes < 4
+IsShortOption (stages.Options no_zeroes) bytes = IsPartialOption bytes
+IsShortOption stages.Over bytes = ⊥
 
 -- no talk goes on so
 abbrev pub IsBroken : HandshakeStage → List ℕ → Type 0
@@ -75,7 +75,7 @@ pub record TakesOption (e : Export) (talk : Talk) (old : HandshakeStage) (front 
 -- What is told and said, where these bytes stand at the front and so many of them are taken.
 abbrev pub Proceeds : Export → Talk → HandshakeStage → List ℕ → ℕ → HandshakeEvent → List ℕ → HandshakeStage → Type 0
 -- nothing yet
-Proceeds e talk old bytes len events.More out new = (len ≡ 0) × (out ≡ []) × (new ≡ old) × IsLess old bytes
+Proceeds e talk old bytes len events.More out new = (len ≡ 0) × (out ≡ []) × (new ≡ old) × IsShortOption old bytes
 -- the client's flags
 Proceeds e talk old bytes len events.Flags out new = (out ≡ []) × (flags : ℕ) × (old ≡ stages.Flags) × (new ≡ stages.Options (wants_no_zeroes flags))
     × LeadsTo e (record { stream = take len bytes; flags = flags; options = []; replies = greeting }) new

@@ -24,10 +24,6 @@ pub record IsMessage (m : Message) : Type 0 where
   pub fits : Fits m.head
   pub whole : length m.payload ≡ data_len m.head
 
--- less than a request with its data: less than a head, or a head and less than its data
-abbrev pub IsPartial : List ℕ → Type 0
-IsPartial rest = (length rest < 28) ⊎ ((h : RequestHead) × (some : List ℕ) × Fits h × (length some < data_len h) × (rest ≡ head_bytes h ++ some))
-
 -- what came so far: all of its bytes, the requests that came whole, and the data that came of the one that didn't
 pub record Past : Type 0 where
   pub stream : List ℕ
@@ -81,10 +77,16 @@ IsVerdictFrom e stages.Head h verdict = (h.kind ≢ 2) × (verdict ≡ refusal e
 IsVerdictFrom e (stages.Data begun refused missing) h verdict = verdict ≡ refused
 IsVerdictFrom e stages.Ended h verdict = ⊥
 
+-- of what comes next there is too little: less than a head, or no data
+abbrev pub IsShortRequest : Stage → List ℕ → Type 0
+IsShortRequest stages.Head bytes = length bytes < 28
+IsShortRequest (stages.Data h refused missing) bytes = bytes ≡ []
+IsShortRequest stages.Ended bytes = ⊥
+
 -- What is told, where these bytes stand at the front and so many of them are taken.
 abbrev pub Follows : Export → Past → Stage → List ℕ → ℕ → Event → Stage → Type 0
--- nothing yet: what stands there is less than a request
-Follows e past old bytes len events.More new = (len ≡ 0) × (new ≡ old) × IsPartial (begun old past.part ++ bytes)
+-- nothing yet
+Follows e past old bytes len events.More new = (len ≡ 0) × (new ≡ old) × IsShortRequest old bytes
 -- the head of a write that will be carried out
 Follows e past old bytes len (events.Begins request) new = (h : RequestHead) × (missing : ℕ) × (request ≡ request_of h)
     × (old ≡ stages.Head) × IsVerdictFrom e old h None × (new ≡ stages.Data h None missing) × StandsAt e (past_head past (take len bytes)) new

@@ -5,12 +5,12 @@ ghost use Rattle.aoe_nbd.specs.declared.export.Export.{Export};
 ghost use Rattle.aoe_nbd.specs.declared.request.RequestHead.{RequestHead};
 ghost use Rattle.aoe_nbd.specs.declared.transmission.Stage.{Stage};
 ghost use Rattle.aoe_nbd.specs.declared.handshake.HandshakeStage.{HandshakeStage};
-ghost use Rattle.aoe_nbd.specs.Handshakes.{LeadsTo, Talk};
+ghost use Rattle.aoe_nbd.specs.Handshakes.{IsShortOption, LeadsTo, Talk};
 ghost use Rattle.aoe_nbd.specs.Options.{info_data, name_len};
 ghost use Rattle.aoe_nbd.specs.Refusals.{IsCarriedOut, refusal};
 ghost use Rattle.aoe_nbd.specs.Replies.{IsReply, Reply, reply_bytes};
 ghost use Rattle.aoe_nbd.specs.Requests.{Fits, head_bytes, head_of};
-ghost use Rattle.aoe_nbd.specs.Streams.{Past, StandsAt};
+ghost use Rattle.aoe_nbd.specs.Streams.{Past, IsShortRequest, StandsAt};
 
 /// A law: what is written as a request is read as it, whatever follows.
 pub fn request_reads_back()
@@ -30,6 +30,15 @@ pub fn one_stream_says_one_thing()
         → p.stream ≡ q.stream → (p.messages ≡ q.messages) × (p.part ≡ q.part) }
 {}
 
+/// A law: the same where more bytes came than could be taken: which are left is a function of all of
+/// them, too.
+pub fn pieces_of_requests_do_not_matter()
+    ensures { (e : Export) (p q : Past) (s t : Stage) (x y : List ℕ) → StandsAt e p s
+        → StandsAt e q t → IsShortRequest s x → IsShortRequest t y
+        → p.stream ++ x ≡ q.stream ++ y
+        → (p.messages ≡ q.messages) × (p.part ≡ q.part) × (x ≡ y) }
+{}
+
 /// A law: a client that knows how much it asked for reads each reply of a list, and no others.
 pub fn one_stream_has_one_list_of_replies()
     ensures { (asked : ℕ → ℕ) (rs ss : List Reply) → AllByRecursion (IsReply asked) rs
@@ -41,6 +50,13 @@ pub fn one_stream_has_one_list_of_replies()
 pub fn one_handshake_says_one_thing()
     ensures { (e : Export) (p q : Talk) (s t : HandshakeStage) → LeadsTo e p s → LeadsTo e q t
         → p.stream ≡ q.stream → p ≡ q }
+{}
+
+/// A law: the same where more bytes came than could be taken.
+pub fn pieces_of_a_handshake_do_not_matter()
+    ensures { (e : Export) (p q : Talk) (s t : HandshakeStage) (x y : List ℕ) → LeadsTo e p s
+        → LeadsTo e q t → IsShortOption s x → IsShortOption t y → p.stream ++ x ≡ q.stream ++ y
+        → (p ≡ q) × (x ≡ y) }
 {}
 
 /// A law: what the table of refusals lets through.
