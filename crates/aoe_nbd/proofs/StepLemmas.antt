@@ -76,6 +76,7 @@ head-by e past bytes h stands is other None verdict missing all true t_is =
     let none : missing ≡ 0 = eqb-true missing 0 t_is in
     let m : Message = record { head = h; payload = [] } in (
       m,
+      (is.bytes, refl),
       refl,
       (other, verdict),
       stands-whole e past stages.Head stages.Head (take 28 bytes) m stands (record { fits = is.fits; whole = sym none ∙ all }) (is.bytes ∙ sym (append-nil (head_bytes h))) refl refl,
@@ -87,6 +88,7 @@ head-by e past bytes h stands is other (Some error) verdict missing all true t_i
     let none : missing ≡ 0 = eqb-true missing 0 t_is in
     let m : Message = record { head = h; payload = [] } in (
       m,
+      (is.bytes, refl),
       refl,
       (other, verdict),
       stands-whole e past stages.Head stages.Head (take 28 bytes) m stands (record { fits = is.fits; whole = sym none ∙ all }) (is.bytes ∙ sym (append-nil (head_bytes h))) refl refl,
@@ -135,10 +137,10 @@ data-by : (e : Export) (past : Past) (bytes : List ℕ) (h : RequestHead) (refus
     → Follows e past (stages.Data h refused missing) bytes len (if t then whole_event h refused else piece_event refused) (if t then stages.Head else stages.Data h refused left)
 data-by e past bytes h None missing len stands some long left all true t_is =
     let none : left ≡ 0 = eqb-true left 0 t_is in
-    (record { head = h; payload = past.part ++ take len bytes }, refl, refl, data-whole e past (take len bytes) h None missing stands (omega (arith, long, all)))
+    (record { head = h; payload = past.part ++ take len bytes }, (refl, refl), refl, refl, data-whole e past (take len bytes) h None missing stands (omega (arith, long, all)))
 data-by e past bytes h (Some error) missing len stands some long left all true t_is =
     let none : left ≡ 0 = eqb-true left 0 t_is in
-    (record { head = h; payload = past.part ++ take len bytes }, refl, refl, data-whole e past (take len bytes) h (Some error) missing stands (omega (arith, long, all)))
+    (record { head = h; payload = past.part ++ take len bytes }, (refl, refl), refl, refl, data-whole e past (take len bytes) h (Some error) missing stands (omega (arith, long, all)))
 data-by e past bytes h None missing len stands some long left all false t_is =
     let more : 0 < left = above left t_is in
     (some, h, missing, left, refl, refl, stands-data e past (take len bytes) h None missing left stands more (omega (arith, long, all)))

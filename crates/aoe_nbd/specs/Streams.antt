@@ -77,6 +77,12 @@ IsVerdictFrom e stages.Head h verdict = (h.kind ≢ 2) × (verdict ≡ refusal e
 IsVerdictFrom e (stages.Data begun refused missing) h verdict = verdict ≡ refused
 IsVerdictFrom e stages.Ended h verdict = ⊥
 
+-- the request whose last bytes are taken now: these bytes are its head, or its data behind what came of that
+abbrev pub IsWholeFrom : Stage → List ℕ → List ℕ → Message → Type 0
+IsWholeFrom stages.Head part front m = (front ≡ head_bytes m.head) × (m.payload ≡ [])
+IsWholeFrom (stages.Data h refused missing) part front m = (m.head ≡ h) × (m.payload ≡ part ++ front)
+IsWholeFrom stages.Ended part front m = ⊥
+
 -- of what comes next there is too little: less than a head, or no data
 abbrev pub IsShortRequest : Stage → List ℕ → Type 0
 IsShortRequest stages.Head bytes = length bytes < 28
@@ -97,10 +103,10 @@ Follows e past old bytes len events.Data new = (0 < len) × (h : RequestHead) ×
 Follows e past old bytes len events.Skipped new = (0 < len) × (h : RequestHead) × (error : NbdError) × (missing : ℕ) × (part : List ℕ)
     × IsVerdictFrom e old h (Some error) × (new ≡ stages.Data h (Some error) missing) × StandsAt e (past_part past (take len bytes) part) new
 -- a request came whole, and is carried out
-Follows e past old bytes len (events.Came request) new = (m : Message) × (request ≡ request_of m.head)
+Follows e past old bytes len (events.Came request) new = (m : Message) × IsWholeFrom old past.part (take len bytes) m × (request ≡ request_of m.head)
     × IsVerdictFrom e old m.head None × StandsAt e (past_message past (take len bytes) m) new
 -- a request came whole, and is refused
-Follows e past old bytes len (events.Refused error handle) new = (m : Message) × (handle ≡ m.head.handle)
+Follows e past old bytes len (events.Refused error handle) new = (m : Message) × IsWholeFrom old past.part (take len bytes) m × (handle ≡ m.head.handle)
     × IsVerdictFrom e old m.head (Some error) × StandsAt e (past_message past (take len bytes) m) new
 -- a DISC (2) came
 Follows e past old bytes len events.Disconnected new = (m : Message) × (m.head.kind ≡ 2)
