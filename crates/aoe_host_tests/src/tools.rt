@@ -95,7 +95,7 @@ fn nobody_answers(rt: HostRuntime) -> Result<(), Fail> {
     Ok(())
 }
 
-/// What `discover` finds in four turns.
+/// What `discover` finds until four turns brought no frame.
 fn discovered(alloc: Global, link: &mut MemLink) -> Result<Found, Fail> {
     let ask = Ask { port: A, turns: 4 };
     match discover(alloc, &ask, link, &mut SetClock::new(0, 10)) {
@@ -170,7 +170,7 @@ fn prints_config_strings(rt: HostRuntime) -> Result<(), Fail> {
     Ok(())
 }
 
-/// What `stat` prints of what it finds in four turns.
+/// What `stat` prints of what it finds until four turns brought no frame.
 fn stat_text(alloc: Global, link: &mut MemLink, sectors: bool) -> Result<Blob, Fail> {
     let ask = Ask { port: A, turns: 4 };
     let Ok(found) = stat(alloc, &ask, link, &mut SetClock::new(0, 10)) else {
@@ -183,10 +183,13 @@ fn stat_text(alloc: Global, link: &mut MemLink, sectors: bool) -> Result<Blob, F
 fn asks_for_pages(rt: HostRuntime) -> Result<(), Fail> {
     let args = [0, 16, 0, 1, 2, 0x10, 0, 0];
     let page = page();
-    let turns: [Option<([u8; 5], &[u8])>; 7] = [
+    let turns: [Option<([u8; 5], &[u8])>; 10] = [
         Some(([1, 0, 1, 0, 0], &args)),
         Some(([2, 1, 1, 0, 0], &args)),
+        None,
         Some(([3, 2, 1, 0, 0], &args)),
+        None,
+        None,
         None,
         Some(([1, 0, 0, 0, 1], &page)),
         Some(([2, 1, 0, 0, 1], &page)),

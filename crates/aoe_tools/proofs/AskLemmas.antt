@@ -6,7 +6,7 @@ use Rattle.arrayvec.specs.ArrayVec.{ArrayVec}
 use Rattle.aoe_base.specs.declared.failure.Failed.{Failed}
 use Rattle.aoe_tools.proofs.OneLemmas.{heard-none, heard-one, not-done}
 use Rattle.aoe_tools.specs.Asking.{Response, responses}
-use Rattle.aoe_tools.specs.Listening.{Listens}
+use Rattle.aoe_tools.specs.Listening.{Listens, begun}
 use Rattle.aoe_tools.specs.One.{args_of, refusal_of, said, unless_refused, AsksOne, Ends}
 use Rattle.aoe_tools.specs.LookUp.{answered, unless_refusing, with_args, AskEnds, Asks, LinkState}
 use Rattle.aoe_tools.specs.declared.end.Refusal.{Refusal}
@@ -14,22 +14,23 @@ use Rattle.aoe_tools.specs.declared.end.ToolRefusal.{ToolRefusal}
 use Rattle.aoe_tools.specs.declared.end.ToolRefusal.TheVariants as tool
 use Rattle.aoe_tools.specs.declared.question.Question.{Question}
 use Rattle.aoe_tools.specs.declared.question.Reply.{Reply}
+use Rattle.aoe_tools.specs.declared.wait.Wait.{Wait}
 
-module _ {q : Question} {request : List ℕ} {limit now : ℕ} {frame : List ℕ} {before after : LinkState} where
-  pub asks-unanswered : Listens (Ok None) q request limit 0 now frame before.turns after.turns before.given after.given before.taken after.taken
+module _ {q : Question} {request : List ℕ} {limit : ℕ} {now : Wait} {frame : List ℕ} {before after : LinkState} where
+  pub asks-unanswered : Listens (Ok None) q request limit begun now frame before.turns after.turns before.given after.given before.taken after.taken
       → Asks (Err (tool.Unanswered limit)) q request limit before after
   asks-unanswered l =
       let h = heard-none l in
       record { turns = h.turns; turned = h.turned; goes_on = h.goes_on; ends = (h.done, rw h.says, h.took) }
 
-  pub asks-failed : {e : Failed} → Listens (Err e) q request limit 0 now frame before.turns after.turns before.given after.given before.taken after.taken
+  pub asks-failed : {e : Failed} → Listens (Err e) q request limit begun now frame before.turns after.turns before.given after.given before.taken after.taken
       → Asks (Err tool.LinkFault) q request limit before after
   asks-failed l =
       let open_yet = not-done l in
-      record { turns = l.turns; turned = l.turned; goes_on = open_yet.1; ends = (open_yet.0, l.waits.2) }
+      record { turns = l.turns; turned = l.turned; goes_on = open_yet.1; ends = (open_yet.0, open_yet.2) }
 
   asks-answered : {r : Reply} (o : Option Refusal)
-      → Listens (Ok (Some r)) q request limit 0 now frame before.turns after.turns before.given after.given before.taken after.taken
+      → Listens (Ok (Some r)) q request limit begun now frame before.turns after.turns before.given after.given before.taken after.taken
       → refusal_of q.subject r.answer (drop 24 frame) ≡ o → Asks (unless_refusing o (record { reply = r; args = drop 24 frame })) q request limit before after
   asks-answered None l e =
       let h = heard-one l in
@@ -40,7 +41,7 @@ module _ {q : Question} {request : List ℕ} {limit now : ℕ} {frame : List ℕ
 
   -- a response, that may refuse
   pub asks-taken : {r : Reply} (result : Result Reply ToolRefusal) → Listens
-      (Ok (Some r)) q request limit 0 now frame before.turns after.turns before.given after.given before.taken after.taken
+      (Ok (Some r)) q request limit begun now frame before.turns after.turns before.given after.given before.taken after.taken
       → IfOk result (λ x. (x ≡ r) × (refusal_of q.subject r.answer (drop 24 frame) ≡ None))
       → IfErr result (λ e. unless_refusing (refusal_of q.subject r.answer (drop 24 frame)) (record { reply = r; args = drop 24 frame }) ≡ Err e)
       → Asks (with_args frame result) q request limit before after

@@ -1,20 +1,21 @@
 -- The devices are found, and then they are visited.
-use Rattle.std.proofs.Common.{ℕ, ◌≡◌, List, [], ◌∷◌, ◌++◌, length, Option, refl, sym, ◌∙◌}
+use Rattle.std.proofs.Common.{ℕ, ◌≡◌, List, [], ◌∷◌, ◌++◌, Option, refl, sym, ◌∙◌}
 use Rattle.std.specs.Prelude.{Ok, Err}
 use Rattle.aoe_base.specs.declared.address.Mac.{Mac}
 use Rattle.aoe_base.specs.declared.failure.Failed.{Failed}
 use Rattle.aoe_io.proofs.LinkLemmas.{Added-then, turned-then}
 use Rattle.aoe_io.specs.Link.{Turn, Turned}
-use Rattle.aoe_tools.specs.Asking.{asked, responses}
+use Rattle.aoe_tools.specs.Asking.{responses}
 use Rattle.aoe_tools.specs.Discovery.{Discovers, finding_question, finding_request, unless_none}
 use Rattle.aoe_tools.specs.Found.{found_in}
 use Rattle.aoe_tools.specs.Stat.{Stats, says}
 use Rattle.aoe_tools.specs.Visits.{EndsVisits, Visit, VisitsAll, devices, learned, visit_asked, visit_asks, visit_turns}
+use Rattle.aoe_tools.specs.Waiting.{asked}
 use Rattle.aoe_tools.specs.declared.end.ToolRefusal.{ToolRefusal}
 use Rattle.aoe_tools.specs.declared.end.ToolRefusal.TheVariants as tool
 use Rattle.aoe_tools.specs.declared.found.Seen.{Seen}
 use Rattle.aoe_tools.proofs.ListenLemmas.{Frames}
-use Rattle.aoe_tools.proofs.VisitLemmas.{front-then, took-front}
+use Rattle.aoe_tools.proofs.WaitLemmas.{front-then}
 
 found-some : (limit : ℕ) (found list : List Seen) → Ok found ≡ unless_none limit list → found ≡ list
 found-some limit found [] e = absurd cc
@@ -42,12 +43,13 @@ module _ {first : ℕ} {port : Mac} {limit start mid : ℕ} {given given' : Opti
     finding = d.turns;
     visits = [];
     turned = d.turned;
-    ends = (d.ends.0, took-front (finding_request first port) (length d.turns) taken taken' d.ends.1);
+    lasts = d.lasts;
+    ends = d.ends;
   }
-  finds-none tool.NoMemory d = record { finding = d.turns; visits = []; turned = d.turned; ends = (refl, d.ends.0, d.ends.1, d.ends.2) }
+  finds-none tool.NoMemory d = record { finding = d.turns; visits = []; turned = d.turned; lasts = d.lasts; ends = (refl, d.ends.0, d.ends.1, d.ends.2) }
   finds-none (tool.Unanswered turns) d =
       let none = found-none limit (tool.Unanswered turns) (found_in (responses (finding_question first port) d.turns)) d.ends.1 in
-      record { finding = d.turns; visits = []; turned = d.turned; ends = ((d.ends.0, sym none, tt), rw none at d.ends.1, d.ends.2) }
+      record { finding = d.turns; visits = []; turned = d.turned; lasts = d.lasts; ends = ((d.ends.0, sym none, tt), rw none at d.ends.1, d.ends.2) }
   finds-none (tool.Refused r) d =
       absurd (let no = rw (found-none limit (tool.Refused r) (found_in (responses (finding_question first port) d.turns)) d.ends.1) at d.ends.1 in cc)
 
@@ -61,10 +63,11 @@ module _ {first : ℕ} {port : Mac} {limit start mid : ℕ} {given given' : Opti
           finding = d.turns;
           visits = w.visits;
           turned = turned-then start mid last given given' given'' d.turns (visit_turns w.visits) d.turned w.turned;
+          lasts = d.lasts;
           ends = rw w.ends.1 (
             (d.ends.0, w.ends.0 ∙ found-some limit found list d.ends.1, w.ends.2),
             says-them first port limit found list w.visits d.ends.1 w.ends.0,
-            Added-then taken taken' taken'' (asked (finding_request first port) (length d.turns)) (visit_asked first port w.visits) d.ends.2 w.ends.3,
+            Added-then taken taken' taken'' (asked (finding_request first port) d.turns) (visit_asked first port w.visits) d.ends.2 w.ends.3,
           );
         }
 
@@ -83,9 +86,10 @@ module _ {first : ℕ} {port : Mac} {limit start mid : ℕ} {given given' : Opti
               finding = d.turns;
               visits = visits;
               turned = turned-then start mid last given given' given'' d.turns (visit_turns visits) d.turned turned;
+              lasts = d.lasts;
               ends = (
                 (d.ends.0, here.0),
-                front-then taken taken' taken'' (asked (finding_request first port) (length d.turns)) (visit_asks first port visits)
+                front-then taken taken' taken'' (asked (finding_request first port) d.turns) (visit_asks first port visits)
                     (visit_asked first port visits) d.ends.2 here.1,
               );
             }

@@ -1,6 +1,5 @@
 -- The devices are asked for their pages, one after the other.
-use Rattle.std.proofs.Common.{ℕ, suc, ◌≡◌, ◌≤◌, ◌+◌, List, [], ◌∷◌, ◌++◌, append_assoc, drop, length, length-append, Option, Some, refl, sym, ap, ◌∙◌, arith, inl, inr}
-use Rattle.std.proofs.lemmas.Bool.{cases_lt}
+use Rattle.std.proofs.Common.{ℕ, ◌≡◌, ◌≤◌, ◌+◌, List, [], ◌∷◌, ◌++◌, append_assoc, drop, length, length-append, Option, Some, refl, sym, ap, ◌∙◌, arith}
 use Rattle.std.proofs.lemmas.List.{append-nil, nil_from_length}
 use Rattle.std.proofs.lemmas.Option.{same_Some}
 use Rattle.std.specs.Prelude.{Ok, Err, slice_get, slice_set}
@@ -10,15 +9,18 @@ use Rattle.aoe_initiator.specs.Request.{request}
 use Rattle.aoe_initiator.specs.declared.op.Op.TheVariants as op
 use Rattle.aoe_io.proofs.LinkLemmas.{Added-then, turned-then}
 use Rattle.aoe_io.specs.Link.{Added, Turn, Turned}
-use Rattle.aoe_tools.specs.Asking.{Response, TookSome, asked, asked_at}
-use Rattle.aoe_tools.specs.Listening.{Listens}
+use Rattle.aoe_tools.specs.Asking.{Response}
+use Rattle.aoe_tools.specs.Listening.{Listens, begun}
 use Rattle.aoe_tools.specs.Page.{known, with_known}
-use Rattle.aoe_tools.specs.Visits.{AreOver, AsksPage, TookFront, Visit, VisitsAll, VisitsOne, devices, first_port, learned, page_question, request_of, visit_asked, visit_turns}
+use Rattle.aoe_tools.specs.Visits.{AreOver, AsksPage, Visit, VisitsAll, VisitsOne, devices, first_port, learned, page_question, request_of, visit_asked, visit_turns}
+use Rattle.aoe_tools.specs.Waiting.{asked, asked_at}
 use Rattle.aoe_tools.specs.declared.found.Known.{Known}
 use Rattle.aoe_tools.specs.declared.found.Seen.{Seen}
 use Rattle.aoe_tools.specs.declared.question.Question.{Question}
+use Rattle.aoe_tools.specs.declared.wait.Wait.{Wait}
 use Rattle.aoe_tools.proofs.ListenLemmas.{Frames}
 use Rattle.aoe_tools.proofs.OneLemmas.{not-done, Heard}
+use Rattle.aoe_tools.proofs.WaitLemmas.{front-then}
 
 -- ---- one request
 
@@ -27,9 +29,11 @@ module _ {q : Question} {request : List ℕ} {limit start last : ℕ} {given giv
       → AsksPage (Ok k) q request limit start last given given' taken taken'
   page-heard h is = record { turns = h.turns; turned = h.turned; ends = ((h.done, h.goes_on), rw h.says is, h.took) }
 
-  pub page-failed : {now : ℕ} {frame : List ℕ} {e : Failed} → Listens (Err e) q request limit 0 now frame start last given given' taken taken'
+  pub page-failed : {now : Wait} {frame : List ℕ} {e : Failed} → Listens (Err e) q request limit begun now frame start last given given' taken taken'
       → AsksPage (Err e) q request limit start last given given' taken taken'
-  page-failed l = record { turns = l.turns; turned = l.turned; ends = (not-done l, l.waits.2) }
+  page-failed l =
+      let open_yet = not-done l in
+      record { turns = l.turns; turned = l.turned; ends = ((open_yet.0, open_yet.1), open_yet.2) }
 
 -- ---- one device
 
@@ -52,23 +56,6 @@ module _ {first : ℕ} {port : Mac} {limit i : ℕ} {found found' : List Seen} {
       record { visit = record { device = s; turns = a.turns }; at = at; turned = a.turned; ends = a.ends }
 
 -- ---- all of them
-
-pub took-front : (request : List ℕ) (n : ℕ) (before after : Option Frames) → TookSome request 0 n before after
-    → TookFront (asked_at request n) (asked request n) before after
-took-front request n before after t = elim (cases_lt n t.count) [
-  | inl more ↦
-      let one : t.count ≡ suc n = omega (arith, more, t.most) in
-      let same : 0 + n ≡ n = omega arith in
-      inr (rw (one, same) at t.took)
-  | inr over ↦
-      let none_more : t.count ≡ n = omega (arith, over, t.least) in
-      inl (rw none_more at t.took)
-]
-
--- a front of what follows, behind what was taken
-pub front-then : (a b c : Option Frames) (earlier next sent : Frames) → Added a b earlier → TookFront next sent b c → TookFront next (sent ++ earlier) a c
-front-then a b c earlier next sent whole (inl took) = inl (Added-then a b c earlier sent whole took)
-front-then a b c earlier next sent whole (inr took) = inr (rw (← (append_assoc next sent earlier)) (Added-then a b c earlier (next ++ sent) whole took))
 
 at-rest : (done rest : List Seen) (s : Seen) → slice_get (done ++ rest) (length done) ≡ Some s → rest ≡ s ∷ drop 1 rest
 at-rest [] [] s is = absurd cc
@@ -133,7 +120,7 @@ module _ {first : ℕ} {port : Mac} {limit i : ℕ} {found now : List Seen} {sta
           found_is = found-on v one.at;
           now_is = rw append_assoc (here.1 ∙ set-rest _ _ _ _ _ (sym (length-learned first port s.visits)));
           over = (here.0, s.over);
-          took = Added-then taken taken' taken'' (visit_asked first port s.visits) (asked (request_of first port s.visits v) (length v.turns)) s.took here.2;
+          took = Added-then taken taken' taken'' (visit_asked first port s.visits) (asked (request_of first port s.visits v) v.turns) s.took here.2;
         }
 
     pub fails : {e : Failed} → VisitsOne (Err e) first port limit i now now' mid last given' given'' taken' taken''
@@ -147,7 +134,6 @@ module _ {first : ℕ} {port : Mac} {limit i : ℕ} {found now : List Seen} {sta
           turned = turned-then start mid last given given' given'' (visit_turns s.visits) v.turns s.turned one.turned;
           ends = (
             (record { rest = drop 1 s.rest; is = found-on v one.at }, here.0, s.over),
-            front-then taken taken' taken'' (visit_asked first port s.visits) (asked_at request (length v.turns)) (asked request (length v.turns)) s.took
-                (took-front request (length v.turns) taken' taken'' here.1),
+            front-then taken taken' taken'' (visit_asked first port s.visits) (asked_at request v.turns) (asked request v.turns) s.took here.1,
           );
         }

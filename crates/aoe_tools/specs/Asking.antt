@@ -1,5 +1,5 @@
--- What tools ask, which responses count, and what they send (AoEr11, "Common AoE header", "Tag", "Query Config Information").
-use Rattle.std.specs.Prelude.{ℕ, zero, suc, ◌+◌, ◌%◌, ◌^◌, ◌≤◌, Bool, true, false, ◌&&◌, ◌==◌, nat_eq, List, [], ◌∷◌, ◌++◌, length, drop, Option, Some, None, IfSome, IsSome, if◌then◌else◌, option_and_then}
+-- What tools ask, and which responses count (AoEr11, "Common AoE header", "Tag", "Query Config Information").
+use Rattle.std.specs.Prelude.{ℕ, ◌+◌, ◌%◌, ◌^◌, ◌≤◌, Bool, true, false, ◌&&◌, nat_eq, List, [], ◌∷◌, length, drop, Option, Some, None, IfSome, IsSome, if◌then◌else◌, option_and_then}
 use Rattle.std.specs.Option.{option_map}
 use Rattle.aoe_base.specs.declared.address.TargetId.{TargetId}
 use Rattle.aoe_base.specs.Addresses.{same_address}
@@ -83,26 +83,6 @@ responses q (t ∷ turns) = with_response (brought q t) (responses q turns)
 abbrev pub IsAnswered : Question → List Turn → Type 0
 IsAnswered q [] = ⊥
 IsAnswered q (t ∷ turns) = IsSome (brought q t)
-
--- what is sent before turn n + 1: the request, before the turns 1, 11, 21 and so on
-abbrev pub asked_at : List ℕ → ℕ → List (List ℕ)
-asked_at request n = if n % 10 == 0 then request ∷ [] else []
-
--- what is sent in so many turns, the first of which is turn from + 1
-abbrev pub asked_from : List ℕ → ℕ → ℕ → List (List ℕ)
-asked_from request from zero = []
-asked_from request from (suc n) = asked_at request (from + n) ++ asked_from request from n
-
--- what is sent in the first n turns
-abbrev pub asked : List ℕ → ℕ → List (List ℕ)
-asked request n = asked_from request 0 n
-
--- the link took what is sent in so many turns; where it failed, perhaps also what is sent before the next one
-pub record TookSome (request : List ℕ) (from n : ℕ) (before after : Option (List (List ℕ))) : Type 0 where
-  pub count : ℕ
-  pub least : n ≤ count
-  pub most : count ≤ n + 1
-  pub took : Added before after (asked_from request from count)
 
 -- a clock gave this answer, and no other
 pub record Answers (first least : ℕ) (before after : Option (List ℕ)) : Type 0 where

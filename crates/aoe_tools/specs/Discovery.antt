@@ -1,11 +1,12 @@
 -- The tool that asks which devices there are.
-use Rattle.std.specs.Prelude.{ℕ, ◌≡◌, ◌≤◌, ◌<◌, List, [], ◌∷◌, length, Option, None, Result, Ok, Err}
+use Rattle.std.specs.Prelude.{ℕ, ◌≡◌, ◌≤◌, ◌<◌, List, [], ◌∷◌, Option, None, Result, Ok, Err}
 use Rattle.aoe_base.specs.Addresses.{broadcast}
 use Rattle.aoe_base.specs.declared.address.Mac.{Mac}
 use Rattle.aoe_initiator.specs.Request.{request}
 use Rattle.aoe_initiator.specs.declared.op.Op.TheVariants as op
 use Rattle.aoe_io.specs.Link.{Added, Turn, Turned}
-use Rattle.aoe_tools.specs.Asking.{Response, IsAnswered, TookSome, asked, everyone, responses, tag_of}
+use Rattle.aoe_tools.specs.Asking.{Response, IsAnswered, everyone, responses, tag_of}
+use Rattle.aoe_tools.specs.Waiting.{Lasts, TookSome, asked, waited}
 use Rattle.aoe_tools.specs.Found.{found_in}
 use Rattle.aoe_tools.specs.declared.end.ToolRefusal.{ToolRefusal}
 use Rattle.aoe_tools.specs.declared.end.ToolRefusal.TheVariants as tool
@@ -29,15 +30,16 @@ unless_none limit (s ∷ list) = Ok (s ∷ list)
 abbrev pub discovered : ℕ → List Response → Result (List Seen) ToolRefusal
 discovered limit responses = unless_none limit (found_in responses)
 
--- How it ends: after all of its turns, whatever they brought, or before, where the link failed, or where a device answered and there was
--- no memory for it. The link took what was asked.
+-- How it ends: once it has waited for all of its turns, whatever they brought, or before, where the link failed, or where a device answered
+-- and there was no memory for it. The link took what was asked.
 abbrev pub Ends : Result (List Seen) ToolRefusal → Question → List ℕ → ℕ → List Turn → Option (List (List ℕ)) → Option (List (List ℕ)) → Type 0
-Ends (Err tool.LinkFault) q request limit turns before after = (length turns < limit) × TookSome request 0 (length turns) before after
-Ends (Err tool.NoMemory) q request limit turns before after = (length turns ≤ limit) × IsAnswered q turns × Added before after (asked request (length turns))
-Ends result q request limit turns before after = (length turns ≡ limit) × (result ≡ discovered limit (responses q turns)) × Added before after (asked request (length turns))
+Ends (Err tool.LinkFault) q request limit turns before after = (waited turns < limit) × TookSome request turns before after
+Ends (Err tool.NoMemory) q request limit turns before after = (waited turns ≤ limit) × IsAnswered q turns × Added before after (asked request turns)
+Ends result q request limit turns before after = (waited turns ≡ limit) × (result ≡ discovered limit (responses q turns)) × Added before after (asked request turns)
 
 -- A run of it over a link, with its turns, latest first.
 pub record Discovers (result : Result (List Seen) ToolRefusal) (q : Question) (request : List ℕ) (limit start turned' : ℕ) (given given' : Option (List Turn)) (taken taken' : Option (List (List ℕ))) : Type 0 where
   pub turns : List Turn
   pub turned : Turned start turned' given given' turns
+  pub lasts : Lasts limit turns
   pub ends : Ends result q request limit turns taken taken'

@@ -10,3 +10,4 @@ pub mod Runs
 pub mod Stat
 pub mod Text
 pub mod Visits
+pub mod Waiting

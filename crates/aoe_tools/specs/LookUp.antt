@@ -1,5 +1,5 @@
 -- The look-up of a device by two requests: where it is, and how long it is.
-use Rattle.std.specs.Prelude.{ℕ, ◌≡◌, min, true, false, nat_lt, List, [], ◌∷◌, length, drop, Option, Some, None, Result, Ok, Err, if◌then◌else◌, slice_index, unwrap_or}
+use Rattle.std.specs.Prelude.{ℕ, ◌≡◌, min, true, false, nat_lt, List, [], ◌∷◌, drop, Option, Some, None, Result, Ok, Err, if◌then◌else◌, slice_index, unwrap_or}
 use Rattle.aoe_base.specs.declared.address.Mac.{Mac}
 use Rattle.aoe_base.specs.declared.address.TargetId.{TargetId}
 use Rattle.aoe_base.specs.Addresses.{broadcast}
@@ -7,7 +7,8 @@ use Rattle.aoe_initiator.specs.declared.op.Op.TheVariants as op
 use Rattle.aoe_initiator.specs.declared.response.Answer.{Answer}
 use Rattle.aoe_initiator.specs.Request.{request}
 use Rattle.aoe_io.specs.Link.{Added, Turn, Turned}
-use Rattle.aoe_tools.specs.Asking.{Response, TookSome, asked, responses, tag_of}
+use Rattle.aoe_tools.specs.Asking.{Response, responses, tag_of}
+use Rattle.aoe_tools.specs.Waiting.{TookSome, asked}
 use Rattle.aoe_tools.specs.Page.{total_in as declared_in}
 use Rattle.aoe_tools.specs.One.{is_done, refusal_of, GoesOn}
 use Rattle.aoe_tools.specs.declared.end.Refusal.{Refusal}
@@ -37,9 +38,9 @@ answered q limit (r ∷ rs) = unless_refusing (refusal_of q.subject r.reply.answ
 
 -- where the link failed it hadn't ended, and the link took a front of what was asked
 abbrev pub AskEnds : Result Response ToolRefusal → Question → List ℕ → ℕ → List Turn → Option (List (List ℕ)) → Option (List (List ℕ)) → Type 0
-AskEnds (Err tool.LinkFault) q request limit turns before after = (is_done q limit turns ≡ false) × TookSome request 0 (length turns) before after
+AskEnds (Err tool.LinkFault) q request limit turns before after = (is_done q limit turns ≡ false) × TookSome request turns before after
 AskEnds result q request limit turns before after =
-    (is_done q limit turns ≡ true) × (result ≡ answered q limit (responses q turns)) × Added before after (asked request (length turns))
+    (is_done q limit turns ≡ true) × (result ≡ answered q limit (responses q turns)) × Added before after (asked request turns)
 
 -- a request over a link: its turns, latest first, are those after which it has ended
 pub record Asks (result : Result Response ToolRefusal) (q : Question) (request : List ℕ) (limit : ℕ) (before after : LinkState) : Type 0 where

@@ -5,7 +5,8 @@ use Rattle.aoe_initiator.specs.declared.response.Answer.{Answer}
 use Rattle.aoe_initiator.specs.declared.response.Answer.TheVariants as answer
 use Rattle.aoe_io.specs.Link.{Added, Turn, Turned}
 use Rattle.aoe_lists.specs.declared.dir.Dir.{Dir}
-use Rattle.aoe_tools.specs.Asking.{Response, TookSome, asked, responses}
+use Rattle.aoe_tools.specs.Asking.{Response, responses}
+use Rattle.aoe_tools.specs.Waiting.{TookSome, asked, waited}
 use Rattle.aoe_tools.specs.declared.end.Refusal.{Refusal}
 use Rattle.aoe_tools.specs.declared.end.Refusal.TheVariants as refusal
 use Rattle.aoe_tools.specs.declared.end.ToolRefusal.{ToolRefusal}
@@ -14,9 +15,9 @@ use Rattle.aoe_tools.specs.declared.question.Question.{Question}
 use Rattle.aoe_tools.specs.declared.question.Subject.{Subject}
 use Rattle.aoe_tools.specs.declared.question.Subject.TheVariants as subject
 
--- the tool has ended: a response came that counts, or all turns have passed
+-- the tool has ended: a response came that counts, or it has waited for all of its turns
 abbrev pub is_done : Question → ℕ → List Turn → Bool
-is_done q limit turns = nat_lt 0 (length (responses q turns)) || nat_eq (length turns) limit
+is_done q limit turns = nat_lt 0 (length (responses q turns)) || nat_eq (waited turns) limit
 
 -- before each of these turns it hadn't
 abbrev pub GoesOn : Question → ℕ → List Turn → Type 0
@@ -64,8 +65,8 @@ said q limit (r ∷ rs) = unless_refused (refusal_of q.subject r.reply.answer r.
 -- How it ends: where the link didn't fail the tool has ended, says this, and the link took what was asked. Else it hadn't, and the
 -- link took a front of that.
 abbrev pub Ends : Result (ArrayVec ℕ) ToolRefusal → Question → List ℕ → ℕ → List Turn → Option (List (List ℕ)) → Option (List (List ℕ)) → Type 0
-Ends (Err tool.LinkFault) q request limit turns before after = (is_done q limit turns ≡ false) × TookSome request 0 (length turns) before after
-Ends result q request limit turns before after = (is_done q limit turns ≡ true) × (result ≡ said q limit (responses q turns)) × Added before after (asked request (length turns))
+Ends (Err tool.LinkFault) q request limit turns before after = (is_done q limit turns ≡ false) × TookSome request turns before after
+Ends result q request limit turns before after = (is_done q limit turns ≡ true) × (result ≡ said q limit (responses q turns)) × Added before after (asked request turns)
 
 -- A run of a tool that asks one thing, over a link: its turns, latest first, are those after which it has ended.
 pub record AsksOne (result : Result (ArrayVec ℕ) ToolRefusal) (q : Question) (request : List ℕ) (limit start turned' : ℕ) (given given' : Option (List Turn)) (taken taken' : Option (List (List ℕ))) : Type 0 where

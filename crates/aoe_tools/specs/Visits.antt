@@ -1,5 +1,5 @@
 -- The devices that were found are asked for their pages, one after the other.
-use Rattle.std.specs.Prelude.{ℕ, ◌≡◌, ◌+◌, ◌⊎◌, true, false, List, [], ◌∷◌, ◌++◌, length, Option, Some, Result, Ok, Err, slice_get, slice_set}
+use Rattle.std.specs.Prelude.{ℕ, ◌≡◌, ◌+◌, true, false, List, [], ◌∷◌, ◌++◌, length, Option, Some, Result, Ok, Err, slice_get, slice_set}
 use Rattle.std.specs.List.{flat_map}
 use Rattle.aoe_base.specs.Addresses.{broadcast}
 use Rattle.aoe_base.specs.declared.address.Mac.{Mac}
@@ -7,7 +7,8 @@ use Rattle.aoe_base.specs.declared.failure.Failed.{Failed}
 use Rattle.aoe_initiator.specs.Request.{request}
 use Rattle.aoe_initiator.specs.declared.op.Op.TheVariants as op
 use Rattle.aoe_io.specs.Link.{Added, Turn, Turned}
-use Rattle.aoe_tools.specs.Asking.{TookSome, asked, asked_at, responses, tag_of}
+use Rattle.aoe_tools.specs.Asking.{responses, tag_of}
+use Rattle.aoe_tools.specs.Waiting.{TookFront, TookSome, asked, asked_at}
 use Rattle.aoe_tools.specs.One.{GoesOn, is_done}
 use Rattle.aoe_tools.specs.Page.{known, with_known}
 use Rattle.aoe_tools.specs.declared.found.Known.{Known}
@@ -43,7 +44,7 @@ question_of first port earlier v = page_question first port (number earlier) v.d
 abbrev pub request_of : ℕ → Mac → List Visit → Visit → List ℕ
 request_of first port earlier v = page_request first port (number earlier) v.device
 
--- a visit is over: a response came that counts, or all turns have passed, and not before
+-- a visit is over: a response came that counts, or it has waited for all turns, and not before
 abbrev pub IsOver : Question → ℕ → List Turn → Type 0
 IsOver q limit turns = (is_done q limit turns ≡ true) × GoesOn q limit turns
 
@@ -72,12 +73,12 @@ visit_turns visits = flat_map (λ v. v.turns) visits
 -- what is sent in them, the latest first
 abbrev pub visit_asked : ℕ → Mac → List Visit → List (List ℕ)
 visit_asked first port [] = []
-visit_asked first port (v ∷ earlier) = asked (request_of first port earlier v) (length v.turns) ++ visit_asked first port earlier
+visit_asked first port (v ∷ earlier) = asked (request_of first port earlier v) v.turns ++ visit_asked first port earlier
 
 -- what is sent before the next turn of the last one
 abbrev pub visit_asks : ℕ → Mac → List Visit → List (List ℕ)
 visit_asks first port [] = []
-visit_asks first port (v ∷ earlier) = asked_at (request_of first port earlier v) (length v.turns)
+visit_asks first port (v ∷ earlier) = asked_at (request_of first port earlier v) v.turns
 
 -- the devices that were found begin with those that were visited
 pub record BeginsWith (found visited : List Seen) : Type 0 where
@@ -94,8 +95,8 @@ IsBroken first port limit found (v ∷ earlier) =
 
 -- one request for a page was sent and its response was waited for
 abbrev pub EndsPage : Result Known Failed → Question → List ℕ → ℕ → List Turn → Option (List (List ℕ)) → Option (List (List ℕ)) → Type 0
-EndsPage (Ok k) q request limit turns before after = IsOver q limit turns × (k ≡ known (responses q turns)) × Added before after (asked request (length turns))
-EndsPage (Err failed) q request limit turns before after = IsUnderWay q limit turns × TookSome request 0 (length turns) before after
+EndsPage (Ok k) q request limit turns before after = IsOver q limit turns × (k ≡ known (responses q turns)) × Added before after (asked request turns)
+EndsPage (Err failed) q request limit turns before after = IsUnderWay q limit turns × TookSome request turns before after
 
 pub record AsksPage (result : Result Known Failed) (q : Question) (request : List ℕ) (limit start turned' : ℕ) (given given' : Option (List Turn)) (taken taken' : Option (List (List ℕ))) : Type 0 where
   pub turns : List Turn
@@ -107,20 +108,16 @@ abbrev pub EndsVisit : Result Unit Failed → ℕ → Mac → ℕ → ℕ → Li
 EndsVisit (Ok u) first port limit i found found' v before after =
     IsOver (page_question first port (i + 1) v.device) limit v.turns
     × (found' ≡ slice_set found i (with_known v.device (known (responses (page_question first port (i + 1) v.device) v.turns))))
-    × Added before after (asked (page_request first port (i + 1) v.device) (length v.turns))
+    × Added before after (asked (page_request first port (i + 1) v.device) v.turns)
 EndsVisit (Err failed) first port limit i found found' v before after =
     IsUnderWay (page_question first port (i + 1) v.device) limit v.turns
-    × TookSome (page_request first port (i + 1) v.device) 0 (length v.turns) before after
+    × TookSome (page_request first port (i + 1) v.device) v.turns before after
 
 pub record VisitsOne (result : Result Unit Failed) (first : ℕ) (port : Mac) (limit i : ℕ) (found found' : List Seen) (start turned' : ℕ) (given given' : Option (List Turn)) (taken taken' : Option (List (List ℕ))) : Type 0 where
   pub visit : Visit
   pub at : slice_get found i ≡ Some visit.device
   pub turned : Turned start turned' given given' visit.turns
   pub ends : EndsVisit result first port limit i found found' visit taken taken'
-
--- the link took what was sent; where it failed, perhaps also what is sent before the next turn
-abbrev pub TookFront : List (List ℕ) → List (List ℕ) → Option (List (List ℕ)) → Option (List (List ℕ)) → Type 0
-TookFront next sent before after = Added before after sent ⊎ Added before after (next ++ sent)
 
 abbrev pub EndsVisits : Result Unit Failed → ℕ → Mac → ℕ → List Seen → List Seen → List Visit → Option (List (List ℕ)) → Option (List (List ℕ)) → Type 0
 EndsVisits (Ok u) first port limit found found' visits before after =

@@ -1,91 +1,95 @@
 //! The loop of every request: it is sent, and a response is waited for.
-ghost use Rattle.std.specs.Prelude.{◌≡◌, ◌≢◌, ◌≤◌, Err, IfErr, IfOk, IfSome, None, OnErr, OnOk, is_err, true};
+ghost use Rattle.std.specs.Prelude.{◌≡◌, ◌≢◌, ◌≤◌, ◌<◌, ◌-◌, ◌^◌, Err, IfErr, IfOk, IfSome, None, OnErr, OnOk, is_err, true};
 ghost use Rattle.aoe_base.specs.Faults.{Blamed};
-ghost use Rattle.aoe_tools.specs.Asking.{asked_at, CanRead};
-ghost use Rattle.aoe_tools.specs.Listening.{Listens, TakesTurn};
+ghost use Rattle.aoe_tools.specs.Asking.{CanRead};
+ghost use Rattle.aoe_tools.specs.Listening.{asked_by, Listens, TakesTurn};
 ghost use Rattle.aoe_tools.specs.One.{mask_refusal, refusal_of};
 ghost use Rattle.aoe_tools.specs.LookUp.{unless_refusing, with_args, Asks};
 ghost use Rattle.aoe_io.specs.Link.{Added};
 
 use crate::end::{Refusal, ToolRefusal};
 use crate::question::{Question, Reply, Subject};
+use crate::wait::Wait;
 use aoe_base::Failed;
 use aoe_frame::{Frame, HEADER_LEN};
 use aoe_initiator::Answer;
 use aoe_io::{Got, Link};
 
-/// After how many turns a request that isn't answered is sent again: a tenth of a second over a silent
-/// UDP link, which is this program's own choice.
-const TURNS_BETWEEN: u32 = 10;
-
-/// Sends a request that has waited for `passed` turns, where it is time.
-fn send_due<L: Link>(request: &Frame, passed: u32, link: &mut L) -> Result<(), Failed>
+/// Sends a request, where it is time.
+fn send_due<L: Link>(request: &Frame, wait: Wait, link: &mut L) -> Result<(), Failed>
     ensures took { OnOk result (Added (L.taken link.old) (L.taken link.new)
-        (asked_at request.now.items passed)) }
+        (asked_by request.now.items wait)) }
     ensures err { OnErr result (L.taken link.new ≡ L.taken link.old) }
     ensures given { L.given link.new ≡ L.given link.old }
     ensures turns { L.turns link.new ≡ L.turns link.old }
     ensures count { L.faults link.old ≤ L.faults link.new }
     ensures link { Blamed (is_err result ≡ true) (L.faults link.old) (L.faults link.new) }
 {
-    if passed % TURNS_BETWEEN != 0 {
+    if !wait.is_due {
         return Ok(());
     }
     link.send(request.as_slice())
 }
 
-/// Sends a request that has waited for `passed` turns, where it is time, and takes one turn more:
-/// the response that it brings, where it counts. `frame` holds it then.
+/// Sends a request, where it is time, and takes one turn of the link: the response that it brings,
+/// where it counts. `frame` holds it then.
 fn take_turn<L: Link>(
     question: &Question,
     request: &Frame,
-    passed: u32,
+    wait: &mut Wait,
     link: &mut L,
     frame: &mut Frame,
 ) -> Result<Option<Reply>, Failed>
-    ensures turn { TakesTurn result question.now request.now.items passed frame.new.items
-        (L.turns link.old) (L.turns link.new) (L.given link.old) (L.given link.new)
-        (L.taken link.old) (L.taken link.new) }
+    requires { wait.old.turns < 2 ^ 32 - 1 }
+    ensures turn { TakesTurn result question.now request.now.items wait.old wait.new
+        frame.new.items (L.turns link.old) (L.turns link.new) (L.given link.old)
+        (L.given link.new) (L.taken link.old) (L.taken link.new) }
     ensures here { IfOk result (λ reply. IfSome reply (λ r. CanRead r.answer frame.new.items)) }
     ensures count { L.faults link.old ≤ L.faults link.new }
     ensures link { Blamed (is_err result ≡ true) (L.faults link.old) (L.faults link.new) }
 {
-    match send_due(request, passed, link) {
+    match send_due(request, *wait, link) {
         Ok(()) => {}
         Err(Failed) => return Err(Failed),
     }
     match link.recv(frame) {
-        Ok(Got::Frame) => Ok(question.reply(frame.as_slice())),
-        Ok(Got::Quiet) => Ok(None),
-        Ok(Got::Ended) => Ok(None),
+        Ok(Got::Frame) => {
+            *wait = wait.after_frame();
+            Ok(question.reply(frame.as_slice()))
+        }
+        Ok(Got::Quiet) => {
+            *wait = wait.after_silence();
+            Ok(None)
+        }
+        Ok(Got::Ended) => {
+            *wait = wait.after_silence();
+            Ok(None)
+        }
         Err(Failed) => Err(Failed),
     }
 }
 
-/// Waits for the next response that counts, until the request has waited for `limit` turns.
-/// `passed` counts its turns, and `frame` holds the response.
+/// Waits for the next response that counts, until the request has waited for `limit` turns. `frame`
+/// holds the response.
 pub(crate) fn listen<L: Link>(
     question: &Question,
     request: &Frame,
     limit: u32,
-    passed: &mut u32,
+    wait: &mut Wait,
     link: &mut L,
     frame: &mut Frame,
 ) -> Result<Option<Reply>, Failed>
-    requires { passed.old ≤ limit }
-    ensures listens { Listens result question.now request.now.items limit passed.old passed.new frame.new.items (L.turns link.old) (L.turns link.new) (L.given link.old) (L.given link.new) (L.taken link.old) (L.taken link.new) }
+    requires { wait.old.turns ≤ limit }
+    ensures listens { Listens result question.now request.now.items limit wait.old wait.new frame.new.items (L.turns link.old) (L.turns link.new) (L.given link.old) (L.given link.new) (L.taken link.old) (L.taken link.new) }
     ensures here { IfOk result (λ reply. IfSome reply (λ r. CanRead r.answer frame.new.items)) }
-    ensures within { passed.new ≤ limit }
+    ensures within { wait.new.turns ≤ limit }
     ensures count { L.faults link.old ≤ L.faults link.new }
     ensures link { Blamed (is_err result ≡ true) (L.faults link.old) (L.faults link.new) }
 {
-    'turns: while *passed < limit {
-        match take_turn(question, request, *passed, link, frame) {
-            Ok(None) => *passed += 1,
-            Ok(Some(reply)) => {
-                *passed += 1;
-                return Ok(Some(reply));
-            }
+    'turns: while wait.turns < limit {
+        match take_turn(question, request, wait, link, frame) {
+            Ok(None) => {}
+            Ok(Some(reply)) => return Ok(Some(reply)),
             Err(Failed) => return Err(Failed),
         }
     }
@@ -147,8 +151,8 @@ pub(crate) fn ask<L: Link>(
     ensures link { Blamed (result ≡ Err ToolRefusal.LinkFault) (L.faults link.old)
         (L.faults link.new) }
 {
-    let mut passed = 0;
-    match listen(question, request, turns, &mut passed, link, frame) {
+    let mut wait = Wait::new();
+    match listen(question, request, turns, &mut wait, link, frame) {
         Ok(Some(reply)) => unless_refused(question.subject, reply, &frame[HEADER_LEN..]),
         Ok(None) => Err(ToolRefusal::Unanswered { turns }),
         Err(Failed) => Err(ToolRefusal::LinkFault),

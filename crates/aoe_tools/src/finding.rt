@@ -10,6 +10,7 @@ use crate::found::Found;
 use crate::lists::args_of;
 use crate::question::{Ask, Question, Subject};
 use crate::request::config_request;
+use crate::wait::Wait;
 use aoe_base::{Failed, NoMemory, TargetId};
 use aoe_frame::{Frame, HEADER_LEN};
 use aoe_io::{Clock, Link};
@@ -48,9 +49,9 @@ fn find_all<L: Link>(
 {
     let mut found = Found::new(alloc);
     let mut frame = Frame::new();
-    let mut passed = 0;
+    let mut wait = Wait::new();
     'responses: loop {
-        let reply = match listen(question, request, turns, &mut passed, link, &mut frame) {
+        let reply = match listen(question, request, turns, &mut wait, link, &mut frame) {
             Ok(Some(reply)) => reply,
             Ok(None) => break,
             Err(Failed) => return Err(ToolRefusal::LinkFault),

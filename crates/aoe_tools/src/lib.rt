@@ -13,14 +13,17 @@
 //!   `text`); two of a [`Refusal`]'s kinds, of a range and of a sector that differs, are those of a
 //!   copy.
 //!
-//! A request is sent before its turns 1, 11, 21 and so on, and each turn listens once.
+//! A turn of a request is one of the link that brings no frame, or 64 that bring one: so answers to
+//! other requests end no wait before its time, and no flood of frames goes on for ever. The request is
+//! sent at first and after every ten of its turns.
 //!
 //! A tool keeps nothing from one call to the next. It opens no socket and doesn't wait by itself: a
-//! turn lasts as long as the link's `recv`.
+//! turn of the link lasts as long as its `recv`.
 //!
 //! Promised: unless link or memory fails, what a tool asks, which responses count (`counted`), when
 //! it ends and what it returns are functions of its turns (`AsksOne`, `Discovers`, `Stats`,
-//! `Finds`). Texts and statuses are those of the definitions (`found_text`, `text_of`, `code_of`).
+//! `Finds`). Whatever comes, a request has at most 64 turns of the link for each that it may wait
+//! ([`requests_end`]). Texts and statuses are those of the definitions (`found_text`, `text_of`, `code_of`).
 //!
 //! Only tested: the tools over datagrams (`tests/tools`) and beside vblade
 //! (`tests/against-vblade`). `aoe_host_tests` (`tools`) has worked runs over links in memory.
@@ -36,6 +39,7 @@ mod question;
 mod request;
 mod text;
 mod visiting;
+mod wait;
 
 pub use end::{Refusal, ToolRefusal};
 pub use finding::discover;
@@ -45,3 +49,4 @@ pub use lookup::{Device, look_up};
 pub use question::Ask;
 pub use text::{print_config, print_found, print_masks, print_reserves, print_stat};
 pub use visiting::stat;
+pub use wait::requests_end;

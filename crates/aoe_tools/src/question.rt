@@ -14,7 +14,8 @@ pub struct Ask {
     /// The address that the requests come from, and that responses go to.
     pub port: Mac,
 
-    /// The most turns of a request.
+    /// How many turns a request waits: one for each turn of the link without a frame, and one for each
+    /// 64 with one.
     pub turns: u32,
 }
 

@@ -13,6 +13,7 @@ use crate::end::ToolRefusal;
 use crate::finding::find;
 use crate::found::{Found, Known, Seen, State};
 use crate::question::{Ask, Question, Subject};
+use crate::wait::Wait;
 use aoe_ata::read_identify;
 use aoe_base::{BROADCAST, Failed, Mac};
 use aoe_frame::{Frame, HEADER_LEN};
@@ -99,8 +100,8 @@ fn ask_page<L: Link>(
     ensures link { Blamed (is_err result ≡ true) (L.faults link.old) (L.faults link.new) }
 {
     let mut frame = Frame::new();
-    let mut passed = 0;
-    match listen(question, request, turns, &mut passed, link, &mut frame) {
+    let mut wait = Wait::new();
+    match listen(question, request, turns, &mut wait, link, &mut frame) {
         Ok(Some(reply)) => Ok(known_by(reply.answer, &frame[HEADER_LEN..])),
         Ok(None) => Ok(Known {
             total: None,

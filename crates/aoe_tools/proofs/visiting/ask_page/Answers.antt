@@ -10,11 +10,11 @@ known_by-requires g c = rw (behind c.deref.ensures.0) (rw c.in-Ok-Some.field-0-i
 
 pub returns-in-Ok-Some-clause-run : goal.returns-in-Ok-Some-clause-run
 returns-in-Ok-Some-clause-run g c =
-    page-heard (heard-one (rw c.in-Ok-Some.field-0-is at c.in-Ok-Some.ensures.listens))
+    page-heard (heard-one (rw (c.in-Ok-Some.field-0-is, c.new-wait.ensures) at c.in-Ok-Some.ensures.listens))
     (c.known_by.ensures ∙ ap (known_by c.in-Ok-Some.reply.answer) (behind c.deref.ensures.0))
 
 pub returns-in-Ok-None-clause-run : goal.returns-in-Ok-None-clause-run
-returns-in-Ok-None-clause-run g c = page-heard (heard-none (rw c.in-Ok-None.field-0-is at c.in-Ok-None.ensures.listens)) refl
+returns-in-Ok-None-clause-run g c = page-heard (heard-none (rw (c.in-Ok-None.field-0-is, c.new-wait.ensures) at c.in-Ok-None.ensures.listens)) refl
 
 pub returns-in-Err-clause-run : goal.returns-in-Err-clause-run
-returns-in-Err-clause-run g c = page-failed c.in-Err.ensures.listens
+returns-in-Err-clause-run g c = page-failed (rw c.new-wait.ensures at c.in-Err.ensures.listens)
