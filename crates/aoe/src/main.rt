@@ -37,11 +37,13 @@ mod tools;
 mod top;
 mod upkeep;
 
-use aoe_args::{Command, CommandLine, PortWords, Wrong, read_words, slip_of};
+use aoe_args::{
+    Command, CommandLine, PortWords, SlipText, is_command, meant, read_words, slip_of,
+};
 use aoe_base::{Blob, NoMemory};
 use aoe_system::{
     FileDisk, FileRefusal, Flow, Input, KeepDoubt, Output, SystemClock, Until, Wire, input_sectors,
-    say, words,
+    say, variable_of, words,
 };
 use aoe_tap::{OpenRefusal as TapRefusal, TapMedium};
 use aoe_tools::Refusal;
@@ -61,7 +63,10 @@ use top::aoe;
 const READ_AHEAD: usize = 65536;
 
 /// What is wrong with a text that spells no address, or not only addresses.
-const NO_ADDRESS: &[u8] = b": not an address as 127.0.0.1:7001";
+const NO_ADDRESS: &[u8] = b": not an address as 127.0.0.1:7001 or [::1]:7001";
+
+/// What is wrong with an end of a link whose peer is of IPv6 where it is of IPv4, or the other way round.
+const OTHER_FAMILY: &[u8] = b": of another family than a peer, IPv4 or IPv6";
 
 /// What is wrong with the file of no tap device.
 const NO_TAP: &[u8] = b": not a tap file";
@@ -101,6 +106,31 @@ fn tell_failed(rt: &HostRuntime, name: &[u8], error: &io::Error, code: u8) -> u8
         Ok(reason) => tell_unopened(rt, name, reason.as_bytes(), code),
         Err(_) => tell_unopened(rt, name, b"", code),
     }
+}
+
+/// Says that an end of a link is no address, and which variable of the environment it comes from, if it
+/// does, and gives the exit status.
+fn tell_no_address(rt: &HostRuntime, option: &str, text: &[u8]) -> u8 {
+    say(rt, b"aoe: cannot open ");
+    if let Some(variable) = variable_of(rt, option) {
+        say(rt, variable.as_bytes());
+        say(rt, b": ");
+    }
+    say(rt, text);
+    say(rt, NO_ADDRESS);
+    say(rt, b"\n");
+    6
+}
+
+/// Says that the ends of a link don't go together, and why, and gives the exit status.
+fn tell_ends(rt: &HostRuntime, text: &[u8], why: &[u8]) -> u8 {
+    let code = tell(rt, Status::Usage);
+    say(rt, b"aoe: ");
+    say(rt, text);
+    say(rt, why);
+    say(rt, b"\n");
+    say_help(rt, None);
+    code
 }
 
 /// Says that a link can't be opened, and the system's reason by the number of its error, where it
@@ -227,8 +257,10 @@ fn open_udp(
         }
         Err(OpenRefusal::NoMemory) => Err(tell(rt, Status::NoMemory)),
         Err(OpenRefusal::Vxlan) => Err(tell(rt, Status::Usage)),
-        Err(OpenRefusal::Local) => Err(tell_unopened(rt, local.bytes(), NO_ADDRESS, 6)),
-        Err(OpenRefusal::Peers) => Err(tell_unopened(rt, peers.bytes(), NO_ADDRESS, 6)),
+        Err(OpenRefusal::Repeated) => Err(tell_ends(rt, peers.bytes(), b": a peer is named twice")),
+        Err(OpenRefusal::Families) => Err(tell_ends(rt, local.bytes(), OTHER_FAMILY)),
+        Err(OpenRefusal::Local) => Err(tell_no_address(rt, "--local", local.bytes())),
+        Err(OpenRefusal::Peers) => Err(tell_no_address(rt, "--peers", peers.bytes())),
         Err(OpenRefusal::Unbound(error)) => Err(tell_unlinked(rt, local.bytes(), error)),
     }
 }
@@ -308,30 +340,32 @@ fn tell(rt: &HostRuntime, status: Status) -> u8 {
     status.code()
 }
 
+/// Says where to read more: of this command, or of all.
+fn say_help(rt: &HostRuntime, command: Option<&str>) {
+    say(rt, b"aoe: see aoe ");
+    if let Some(name) = command {
+        say(rt, name.as_bytes());
+        say(rt, b" ");
+    }
+    say(rt, b"--help\n");
+}
+
 /// Says why the arguments are no command, and where to read more.
 fn say_slip(rt: &HostRuntime, words: &[String]) {
     let Ok(Some(slip)) = slip_of(rt.alloc(), words) else {
         return;
     };
-    say(rt, b"aoe: ");
-    if let Some(place) = slip.word
-        && let Some(word) = words.get(place)
-    {
-        say(rt, word.as_bytes());
-        say(rt, b": ");
-    }
-    let wrong = slip.wrong;
-    if let Ok(text) = format!(in rt.alloc(); "{wrong}\n") {
+    let Ok(meant) = meant(rt.alloc(), words, slip) else {
+        return;
+    };
+    let said = SlipText { slip, words, meant };
+    if let Ok(text) = format!(in rt.alloc(); "aoe: {said}\n") {
         say(rt, text.as_bytes());
     }
-    say(rt, b"aoe: see aoe ");
-    if wrong != Wrong::Command
-        && let Some(name) = words.first()
-    {
-        say(rt, name.as_bytes());
-        say(rt, b" ");
+    match words.first() {
+        Some(name) if is_command(name.as_str()) => say_help(rt, Some(name.as_str())),
+        _ => say_help(rt, None),
     }
-    say(rt, b"--help\n");
 }
 
 /// Runs the command over its files and links, the standard streams and the clock. The flow is told how far
@@ -536,7 +570,12 @@ fn run(rt: &HostRuntime) -> u8 {
     match words(rt) {
         Ok(words) => run_words(rt, words.as_slice()),
         Err(error) if error.kind() == ErrorKind::OutOfMemory => tell(rt, Status::NoMemory),
-        Err(_) => tell(rt, Status::Usage),
+        Err(_) => {
+            let code = tell(rt, Status::Usage);
+            say(rt, b"aoe: a word isn't UTF-8\n");
+            say_help(rt, None);
+            code
+        }
     }
 }
 

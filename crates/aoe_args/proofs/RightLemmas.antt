@@ -1,12 +1,15 @@
 -- What the walk over the words of a command shows of each word.
 use Rattle.std.proofs.Common.{◌≡◌, ◌∙◌, ◌<◌, ◌≤◌, ◌+◌, ◌==◌, ℕ, Bool, true, false, List, length, take, Option, Some, None, nat_lt, refl, sym, ap, subst, arith, add-one}
 use Rattle.std.specs.Prelude.{is_some, if◌then◌else◌, option_map, IfNone, IfSome, IsSomeAnd}
+use Rattle.std.specs.Borrow.{Bor}
 use Rattle.std.specs.Option.{option_or}
 use Rattle.std.proofs.lemmas.Bool.Decides.{nat_tests}
 use Rattle.clap.specs.Words.{Text}
 use Rattle.aoe_args.specs.Words.{attached, is_value}
-use Rattle.aoe_args.specs.Places.{Argument, Form, argument_at, argument_behind, awaits, is_flag, option_at, option_name, option_named, plain_before, taking, word_at}
-use Rattle.aoe_args.specs.Slips.{IsFit, IsRight, is_given, text_in}
+use Rattle.aoe_args.specs.Places.{Argument, Form, argument_at, argument_behind, awaits, is_flag, is_given, is_plain, option_at, option_name, option_named, plain_before, taking, word_at}
+use Rattle.aoe_args.specs.Slips.{IsFit, IsRight, text_in}
+use Rattle.aoe_args.specs.Walks.{IsWalked}
+use Rattle.aoe_args.specs.declared.slip.Walked.{Walked}
 
 if_is : {T : Type 0} (P : T → Type 0) (o : Option T) (a : T) → o ≡ Some a → P a → IfSome o P
 if_is {T} P o a e h = subst (λ (x : Option T). IfSome x P) (sym e) h
@@ -17,6 +20,10 @@ if_none {T} P o e = subst (λ (x : Option T). IfSome x P) (sym e) tt
 pub if_none_then : {T : Type 0} {A B : Type 0} (r : Option T) → (A → B) → IfNone r A → IfNone r B
 if_none_then None f h = f h
 if_none_then (Some x) f h = tt
+
+pub if_then : {T : Type 0} {P Q : T → Type 0} (o : Option T) → ((x : T) → P x → Q x) → IfSome o P → IfSome o Q
+if_then None f h = tt
+if_then (Some x) f h = f x h
 
 clash : {A : Type 0} (b : Bool) → b ≡ false → b ≡ true → A
 clash true e f = cc
@@ -43,7 +50,7 @@ not_first n behind = grind (arith, nat_tests)
 
 module _ (form : Form) (words : List Text) (n : ℕ) (behind : 1 ≤ n) where
   -- a word that is an option, and one that is none
-  option_is : is_value (word_at n words) ≡ false → option_at form words n ≡ option_named form.1 (option_name (word_at n words))
+  pub option_is : is_value (word_at n words) ≡ false → option_at form words n ≡ option_named form.1 (option_name (word_at n words))
   option_is dash = rw (not_first n behind, dash) refl
 
   option_none : is_value (word_at n words) ≡ true → option_at form words n ≡ None
@@ -57,9 +64,21 @@ module _ (form : Form) (words : List Text) (n : ℕ) (behind : 1 ≤ n) where
   pub next_none : is_value (word_at n words) ≡ true → awaits form words (n + 1) ≡ None
   next_none value = next_is ∙ ap (λ o. taking o (attached (word_at n words))) (option_none value)
 
-  pub next_option : (a : Argument) → is_value (word_at n words) ≡ false → option_named form.1 (option_name (word_at n words)) ≡ Some a
-      → awaits form words (n + 1) ≡ taking (Some a) (attached (word_at n words))
-  next_option a dash named = next_is ∙ ap (λ o. taking o (attached (word_at n words))) (option_is dash ∙ named)
+  pub next_option : (a : Argument) → option_at form words n ≡ Some a → awaits form words (n + 1) ≡ taking (Some a) (attached (word_at n words))
+  next_option a is = next_is ∙ ap (λ o. taking o (attached (word_at n words))) is
+
+  -- one with a value that isn't there yet takes the next word
+  pub awaits_next : (a : Argument) → option_at form words n ≡ Some a → is_flag a.1 ≡ false → attached (word_at n words) ≡ None
+      → is_some (awaits form words (n + 1)) ≡ true
+  awaits_next a is valued none = ap is_some (next_option a is) ∙ rw (valued, none) refl
+
+  -- an option goes to itself
+  pub goes_option : (a : Argument) → is_value (word_at n words) ≡ false → option_at form words n ≡ Some a → argument_at form words n ≡ Some a.0
+  goes_option a dash is =
+      ap
+      (λ b. if b then option_or (awaits form words n) (argument_behind form.1 (plain_before form words n))
+      else option_map (λ (x : Argument). x.0) (option_at form words n)) dash
+      ∙ ap (option_map (λ (x : Argument). x.0)) is
 
   -- how many words go by their place
   pub before_option : is_value (word_at n words) ≡ false → plain_before form words (n + 1) ≡ plain_before form words n
@@ -90,18 +109,13 @@ module _ (form : Form) (words : List Text) (n : ℕ) (behind : 1 ≤ n) where
   }
 
   -- nor with an option
-  pub right_option : (a : Argument) → is_value (word_at n words) ≡ false → option_named form.1 (option_name (word_at n words)) ≡ Some a
+  pub right_option : (a : Argument) → is_value (word_at n words) ≡ false → option_at form words n ≡ Some a
       → is_given a.0 (take n words) ≡ false → (is_flag a.1 ≡ true → attached (word_at n words) ≡ None)
       → IfSome (taking (Some a) (attached (word_at n words))) (λ name. (n + 1 < length words) × (is_value (word_at (n + 1) words) ≡ true))
       → IfSome (attached (word_at n words)) (IsFit form.0 a.0) → IsRight form words n
-  right_option a dash named once bare valued fit =
-      let is : option_at form words n ≡ Some a = option_is dash ∙ named in
-      let goes : argument_at form words n ≡ Some a.0 =
-      ap
-      (λ b. if b then option_or (awaits form words n) (argument_behind form.1 (plain_before form words n))
-      else option_map (λ (x : Argument). x.0) (option_at form words n)) dash
-      ∙ ap (option_map (λ (x : Argument). x.0)) is in
-      let next : taking (Some a) (attached (word_at n words)) ≡ awaits form words (n + 1) = sym (next_option a dash named) in
+  right_option a dash is once bare valued fit =
+      let goes : argument_at form words n ≡ Some a.0 = goes_option a dash is in
+      let next : taking (Some a) (attached (word_at n words)) ≡ awaits form words (n + 1) = sym (next_option a is) in
       record {
         known = ap is_some goes;
         once = if_is _ (option_at form words n) a is once;
@@ -116,21 +130,21 @@ module _ (form : Form) (words : List Text) (n : ℕ) (behind : 1 ≤ n) where
       fits_is (Some x) e goes fit = if_is _ (text_in (word_at n words)) x e (if_is (λ y. IsFit form.0 y x) (argument_at form words n) a.0 goes fit)
 
   -- the three kinds of them: one without a value, one with its value behind its `=`, and one whose value is the next word
-  module _ (a : Argument) (dash : is_value (word_at n words) ≡ false) (named : option_named form.1 (option_name (word_at n words)) ≡ Some a)
+  module _ (a : Argument) (dash : is_value (word_at n words) ≡ false) (is : option_at form words n ≡ Some a)
       (once : is_given a.0 (take n words) ≡ false) where
     pub right_flag : is_flag a.1 ≡ true → attached (word_at n words) ≡ None → IsRight form words n
     right_flag flag bare =
-        right_option a dash named once (λ yes. bare) (rw (flag) tt) (if_none _ (attached (word_at n words)) bare)
+        right_option a dash is once (λ yes. bare) (rw (flag) tt) (if_none _ (attached (word_at n words)) bare)
 
     pub right_attached : is_flag a.1 ≡ false → IsSomeAnd (attached (word_at n words)) (IsFit form.0 a.0) → IsRight form words n
     right_attached valued value =
-        right_option a dash named once (λ yes. clash (is_flag a.1) valued yes) (rw (valued, some_is (IsFit form.0 a.0) (attached (word_at n words)) value) tt)
+        right_option a dash is once (λ yes. clash (is_flag a.1) valued yes) (rw (valued, some_is (IsFit form.0 a.0) (attached (word_at n words)) value) tt)
         (some_if (IsFit form.0 a.0) (attached (word_at n words)) value)
 
     pub right_next : is_flag a.1 ≡ false
         → (attached (word_at n words) ≡ None) × (n + 1 < length words) × (is_value (word_at (n + 1) words) ≡ true) → IsRight form words n
     right_next valued next =
-        right_option a dash named once (λ yes. clash (is_flag a.1) valued yes) (rw (valued, next.0) (next.1, next.2))
+        right_option a dash is once (λ yes. clash (is_flag a.1) valued yes) (rw (valued, next.0) (next.1, next.2))
         (if_none _ (attached (word_at n words)) next.0)
 
 -- where the walk begins
@@ -141,3 +155,37 @@ none_before form words = refl
 pub none_awaits : (form : Form) (words : List Text) → None ≡ awaits form words 1
 unfolding awaits
 none_awaits form words = refl
+
+pub none_walked : (form : Form) (words : List Text) → IsWalked form words 1 (record { before = 0; awaited = None; last = None })
+none_walked form words = record {
+  few = omega arith;
+  before = none_before form words;
+  awaited = none_awaits form words;
+  behind = tt;
+  plain = tt;
+  last = tt;
+}
+
+-- what one more word does to what is known: an option or the value of one leaves the count as it is, and another word is the last that counts
+module _ (form : Form) (words : List Text) (n : ℕ) (walked : Walked) (behind : 1 ≤ n) (so_far : IsWalked form words n walked) where
+  pub same_count : (awaited : Option (Bor Text)) → plain_before form words (n + 1) ≡ plain_before form words n
+      → option_map (λ name. name.now) awaited ≡ awaits form words (n + 1) → IsWalked form words (n + 1) (record walked { awaited = awaited })
+  same_count awaited same next = record {
+    few = omega (arith, so_far.few);
+    before = so_far.before ∙ sym same;
+    awaited = next;
+    behind = if_then walked.last (λ m h. (h.0, omega (arith, h.1))) so_far.behind;
+    plain = so_far.plain;
+    last = if_then walked.last (λ m h. h ∙ sym same) so_far.last;
+  }
+
+  pub one_more : is_value (word_at n words) ≡ true → awaits form words n ≡ None
+      → IsWalked form words (n + 1) (record { before = walked.before + 1; awaited = None; last = Some n })
+  one_more value free = record {
+    few = omega (arith, so_far.few);
+    before = ap (λ n. n + 1) so_far.before ∙ sym (before_plain form words n behind value free);
+    awaited = sym (next_none form words n behind value);
+    behind = (behind, omega arith);
+    plain = rw (not_first n behind, value, free) refl;
+    last = refl;
+  }

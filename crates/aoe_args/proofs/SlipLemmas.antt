@@ -1,11 +1,11 @@
--- What is wrong with the text that a word gives is wrong with that word.
-use Rattle.std.proofs.Common.{ℕ, ◌≡◌, ◌<◌, ◌≤◌, List, length, Option, Some, None, true, false, sym}
-use Rattle.std.specs.Prelude.{is_some, option_map}
+-- What is wrong with a word of a command is a slip.
+use Rattle.std.proofs.Common.{ℕ, ◌≡◌, ◌<◌, ◌≤◌, List, length, Option, Some, None, true, false, inr, sym, subst}
+use Rattle.std.specs.Prelude.{is_some, option_map, IsSomeAnd, MatchOption}
 use Rattle.clap.specs.Words.{Text}
-use Rattle.aoe_args.specs.Places.{word_at}
-use Rattle.aoe_args.specs.Slips.{IsMisfit, IsSlip, value_in}
+use Rattle.aoe_args.specs.Places.{Form, form_named, word_at}
+use Rattle.aoe_args.specs.Slips.{IsSlip, IsSlipIn, IsWrongIn}
+use Rattle.aoe_args.specs.declared.slip.Slip.{Slip}
 use Rattle.aoe_args.specs.declared.slip.Wrong.{Wrong}
-use Rattle.aoe_args.specs.declared.slip.Wrong.TheVariants as wrong
 
 -- what isn't there is none
 pub is_none : {T : Type 0} (o x : Option T) → o ≡ x → is_some o ≡ false → x ≡ None
@@ -25,23 +25,18 @@ pub there_of : {S T : Type 0} (read : S → T) (o : Option S) (x : Option T) →
 there_of read None x e h none = cc
 there_of read (Some y) x e h none = cc
 
-pub misfit_is : (words : List Text) (n : ℕ) (w : Wrong) → 1 ≤ n → n < length words → IsMisfit w (value_in (word_at n words))
-    → IsSlip words (record { word = Some n; wrong = w })
-misfit_is words n (wrong.Number least most) behind there is = (there, (behind, is))
-misfit_is words n wrong.Port behind there is = (there, (behind, is))
-misfit_is words n wrong.Ports behind there is = (there, (behind, is))
-misfit_is words n wrong.SwitchPort behind there is = (there, (behind, is))
-misfit_is words n wrong.Device behind there is = (there, (behind, is))
-misfit_is words n wrong.Address behind there is = (there, (behind, is))
-misfit_is words n wrong.Directive behind there is = (there, (behind, is))
-misfit_is words n (wrong.Action actions) behind there is = (there, (behind, is))
-misfit_is words n wrong.Command behind there is = absurd is
-misfit_is words n wrong.NoCommand behind there is = absurd is
-misfit_is words n wrong.Word behind there is = absurd is
-misfit_is words n wrong.Option behind there is = absurd is
-misfit_is words n wrong.NoValue behind there is = absurd is
-misfit_is words n wrong.Flag behind there is = absurd is
-misfit_is words n wrong.Twice behind there is = absurd is
-misfit_is words n wrong.Further behind there is = absurd is
-misfit_is words n (wrong.Missing name) behind there is = absurd is
-misfit_is words n wrong.Together behind there is = absurd is
+-- what holds of the one that is there
+pub some_and : {T : Type 0} (P : T → Type 0) (o : Option T) (x : T) → o ≡ Some x → P x → IsSomeAnd o P
+some_and P o x e h = subst (λ o. IsSomeAnd o P) (sym e) h
+
+-- a slip of one of the words of a command is one of the words
+pub slip_in : (form : Form) (words : List Text) (slip : Slip) → form_named (word_at 0 words) ≡ Some form → IsSlipIn form words slip → IsSlip words slip
+slip_in form words slip named h = go slip.word h
+  where
+    go : (o : Option ℕ) → MatchOption o ⊥ (λ n. (1 ≤ n) × (n < length words) × IsWrongIn form words n slip.wrong) → IsSlip words (record slip { word = o })
+    go None h = absurd h
+    go (Some n) h = (h.1, inr (inr (h.0, some_and (λ form. IsWrongIn form words n slip.wrong) (form_named (word_at 0 words)) form named h.2)))
+
+pub is_in : (form : Form) (words : List Text) (n : ℕ) (reason : Wrong) (slip : Slip) → slip ≡ record { word = Some n; wrong = reason } → 1 ≤ n
+    → n < length words → IsWrongIn form words n reason → IsSlipIn form words slip
+is_in form words n reason slip e behind there h = subst (IsSlipIn form words) (sym e) (behind, there, h)

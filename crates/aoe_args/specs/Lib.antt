@@ -1,7 +1,9 @@
 pub mod Apps
+pub mod Lacks
 pub mod Places
 pub mod Slips
 pub mod Switching
 pub mod Tools
 pub mod Values
+pub mod Walks
 pub mod Words

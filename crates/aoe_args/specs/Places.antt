@@ -1,5 +1,6 @@
 -- To which argument of its command each word goes.
-use Rattle.std.specs.Prelude.{ℕ, zero, suc, ◌==◌, ◌+◌, ◌-◌, ◌&&◌, ◌||◌, Bool, true, false, not, is_some, List, [], ◌∷◌, map, find, get_or, Option, Some, None, if◌then◌else◌, option_and_then, option_map}
+use Rattle.std.specs.Prelude.{ℕ, zero, suc, ◌==◌, ◌+◌, ◌-◌, ◌&&◌, ◌||◌, Bool, true, false, not, is_some, List, [], ◌∷◌, map, count_by, find, get_or, Option, Some, None, if◌then◌else◌, option_and_then, option_map}
+use Rattle.std.specs.List.{list_any}
 use Rattle.std.specs.Option.{option_map_or, option_or}
 use Rattle.std.specs.Str.{bytes_eq}
 use Rattle.clap.specs.Lexer.{long_of}
@@ -47,6 +48,10 @@ option_named arguments name = find (λ a. bytes_eq a.0 name && is_option a.1) ar
 unfoldable pub option_name : Text → Text
 option_name word = option_map_or (λ p. p.0) (long_of word) []
 
+-- an option of this name stands among these words
+abbrev pub is_given : Text → List Text → Bool
+is_given name words = list_any (λ word. bytes_eq (option_name word) name) words
+
 -- the option that the word at this place is; the first word is the command
 abbrev pub option_at : Form → List Text → ℕ → Option Argument
 option_at form words n = if n == 0 || is_value (word_at n words) then None else option_named form.1 (option_name (word_at n words))
@@ -77,6 +82,19 @@ takes_several Allowed = false
 takes_several AllowedSeveral = true
 takes_several Optional = false
 takes_several Flag = false
+
+-- a word has to go to it
+abbrev pub is_needed : Place → Bool
+is_needed Needed = true
+is_needed Several = true
+is_needed Allowed = false
+is_needed AllowedSeveral = false
+is_needed Optional = false
+is_needed Flag = false
+
+-- how many arguments need a word
+abbrev pub needed_count : List Argument → ℕ
+needed_count arguments = count_by (λ a. is_needed a.1) arguments
 
 -- the argument that a word goes to behind so many others that are neither options nor their values
 unfoldable pub argument_behind : List Argument → ℕ → Option Text

@@ -10,30 +10,37 @@
 //! everywhere.
 //!
 //! It opens nothing. Arguments are a command or none; [`slip_of`] says what is wrong with those that
-//! are none.
+//! are none, [`meant`] which option or command may be meant by a word that is none, and [`SlipText`]
+//! is what a program says of both.
 //!
 //! Promised: unless memory is short, `read_words` returns the command that the arguments spell by
 //! `command`, and none exactly where they spell none; with it the files (`file_names`), the links
 //! (`port_words`), the stop file (`stop_name`) and `is_told`. Its numbers are in their ranges
 //! (`IsInRange`). `slip_of` returns none exactly for a command; else the argument that it names is
-//! there, and its reason holds of it (`IsSlip`). Law `plain_words_law` has the four arguments of
-//! `answer`.
+//! there, and its reason holds of it or of all of them (`IsSlip`): an option is the command's or
+//! isn't (`option_at`), a text isn't what the argument that it goes to has to be (`IsUnfit`), what
+//! is missing is missing (`IsLacking`, `follower`, `IsAlone`, `IsUnlinked`), and two options exclude
+//! each other (`AreExclusive`). Law `plain_words_law` has the four arguments of `answer`.
 //!
-//! Only tested: tables of arguments that are a command, and of those that are none, with their
-//! slips (`words` of aoe_program_tests, `tests/check`). Which of several slips is named, and that
-//! no other reason fits better, no clause says; nor is there a grammar beside that of `clap`.
+//! Only tested: tables of arguments that are a command, and of those that are none, with what is
+//! said of them (`words` of aoe_program_tests, `tests/check`). Which of several slips is named, that
+//! arguments which "don't go together" have no better reason, and which name may be meant, no
+//! clause says; nor is there a grammar beside that of `clap`.
 #![tactic(auto)]
 
 mod app;
 mod bounds;
 mod command;
+mod lack;
 mod law;
 mod link;
 mod lists;
+mod nearest;
 mod ports;
 mod read;
 mod slip;
 mod switch;
+mod text;
 mod tools;
 mod values;
 mod word;
@@ -43,5 +50,7 @@ pub use command::{
     Mirror, PortKinds, PortWords, Put, Reserve, Serve, Soak, Stat, Switch, Tool,
 };
 pub use law::plain_words_law;
+pub use nearest::meant;
 pub use read::read_words;
-pub use slip::{Actions, Slip, Wrong, slip_of};
+pub use slip::{Actions, Slip, Wanted, Wrong, is_command, slip_of};
+pub use text::SlipText;

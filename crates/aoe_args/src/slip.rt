@@ -3,8 +3,9 @@ ghost use Rattle.std.specs.Prelude.{◌≡◌, ◌<◌, ◌≤◌, ◌+◌, ◌&
 ghost use Rattle.std.specs.List.{list_all, list_any};
 ghost use Rattle.std.specs.Str.{bytes_eq};
 ghost use Rattle.aoe_args.specs.Apps.{argument as told, form as told_form};
-ghost use Rattle.aoe_args.specs.Places.{argument_at, argument_behind, awaits, form_named, is_flag, is_option, option_named, plain_before, takes_several, word_at};
-ghost use Rattle.aoe_args.specs.Slips.{AreRight, IsFit, IsMisfit, IsRight, IsSlip, IsWrongOfAll, actions_of, is_action, is_command_name, is_given, number_wanted, value_in, wanted};
+ghost use Rattle.aoe_args.specs.Places.{argument_at, argument_behind, awaits, form_named, is_flag, is_given, is_option, option_at, option_named, takes_several, word_at};
+ghost use Rattle.aoe_args.specs.Slips.{AreRight, IsFit, IsMisfit, IsRight, IsSlip, IsSlipIn, IsUnusable, actions_of, is_action, is_command_name, number_wanted, text_in, wanted};
+ghost use Rattle.aoe_args.specs.Walks.{IsWalked};
 ghost use Rattle.aoe_args.specs.Values.{number_within};
 ghost use Rattle.aoe_args.specs.Words.{attached, command, is_value, is_word};
 
@@ -13,11 +14,12 @@ use crate::bounds::{
     CACHE, FRAMES, IDLE, LAST_SECTOR, LAST_SEED, LIFETIME, LIVE_COMMANDS, LIVE_SECTORS,
     MOST_CAPTURED_SECTORS, MOST_GET_SECTORS, MTU, SOAK_COMMANDS, TURNS, VXLAN,
 };
+use crate::lack::{count_slip, lacking, options_wrong};
 use crate::lists::read_dir;
 use crate::ports::{read_port, read_ports};
 use crate::read_words;
 use crate::switch::read_kind;
-use crate::word::{attached, is_value, is_word, option_name};
+use crate::word::{LONGEST_WORD, attached, is_value, option_name};
 use aoe_base::{LAST_MAJOR, LAST_MINOR, NoMemory, read_device, read_mac, read_number};
 use std::alloc::Global;
 use thiserror::Error;
@@ -42,7 +44,35 @@ pub enum Actions {
     Keep,
 }
 
-/// What is wrong with a word, or with all of them.
+/// What the text of an argument has to be, where it may not be any word.
+#[derive(Clone, Copy, Debug, PartialEq, Eq, Error)]
+pub enum Wanted {
+    #[error("a number from {least} to {most}")]
+    Number { least: u64, most: u64 },
+
+    #[error("the address of one station, in lower-case hexadecimal as 02:00:00:00:00:0a")]
+    Port,
+
+    #[error("one to four addresses of single stations joined by commas, none twice")]
+    Ports,
+
+    #[error("access:VID or trunk:VID,VID .., with numbers from 1 to 4094")]
+    SwitchPort,
+
+    #[error("a device, as e1.0")]
+    Device,
+
+    #[error("an address, in lower-case hexadecimal as 02:00:00:00:00:0a")]
+    Address,
+
+    #[error("add=MAC or del=MAC, in lower-case hexadecimal as 02:00:00:00:00:0a")]
+    Directive,
+
+    #[error("one of {0}")]
+    Action(Actions),
+}
+
+/// What is wrong with a word, or with all of them. Arguments have the names that clap has them by.
 #[derive(Clone, Copy, Debug, PartialEq, Eq, Error)]
 pub enum Wrong {
     #[error("not the name of a command")]
@@ -51,9 +81,18 @@ pub enum Wrong {
     #[error("a command is missing")]
     NoCommand,
 
-    /// No command line has this word.
-    #[error("empty, longer than 4096 bytes, only hyphens, or without a value behind its =")]
-    Word,
+    #[error("a word is empty (cfg DEV clear empties a string)")]
+    Empty,
+
+    #[error("longer than 4096 bytes")]
+    Long,
+
+    #[error("only hyphens")]
+    Hyphens,
+
+    /// What stands behind the `=` of an option is empty or begins with a hyphen.
+    #[error("no value behind its =")]
+    NoText,
 
     #[error("not an option of this command")]
     Option,
@@ -70,36 +109,75 @@ pub enum Wrong {
     #[error("one word too many")]
     Further,
 
-    #[error("not a number from {least} to {most}")]
-    Number { least: u64, most: u64 },
+    /// The argument of this name is given another text.
+    #[error("{}: not {}", title(.0), .1)]
+    Unfit(&'static str, Wanted),
 
-    #[error("not the address of one station, in lower-case hexadecimal as 02:00:00:00:00:0a")]
-    Port,
+    /// What is missing behind the last of the words that are no options.
+    #[error("{} is missing", title(.0))]
+    Behind(&'static str),
 
-    #[error("not one to four addresses of single stations joined by commas, none twice")]
-    Ports,
+    /// The last of the words that are no options goes beyond this limit.
+    #[error("one word too many, of {0} at most")]
+    TooMany(&'static str),
 
-    #[error("neither access:VID nor trunk:VID,VID .., with numbers from 1 to 4094")]
-    SwitchPort,
-
-    #[error("not a device, as e1.0")]
-    Device,
-
-    #[error("not an address, in lower-case hexadecimal as 02:00:00:00:00:0a")]
-    Address,
-
-    #[error("neither add=MAC nor del=MAC, in lower-case hexadecimal as 02:00:00:00:00:0a")]
-    Directive,
-
-    #[error("none of {0}")]
-    Action(Actions),
-
-    /// An argument or an option of this name isn't given.
-    #[error("{0} is missing")]
+    /// No word goes to the argument of this name.
+    #[error("{} is missing", title(.0))]
     Missing(&'static str),
+
+    /// Two options of which the command takes one at most.
+    #[error("{} and {} exclude each other", title(.0), title(.1))]
+    Exclusive(&'static str, &'static str),
+
+    /// The first of these options is given, and the second isn't.
+    #[error("{} is missing beside {}", title(.1), title(.0))]
+    Alone(&'static str, &'static str),
+
+    #[error("--local and --peers, or --tap, are missing")]
+    NoLink,
+
+    #[error("--one and --two, or --one-tap and --two-tap, are missing")]
+    NoLinks,
 
     #[error("these words don't go together")]
     Together,
+}
+
+/// An argument's name as the usage has it.
+pub(crate) fn title<'a>(name: &&'a str) -> &'a str {
+    match *name {
+        "shelf" => "SHELF",
+        "slot" => "SLOT",
+        "files" => "FILE",
+        "mark" => "MARK",
+        "keep" => "KEEP",
+        "seed" => "SEED",
+        "sectors" => "SECTORS",
+        "count" => "COUNT",
+        "dev" => "DEV",
+        "action" => "ACTION",
+        "text" => "TEXT",
+        "dirs" | "macs" => "MAC",
+        "at" => "AT",
+        "ports" => "PORT",
+        "port" => "--port",
+        "mtu" => "--mtu",
+        "frames" => "--frames",
+        "idle" => "--idle",
+        "turns" => "--turns",
+        "lifetime" => "--lifetime",
+        "local" => "--local",
+        "peers" => "--peers",
+        "vxlan" => "--vxlan",
+        "tap" => "--tap",
+        "one" => "--one",
+        "two" => "--two",
+        "one-tap" => "--one-tap",
+        "two-tap" => "--two-tap",
+        "cache" => "--cache",
+        "durable" => "--durable",
+        _ => name,
+    }
 }
 
 /// Why words are no command.
@@ -111,8 +189,21 @@ pub struct Slip {
     pub wrong: Wrong,
 }
 
+/// What the words of a command up to a place tell of the next ones.
+#[derive(Clone, Copy)]
+struct Walked {
+    /// How many of them are neither options nor values of options.
+    before: usize,
+
+    /// The option that the next word is the value of.
+    awaited: Option<&'static str>,
+
+    /// The place of the last of those that are neither.
+    last: Option<usize>,
+}
+
 /// A word that is wrong.
-fn at(place: usize, wrong: Wrong) -> Slip
+pub(crate) fn at(place: usize, wrong: Wrong) -> Slip
     ensures { result ≡ record { word = Some place; wrong = wrong } }
 {
     Slip {
@@ -128,9 +219,9 @@ fn of_all(wrong: Wrong) -> Slip
     Slip { word: None, wrong }
 }
 
-/// What is wrong with an argument of this name that is no such number.
+/// What an argument of this name has to be of those that are numbers.
 #[tactic(auto, unfolding(crate::specs::Slips::number_wanted))]
-fn no_number(command: &str, name: &str) -> Option<Wrong>
+fn number_wanted(command: &str, name: &str) -> Option<Wanted>
     ensures { result ≡ number_wanted command.now name.now }
 {
     let (least, most) = match name {
@@ -152,7 +243,7 @@ fn no_number(command: &str, name: &str) -> Option<Wrong>
         "count" => (1, MOST_GET_SECTORS),
         _ => return None,
     };
-    Some(Wrong::Number { least, most })
+    Some(Wanted::Number { least, most })
 }
 
 /// The actions of a command.
@@ -196,20 +287,20 @@ fn is_action(actions: Actions, text: &[u8]) -> bool
     }
 }
 
-/// What is wrong with an argument of this name that isn't what it has to be; `None` where it may be any word.
+/// What an argument of this name has to be; `None` where it may be any word.
 #[tactic(auto, unfolding(crate::specs::Slips::wanted))]
-fn unfit(command: &str, name: &str) -> Option<Wrong>
+fn wanted_by(command: &str, name: &str) -> Option<Wanted>
     ensures { result ≡ wanted command.now name.now }
 {
     match name {
-        "port" => Some(Wrong::Port),
-        "ports" if command == "switch" => Some(Wrong::SwitchPort),
-        "ports" => Some(Wrong::Ports),
-        "dev" => Some(Wrong::Device),
-        "dirs" => Some(Wrong::Directive),
-        "macs" => Some(Wrong::Address),
-        "action" => Some(Wrong::Action(actions_of(command))),
-        _ => no_number(command, name),
+        "port" => Some(Wanted::Port),
+        "ports" if command == "switch" => Some(Wanted::SwitchPort),
+        "ports" => Some(Wanted::Ports),
+        "dev" => Some(Wanted::Device),
+        "dirs" => Some(Wanted::Directive),
+        "macs" => Some(Wanted::Address),
+        "action" => Some(Wanted::Action(actions_of(command))),
+        _ => number_wanted(command, name),
     }
 }
 
@@ -223,32 +314,36 @@ fn is_number(text: &[u8], least: u64, most: u64) -> bool
     }
 }
 
-/// Whether a text is what this says it isn't. What isn't said of a text alone is never so.
+/// Whether a text is what this says it has to be.
 #[tactic(auto, using(crate::proofs::SlipLemmas::is_none, crate::proofs::SlipLemmas::none_of, crate::proofs::SlipLemmas::is_there, crate::proofs::SlipLemmas::there_of))]
-fn fits(wrong: Wrong, text: &[u8]) -> bool
-    ensures misfit { result ≡ false → IsMisfit wrong text.now }
-    ensures fit { result ≡ true → IsMisfit wrong text.now → ⊥ }
+fn fits(wanted: Wanted, text: &[u8]) -> bool
+    ensures misfit { result ≡ false → IsMisfit wanted text.now }
+    ensures fit { result ≡ true → IsMisfit wanted text.now → ⊥ }
 {
-    match wrong {
-        Wrong::Number { least, most } => is_number(text, least, most),
-        Wrong::Port => read_port(text).is_some(),
-        Wrong::Ports => read_ports(text).is_some(),
-        Wrong::SwitchPort => read_kind(text).is_some(),
-        Wrong::Device => read_device(text).is_some(),
-        Wrong::Directive => read_dir(text).is_some(),
-        Wrong::Address => read_mac(text).is_some(),
-        Wrong::Action(actions) => is_action(actions, text),
-        _ => true,
+    match wanted {
+        Wanted::Number { least, most } => is_number(text, least, most),
+        Wanted::Port => read_port(text).is_some(),
+        Wanted::Ports => read_ports(text).is_some(),
+        Wanted::SwitchPort => read_kind(text).is_some(),
+        Wanted::Device => read_device(text).is_some(),
+        Wanted::Directive => read_dir(text).is_some(),
+        Wanted::Address => read_mac(text).is_some(),
+        Wanted::Action(actions) => is_action(actions, text),
     }
 }
 
-/// What is wrong with the text of an argument of this name.
-fn misfit(command: &str, name: &str, text: &[u8]) -> Option<Wrong>
-    ensures misfit { IfSome result (λ wrong. IsMisfit wrong text.now) }
+/// What the text of an argument of this name has to be and isn't.
+fn misfit(command: &str, name: &str, text: &[u8]) -> Option<Wanted>
+    ensures kind { IfSome result (λ kind. wanted command.now name.now ≡ Some kind) }
+    ensures misfit { IfSome result (λ kind. IsMisfit kind text.now) }
     ensures fit { IfNone result (IsFit command.now name.now text.now) }
 {
-    let wrong = unfit(command, name)?;
-    if fits(wrong, text) { None } else { Some(wrong) }
+    let wanted = wanted_by(command, name)?;
+    if fits(wanted, text) {
+        None
+    } else {
+        Some(wanted)
+    }
 }
 
 /// Whether an argument is given as an option.
@@ -280,7 +375,7 @@ fn is_named(argument: Argument, name: &[u8]) -> bool
 }
 
 /// The option of this name, where the form has one.
-fn option_in(form: Form, name: &[u8]) -> Option<Argument>
+pub(crate) fn option_in(form: Form, name: &[u8]) -> Option<Argument>
     ensures { option_map told result ≡ option_named (told_form form.entry).1 name.now }
 {
     'arguments: for argument in form.1 {
@@ -292,7 +387,7 @@ fn option_in(form: Form, name: &[u8]) -> Option<Argument>
 }
 
 /// Whether one of these words is an option of this name.
-fn is_given(words: &[String], name: &str) -> bool
+pub(crate) fn is_given(words: &[String], name: &str) -> bool
     ensures { result ≡ is_given name.now (map string_bytes words.now) }
 {
     'words: for place in 0..words.len() {
@@ -311,43 +406,54 @@ fn word_at(words: &[String], place: usize) -> &[u8]
     words[place].as_bytes()
 }
 
-/// What is wrong with the text that the word at this place gives to an argument of this name.
-#[tactic(auto, using(crate::proofs::SlipLemmas::misfit_is))]
-fn text_slip(command: &str, name: &str, words: &[String], place: usize, text: &[u8]) -> Option<Slip>
+/// What is wrong with the text that the word at this place gives to the argument of this name.
+fn text_slip(
+    form: Form,
+    name: &'static str,
+    words: &[String],
+    place: usize,
+    text: &[u8],
+) -> Option<Slip>
     requires place { (1 ≤ place) × (place < length words.now) }
-    requires text { text.now ≡ value_in (word_at place (map string_bytes words.now)) }
-    ensures slip { IfSome result (IsSlip (map string_bytes words.now)) }
-    ensures none { IfNone result (IsFit command.now name.now text.now) }
+    requires goes { argument_at (told_form form) (map string_bytes words.now) place ≡ Some name.now }
+    requires text { text_in (word_at place (map string_bytes words.now)) ≡ Some text.now }
+    ensures slip { IfSome result (IsSlipIn (told_form form.entry) (map string_bytes words.now)) }
+    ensures none { IfNone result (IsFit (told_form form.entry).0 name.entry.now text.now) }
 {
-    let wrong = misfit(command, name, text)?;
-    Some(at(place, wrong))
+    let wanted = misfit(form.0, name, text)?;
+    Some(at(place, Wrong::Unfit(name, wanted)))
 }
 
-/// What is wrong with an option without a value, the one at this place.
-fn flag_slip(words: &[String], place: usize) -> Option<Slip>
+/// What is wrong with the option without a value at this place.
+fn flag_slip(form: Form, option: Argument, words: &[String], place: usize) -> Option<Slip>
     requires place { (1 ≤ place) × (place < length words.now) }
-    ensures slip { IfSome result (IsSlip (map string_bytes words.now)) }
+    requires option { option_at (told_form form) (map string_bytes words.now) place ≡ Some (told option) }
+    requires flag { is_flag (told option).1 ≡ true }
+    ensures slip { IfSome result (IsSlipIn (told_form form.entry) (map string_bytes words.now)) }
     ensures none { IfNone result (attached (word_at place (map string_bytes words.now)) ≡ None) }
 {
     attached(word_at(words, place))?;
     Some(at(place, Wrong::Flag))
 }
 
-/// What is wrong with the value of the option at this place, which is of this name, as far as it
-/// stands in this word; or whether the next word is its value.
-fn value_slip(command: &str, name: &str, words: &[String], place: usize) -> Result<bool, Slip>
+/// What is wrong with the value of the option at this place, as far as it stands in this word; or
+/// whether the next word is its value.
+fn value_slip(form: Form, option: Argument, words: &[String], place: usize) -> Result<bool, Slip>
     requires place { (1 ≤ place) × (place < length words.now) }
-    requires option { is_value (word_at place (map string_bytes words.now)) ≡ false }
-    ensures slip { IfErr result (IsSlip (map string_bytes words.now)) }
+    requires dash { is_value (word_at place (map string_bytes words.now)) ≡ false }
+    requires option { option_at (told_form form) (map string_bytes words.now) place ≡ Some (told option) }
+    requires valued { is_flag (told option).1 ≡ false }
+    ensures slip { IfErr result (IsSlipIn (told_form form.entry) (map string_bytes words.now)) }
     ensures attached { IfOk result (λ next. next ≡ false → IsSomeAnd
-        (attached (word_at place (map string_bytes words.now))) (IsFit command.now name.now)) }
+        (attached (word_at place (map string_bytes words.now)))
+        (IsFit (told_form form.entry).0 (told option.entry).0)) }
     ensures next { IfOk result (λ next. next ≡ true →
         (attached (word_at place (map string_bytes words.now)) ≡ None)
         × (place + 1 < length words.now)
         × (is_value (word_at (place + 1) (map string_bytes words.now)) ≡ true)) }
 {
     if let Some(value) = attached(word_at(words, place)) {
-        return match text_slip(command, name, words, place, value) {
+        return match text_slip(form, option.0, words, place, value) {
             Some(slip) => Err(slip),
             None => Ok(false),
         };
@@ -358,38 +464,57 @@ fn value_slip(command: &str, name: &str, words: &[String], place: usize) -> Resu
     Err(at(place, Wrong::NoValue))
 }
 
-/// What is wrong with the option at this place, or its name where the next word is its value.
+/// What is wrong with this option of the command, which is the word at this place, or its name
+/// where the next word is its value.
 #[tactic(auto, unfolding(crate::specs::Places::awaits))]
-fn option_slip(form: Form, words: &[String], place: usize) -> Result<Option<&'static str>, Slip>
+fn known_slip(
+    form: Form,
+    option: Argument,
+    words: &[String],
+    place: usize,
+) -> Result<Option<&'static str>, Slip>
     requires place { (1 ≤ place) × (place < length words.now) }
-    requires option { is_value (word_at place (map string_bytes words.now)) ≡ false }
-    ensures slip { IfErr result (IsSlip (map string_bytes words.now)) }
+    requires dash { is_value (word_at place (map string_bytes words.now)) ≡ false }
+    requires option { option_at (told_form form) (map string_bytes words.now) place ≡ Some (told option) }
+    ensures slip { IfErr result (IsSlipIn (told_form form.entry) (map string_bytes words.now)) }
     ensures next { IfOk result (λ next. option_map (λ name. name.now) next
         ≡ awaits (told_form form.entry) (map string_bytes words.now) (place + 1)) }
     ensures right { IfOk result (λ next. IsRight (told_form form.entry) (map string_bytes words.now) place) }
 {
-    let Some((name, kind)) = option_in(form, option_name(word_at(words, place))) else {
-        return Err(at(place, Wrong::Option));
-    };
-    if is_given(&words[..place], name) {
+    if is_given(&words[..place], option.0) {
         return Err(at(place, Wrong::Twice));
     }
-    if is_flag(kind) {
-        return match flag_slip(words, place) {
+    if is_flag(option.1) {
+        return match flag_slip(form, option, words, place) {
             Some(slip) => Err(slip),
             None => Ok(None),
         };
     }
-    if value_slip(form.0, name, words, place)? {
-        Ok(Some(name))
+    if value_slip(form, option, words, place)? {
+        Ok(Some(option.0))
     } else {
         Ok(None)
     }
 }
 
+/// What is wrong with the option at this place, or its name where the next word is its value.
+fn option_slip(form: Form, words: &[String], place: usize) -> Result<Option<&'static str>, Slip>
+    requires place { (1 ≤ place) × (place < length words.now) }
+    requires dash { is_value (word_at place (map string_bytes words.now)) ≡ false }
+    ensures slip { IfErr result (IsSlipIn (told_form form.entry) (map string_bytes words.now)) }
+    ensures next { IfOk result (λ next. option_map (λ name. name.now) next
+        ≡ awaits (told_form form.entry) (map string_bytes words.now) (place + 1)) }
+    ensures right { IfOk result (λ next. IsRight (told_form form.entry) (map string_bytes words.now) place) }
+{
+    match option_in(form, option_name(word_at(words, place))) {
+        Some(option) => known_slip(form, option, words, place),
+        None => Err(at(place, Wrong::Option)),
+    }
+}
+
 /// The name of the argument of a form that a word goes to which stands behind so many others that
 /// are no options.
-fn argument(form: Form, before: usize) -> Option<&'static str>
+pub(crate) fn argument(form: Form, before: usize) -> Option<&'static str>
     ensures { option_map (λ name. name.now) result ≡ argument_behind (told_form form.entry).1 before }
 {
     let mut left = before;
@@ -407,131 +532,93 @@ fn argument(form: Form, before: usize) -> Option<&'static str>
 
 /// What is wrong with the word at this place, which is no option and goes to the argument of this
 /// name, if to any.
-fn word_slip(form: Form, words: &[String], place: usize, name: Option<&str>) -> Option<Slip>
+fn word_slip(
+    form: Form,
+    words: &[String],
+    place: usize,
+    name: Option<&'static str>,
+) -> Option<Slip>
     requires place { (1 ≤ place) × (place < length words.now) }
     requires word { is_value (word_at place (map string_bytes words.now)) ≡ true }
     requires name { option_map (λ name. name.now) name
         ≡ argument_at (told_form form) (map string_bytes words.now) place }
-    ensures slip { IfSome result (IsSlip (map string_bytes words.now)) }
+    ensures slip { IfSome result (IsSlipIn (told_form form.entry) (map string_bytes words.now)) }
     ensures none { IfNone result (IsRight (told_form form.entry) (map string_bytes words.now) place) }
 {
     match name {
-        Some(name) => text_slip(form.0, name, words, place, word_at(words, place)),
+        Some(name) => text_slip(form, name, words, place, word_at(words, place)),
         None => Some(at(place, Wrong::Further)),
     }
 }
 
-/// How many words stand before the next place that are neither options nor values of them, and the
-/// option that the next word is the value of; or what is wrong with the word at this place.
-fn step(
-    form: Form,
-    words: &[String],
-    place: usize,
-    before: usize,
-    awaited: Option<&'static str>,
-) -> Result<(usize, Option<&'static str>), Slip>
+/// What the words up to the one behind this place tell; or what is wrong with the word at this place.
+fn step(form: Form, words: &[String], place: usize, walked: Walked) -> Result<Walked, Slip>
     requires place { (1 ≤ place) × (place < length words.now) }
-    requires few { before ≤ place }
-    requires before { before ≡ plain_before (told_form form) (map string_bytes words.now) place }
-    requires awaited { option_map (λ name. name.now) awaited
-        ≡ awaits (told_form form) (map string_bytes words.now) place }
-    ensures slip { IfErr result (IsSlip (map string_bytes words.now)) }
-    ensures few { IfOk result (λ r. r.0 ≤ place + 1) }
-    ensures before { IfOk result (λ r. r.0
-        ≡ plain_before (told_form form.entry) (map string_bytes words.now) (place + 1)) }
-    ensures awaited { IfOk result (λ r. option_map (λ name. name.now) r.1
-        ≡ awaits (told_form form.entry) (map string_bytes words.now) (place + 1)) }
+    requires walked { IsWalked (told_form form) (map string_bytes words.now) place walked }
+    ensures slip { IfErr result (IsSlipIn (told_form form.entry) (map string_bytes words.now)) }
+    ensures walked { IfOk result (IsWalked (told_form form.entry) (map string_bytes words.now) (place + 1)) }
     ensures right { IfOk result (λ r. IsRight (told_form form.entry) (map string_bytes words.now) place) }
 {
     if !is_value(word_at(words, place)) {
-        return Ok((before, option_slip(form, words, place)?));
+        let awaited = option_slip(form, words, place)?;
+        return Ok(Walked { awaited, ..walked });
     }
-    if let Some(name) = awaited {
+    if let Some(name) = walked.awaited {
         return match word_slip(form, words, place, Some(name)) {
             Some(slip) => Err(slip),
-            None => Ok((before, None)),
+            None => Ok(Walked {
+                awaited: None,
+                ..walked
+            }),
         };
     }
-    match word_slip(form, words, place, argument(form, before)) {
+    match word_slip(form, words, place, argument(form, walked.before)) {
         Some(slip) => Err(slip),
-        None => Ok((before + 1, None)),
+        None => Ok(Walked {
+            before: walked.before + 1,
+            awaited: None,
+            last: Some(place),
+        }),
     }
 }
 
-/// How many words behind the command are no options nor values of them, or the first of them that is wrong.
-fn walk(form: Form, words: &[String]) -> Result<usize, Slip>
-    ensures slip { IfErr result (IsSlip (map string_bytes words.now)) }
-    ensures right { IfOk result (λ before. AreRight (told_form form.entry) (map string_bytes words.now)) }
+/// What the words behind the command tell, or the first of them that is wrong.
+fn walk(form: Form, words: &[String]) -> Result<Walked, Slip>
+    requires { 1 ≤ length words.now }
+    ensures slip { IfErr result (IsSlipIn (told_form form.entry) (map string_bytes words.now)) }
+    ensures walked { IfOk result
+        (IsWalked (told_form form.entry) (map string_bytes words.now) (length words.now)) }
+    ensures right { IfOk result (λ walked. AreRight (told_form form.entry) (map string_bytes words.now)) }
 {
-    let mut before = 0;
-    let mut awaited = None;
+    let mut walked = Walked {
+        before: 0,
+        awaited: None,
+        last: None,
+    };
     'words: for place in 1..words.len() {
-        (before, awaited) = step(form, words, place, before, awaited)?;
+        walked = step(form, words, place, walked)?;
     }
-    Ok(before)
+    Ok(walked)
 }
 
-/// An argument's name as the usage has it.
-fn title(name: &'static str) -> &'static str {
-    match name {
-        "shelf" => "SHELF",
-        "slot" => "SLOT",
-        "files" => "FILE",
-        "seed" => "SEED",
-        "sectors" => "SECTORS",
-        "count" => "COUNT",
-        "ports" => "PORT",
-        "keep" => "KEEP",
-        "dev" => "DEV",
-        "action" => "what to do",
-        "at" => "AT",
-        _ => name,
-    }
-}
-
-/// Which end of its link a form lacks.
-fn lacking_end(form: Form, words: &[String]) -> Option<&'static str> {
-    if option_in(form, b"local").is_some() && !is_given(words, "tap") {
-        if !is_given(words, "local") {
-            return Some("--local");
-        }
-        if !is_given(words, "peers") {
-            return Some("--peers");
-        }
-    }
-    if option_in(form, b"one").is_some() && !is_given(words, "one-tap") {
-        if !is_given(words, "one") {
-            return Some("--one");
-        }
-        if !is_given(words, "two") {
-            return Some("--two");
-        }
-    }
-    None
-}
-
-/// What is wrong with words each of which is good, of which so many are no options.
-fn lack(form: Form, words: &[String], before: usize) -> Wrong
+/// What is wrong with words each of which is good.
+fn lack(form: Form, words: &[String], walked: Walked) -> Slip
     requires words { list_all is_word (map string_bytes words.now) ≡ true }
     requires name { is_command_name (word_at 0 (map string_bytes words.now)) ≡ true }
     requires form { form_named (word_at 0 (map string_bytes words.now)) ≡ Some (told_form form) }
     requires right { AreRight (told_form form) (map string_bytes words.now) }
-    ensures { IsWrongOfAll (map string_bytes words.now) result }
+    requires walked { IsWalked (told_form form) (map string_bytes words.now) (length words.now) walked }
+    ensures { IsSlip (map string_bytes words.now) result }
 {
-    let needed = form
-        .1
-        .iter()
-        .filter(|(_, place)| matches!(place, Place::Needed | Place::Several))
-        .count();
-    if before < needed
-        && let Some(name) = argument(form, before)
+    if let Some(name) = lacking(form, walked.before) {
+        return of_all(Wrong::Missing(name));
+    }
+    if let Some(place) = walked.last
+        && let Some(slip) = count_slip(form, words, place, walked.before)
     {
-        return Wrong::Missing(title(name));
+        return slip;
     }
-    match lacking_end(form, words) {
-        Some(option) => Wrong::Missing(option),
-        None => Wrong::Together,
-    }
+    of_all(options_wrong(form, words))
 }
 
 /// The form of this name among these.
@@ -550,22 +637,48 @@ fn form_in(forms: &[Form], name: &str) -> Option<Form>
 
 /// The form of the command of this name.
 #[tactic(auto, unfolding(crate::specs::Places::forms))]
-fn form_of(name: &str) -> Option<Form>
+pub(crate) fn form_of(name: &str) -> Option<Form>
     ensures there { is_some result ≡ is_command_name name.now }
     ensures form { option_map told_form result ≡ form_named name.now }
 {
     form_in(&FORMS, name)
 }
 
+/// Whether a command has this name.
+pub fn is_command(name: &str) -> bool
+    ensures { result ≡ is_command_name name.now }
+{
+    form_of(name).is_some()
+}
+
+/// Why a word can stand on no command line, or `None` where it can.
+fn unusable(word: &[u8]) -> Option<Wrong>
+    ensures unusable { IfSome result (λ wrong. IsUnusable wrong word.now) }
+    ensures word { IfNone result (is_word word.now ≡ true) }
+{
+    if word.is_empty() {
+        return Some(Wrong::Empty);
+    }
+    if word.len() > LONGEST_WORD {
+        return Some(Wrong::Long);
+    }
+    if word == b"-".as_slice() || word == b"--".as_slice() {
+        return Some(Wrong::Hyphens);
+    }
+    match attached(word) {
+        Some(value) if !is_value(value) => Some(Wrong::NoText),
+        _ => None,
+    }
+}
+
 /// The first word that can stand on no command line.
-fn first_bad(words: &[String]) -> Option<usize>
-    ensures bad { IfSome result (λ n. (n < length words.now)
-        × (is_word (word_at n (map string_bytes words.now)) ≡ false)) }
+fn first_unusable(words: &[String]) -> Option<Slip>
+    ensures unusable { IfSome result (IsSlip (map string_bytes words.now)) }
     ensures good { IfNone result (list_all is_word (map string_bytes words.now) ≡ true) }
 {
     'words: for place in 0..words.len() {
-        if !is_word(word_at(words, place)) {
-            return Some(place);
+        if let Some(wrong) = unusable(word_at(words, place)) {
+            return Some(at(place, wrong));
         }
     }
     None
@@ -575,8 +688,8 @@ fn first_bad(words: &[String]) -> Option<usize>
 fn first_slip(words: &[String]) -> Slip
     ensures { IsSlip (map string_bytes words.now) result }
 {
-    if let Some(place) = first_bad(words) {
-        return at(place, Wrong::Word);
+    if let Some(slip) = first_unusable(words) {
+        return slip;
     }
     let Some(name) = words.first() else {
         return of_all(Wrong::NoCommand);
@@ -585,7 +698,7 @@ fn first_slip(words: &[String]) -> Slip
         return at(0, Wrong::Command);
     };
     match walk(form, words) {
-        Ok(before) => of_all(lack(form, words, before)),
+        Ok(walked) => lack(form, words, walked),
         Err(slip) => slip,
     }
 }

@@ -87,7 +87,7 @@ fn ccmd_alone(action: &str) -> Option<u8>
 }
 
 /// The field CCmd of an action of `cfg` that has a text.
-fn ccmd_with_text(action: &str) -> Option<u8>
+pub(crate) fn ccmd_with_text(action: &str) -> Option<u8>
     ensures value { result ≡ ccmd_with_text action.now }
     ensures range { IfSome result (λ ccmd. ccmd ≤ 4) }
 {
@@ -153,7 +153,7 @@ fn rcmd_alone(action: &str) -> Option<u8>
 }
 
 /// The field RCmd of an action of `reserve` that has addresses.
-fn rcmd_with_list(action: &str) -> Option<u8>
+pub(crate) fn rcmd_with_list(action: &str) -> Option<u8>
     ensures value { result ≡ rcmd_with_list action.now }
     ensures range { IfSome result (λ rcmd. rcmd ≤ 2) }
 {

@@ -5,7 +5,7 @@ ghost use Rattle.aoe_args.specs.Places.{option_name};
 ghost use Rattle.aoe_args.specs.Words.{attached, is_value, is_word};
 
 /// The greatest length of a word, in bytes.
-const LONGEST_WORD: usize = 4096;
+pub(crate) const LONGEST_WORD: usize = 4096;
 
 /// Whether a text can be the value of an option: it is nonempty and doesn't begin with a hyphen.
 pub(crate) fn is_value(text: &[u8]) -> bool

@@ -111,7 +111,22 @@ fn refusal_of(
 fn reads_addresses(rt: HostRuntime) {
     let cases = [
         ("127.0.0.1:0", "127.0.0.1:7000", None),
-        ("127.0.0.1:0", "127.0.0.1:7000,[::1]:7001", None),
+        ("127.0.0.1:0", "127.0.0.1:7000,127.0.0.1:7001", None),
+        (
+            "127.0.0.1:0",
+            "127.0.0.1:7000,[::1]:7001",
+            Some(OpenRefusal::Families),
+        ),
+        (
+            "[::1]:0",
+            "127.0.0.1:7000",
+            Some(OpenRefusal::Families),
+        ),
+        (
+            "127.0.0.1:0",
+            "127.0.0.1:7000,127.0.0.1:7001,127.0.0.1:7000",
+            Some(OpenRefusal::Repeated),
+        ),
         ("127.0.0.1:0", "127.0.0.1:7000,", Some(OpenRefusal::Peers)),
         ("127.0.0.1:0", "127.0.0.1", Some(OpenRefusal::Peers)),
         ("x", "127.0.0.1:7000", Some(OpenRefusal::Local)),
@@ -160,6 +175,8 @@ fn says_why_a_link_is_not_open(rt: HostRuntime) -> Result<(), Fail> {
         (OpenRefusal::Local, "no local address"),
         (OpenRefusal::Unbound(Some(98)), "no local socket"),
         (OpenRefusal::Vxlan, "no number of a network"),
+        (OpenRefusal::Repeated, "a peer is named twice"),
+        (OpenRefusal::Families, "ends of two families"),
     ];
     for (refusal, told) in &cases {
         let text = format!(in rt.alloc(); "{refusal}")?;

@@ -4,7 +4,7 @@ mod slips;
 
 use aoe_args::{
     Answer, Asking, Audit, Cfg, Command, CommandLine, Discover, Flush, Get, Live, Mask, PortKinds,
-    PortWords, Put, Reserve, Serve, Soak, Stat, Switch, Tool, read_words, slip_of,
+    PortWords, Put, Reserve, Serve, SlipText, Soak, Stat, Switch, Tool, meant, read_words, slip_of,
 };
 use aoe_base::{Blob, Mac, NoMemory, Ports, TargetId};
 use aoe_lists::Dir;

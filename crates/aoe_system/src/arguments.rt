@@ -57,12 +57,30 @@ fn add_ends(rt: &HostRuntime, words: &mut Vec<String>) -> io::Result<()> {
     Ok(())
 }
 
-/// The words.
-pub fn words(rt: &HostRuntime) -> io::Result<Vec<String>> {
+/// The arguments alone.
+fn arguments(rt: &HostRuntime) -> io::Result<Vec<String>> {
     let mut words = Vec::new(rt.alloc());
     for word in env::args(rt)?.skip(1) {
         words.push(word)?;
     }
+    Ok(words)
+}
+
+/// The words.
+pub fn words(rt: &HostRuntime) -> io::Result<Vec<String>> {
+    let mut words = arguments(rt)?;
     add_ends(rt, &mut words)?;
     Ok(words)
+}
+
+/// The variable of the environment that gives this end of a link, `--local` or `--peers`, where no
+/// argument does.
+pub fn variable_of(rt: &HostRuntime, option: &str) -> Option<&'static str> {
+    let words = arguments(rt).ok()?;
+    let name = words.first()?;
+    if !has_link(name.as_str()) || gives(words.as_slice(), option) {
+        return None;
+    }
+    let (_, variable) = ENDS.iter().find(|(end, _)| *end == option)?;
+    Some(*variable)
 }

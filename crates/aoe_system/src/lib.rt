@@ -24,7 +24,7 @@ mod streams;
 mod until;
 mod wire;
 
-pub use arguments::words;
+pub use arguments::{variable_of, words};
 pub use clock::SystemClock;
 pub use files::{FileDisk, FileRefusal, KeepDoubt};
 pub use flow::{Flow, input_sectors};

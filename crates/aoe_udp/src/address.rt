@@ -1,7 +1,8 @@
 //! The texts of addresses.
-ghost use Rattle.std.specs.Prelude.{◌≡◌, ◌==◌, ◌+◌, ◌⊎◌, true, None, Err, OnErr, OnOk, OnSome, IfOk, length};
+ghost use Rattle.std.specs.Prelude.{◌≡◌, ◌==◌, ◌⊎◌, ◌++◌, ◌∷◌, [], false, true, None, Some, Err, OnErr, OnOk, OnSome, IfOk, IfSome, length};
 ghost use Rattle.std.specs.List.{slice_split};
-ghost use Rattle.aoe_udp.specs.Addresses.{ArePeers, IsAddress};
+ghost use Rattle.std.specs.Net.Grammar.{IsSocketText};
+ghost use Rattle.aoe_udp.specs.Addresses.{ArePeers, AreRead, IsAddress, all_different, are_of_family};
 
 use crate::errors::OpenRefusal;
 use std::alloc::Global;
@@ -9,6 +10,7 @@ use std::net::SocketAddr;
 
 /// The address that a text `address:port` spells, with an IPv6 address in brackets.
 pub(crate) fn read_address(text: &[u8]) -> Option<SocketAddr>
+    ensures read { IfSome result (IsSocketText text.now) }
     ensures spelled { OnSome result (IsAddress text.now) }
     ensures refused { result ≡ None → ¬ IsAddress text.now }
 {
@@ -18,7 +20,7 @@ pub(crate) fn read_address(text: &[u8]) -> Option<SocketAddr>
 /// Appends an address where there was room for all before, and says whether there is room for it too.
 fn keep(addresses: &mut Vec<SocketAddr>, address: SocketAddr, has_room: bool) -> bool
     ensures { result ≡ true → (has_room ≡ true)
-        × (length addresses.new.items ≡ length addresses.old.items + 1) }
+        × (addresses.new.items ≡ addresses.old.items ++ address ∷ []) }
 {
     has_room && addresses.push(address).is_ok()
 }
@@ -28,6 +30,8 @@ fn keep(addresses: &mut Vec<SocketAddr>, address: SocketAddr, has_room: bool) ->
 #[tactic(auto, using(crate::proofs::AddressLemmas::none_read))]
 pub(crate) fn read_peers(alloc: Global, text: &[u8]) -> Result<Vec<SocketAddr>, OpenRefusal>
     ensures spelled { OnOk result (ArePeers text.now) }
+    ensures read { IfOk result
+        (λ peers. AreRead (slice_split (λ c. c == 44) text.now) peers.items) }
     ensures each { IfOk result (λ peers. length peers.items
         ≡ length (slice_split (λ c. c == 44) text.now)) }
     ensures refused { result ≡ Err OpenRefusal.Peers → ¬ ArePeers text.now }
@@ -48,4 +52,41 @@ pub(crate) fn read_peers(alloc: Global, text: &[u8]) -> Result<Vec<SocketAddr>, 
     } else {
         Err(OpenRefusal::NoMemory)
     }
+}
+
+/// Whether no address stands twice.
+fn all_different(addresses: &[SocketAddr]) -> bool
+    ensures { result ≡ all_different addresses.now }
+{
+    match addresses {
+        [first, rest @ ..] => !rest.contains(first) && all_different(rest),
+        [] => true,
+    }
+}
+
+/// Whether all these addresses are of the family of this one.
+fn are_of_family(local: SocketAddr, peers: &[SocketAddr]) -> bool
+    ensures { result ≡ are_of_family local peers.now }
+{
+    peers
+        .iter()
+        .all(|peer| peer.is_ipv4() == local.is_ipv4())
+}
+
+/// Why these are no ends of a link, if they aren't: a peer is named twice, or one is of another family.
+pub(crate) fn ends_refusal(local: SocketAddr, peers: &[SocketAddr]) -> Option<OpenRefusal>
+    ensures repeated { result ≡ Some OpenRefusal.Repeated → all_different peers.now ≡ false }
+    ensures families { result ≡ Some OpenRefusal.Families → are_of_family local peers.now ≡ false }
+    ensures good { result ≡ None
+        → (all_different peers.now ≡ true) × (are_of_family local peers.now ≡ true) }
+    ensures kinds { IfSome result
+        (λ r. (r ≡ OpenRefusal.Repeated) ⊎ (r ≡ OpenRefusal.Families)) }
+{
+    if !all_different(peers) {
+        return Some(OpenRefusal::Repeated);
+    }
+    if !are_of_family(local, peers) {
+        return Some(OpenRefusal::Families);
+    }
+    None
 }

@@ -81,6 +81,14 @@ pub enum OpenRefusal {
     #[error("no local socket")]
     Unbound(Option<i32>),
 
+    /// An address of a peer stands twice.
+    #[error("a peer is named twice")]
+    Repeated,
+
+    /// The local address is of IPv4 and one of a peer of IPv6, or the other way round.
+    #[error("ends of two families")]
+    Families,
+
     /// The number of the network has more than 24 bits.
     #[error("no number of a network")]
     Vxlan,

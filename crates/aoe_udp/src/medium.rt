@@ -1,11 +1,12 @@
 //! A UDP socket as a medium. It tells nothing of what it gives and takes.
-ghost use Rattle.std.specs.Prelude.{◌≡◌, ◌==◌, ◌≤◌, ◌<◌, ℤ, Option, None, Some, Err, true, false, IfOk, IfSome, OnOk, length};
+ghost use Rattle.std.specs.Prelude.{◌≡◌, ◌==◌, ◌≤◌, ◌<◌, ℤ, Option, List, None, Some, Err, true, false, IfOk, IfSome, OnOk, length};
 ghost use Rattle.std.proofs.Props.{props};
 ghost use Rattle.std.specs.List.{slice_split};
-ghost use Rattle.aoe_udp.specs.Addresses.{ArePeers, IsAddress};
+ghost use Rattle.std.specs.declared.net.socket_addr.SocketAddr.{SocketAddr};
+ghost use Rattle.aoe_udp.specs.Addresses.{AreEnds, ArePeers, IsAddress, all_different, are_of_family};
 ghost use Rattle.aoe_udp.specs.Vxlan.{frame_of};
 
-use crate::address::{read_address, read_peers};
+use crate::address::{ends_refusal, read_address, read_peers};
 use crate::errors::{OpenRefusal, Trouble, given_of, refusal, trouble_of};
 use crate::vxlan::{HEAD_LEN, LAST_VNI, frame_of, wrap};
 use aoe_base::NoMemory;
@@ -74,7 +75,8 @@ fn bind(rt: &HostRuntime, local: SocketAddr) -> io::Result<UdpSocket> {
 impl UdpMedium {
     /// Binds the local address and sends to the peers: texts `address:port`, those of the peers
     /// joined by commas. The texts of the peers are read first, once the number of the network
-    /// is one. With that number frames stand behind the header of VXLAN.
+    /// is one. With that number frames stand behind the header of VXLAN. All addresses are of one
+    /// family, and no peer is named twice.
     pub fn open(
         rt: &HostRuntime,
         alloc: Global,
@@ -86,10 +88,18 @@ impl UdpMedium {
         ensures peers { OnOk result (ArePeers peers.now) }
         ensures each { IfOk result (λ medium. length medium.peers.items
             ≡ length (slice_split (λ c. c == 44) peers.now)) }
+        ensures ends { IfOk result (λ medium. (address : SocketAddr)
+            × AreEnds local.now peers.now address medium.peers.items
+            × (all_different medium.peers.items ≡ true)
+            × (are_of_family address medium.peers.items ≡ true)) }
         ensures vxlan { IfOk result (λ medium. medium.vxlan ≡ vxlan) }
         ensures bad_vxlan { result ≡ Err OpenRefusal.Vxlan → IfSome vxlan (λ vni. 16777215 < vni) }
         ensures bad_local { result ≡ Err OpenRefusal.Local
             → ArePeers peers.now × ¬ IsAddress local.now }
+        ensures repeated { result ≡ Err OpenRefusal.Repeated → (address : SocketAddr) × (addresses : List SocketAddr)
+            × AreEnds local.now peers.now address addresses × (all_different addresses ≡ false) }
+        ensures families { result ≡ Err OpenRefusal.Families → (address : SocketAddr) × (addresses : List SocketAddr)
+            × AreEnds local.now peers.now address addresses × (are_of_family address addresses ≡ false) }
         ensures unbound { (code : Option ℤ) → result ≡ Err (OpenRefusal.Unbound code)
             → ArePeers peers.now × IsAddress local.now }
         ensures bad_peers { result ≡ Err OpenRefusal.Peers → ¬ ArePeers peers.now }
@@ -102,6 +112,9 @@ impl UdpMedium {
         let Some(local) = read_address(local) else {
             return Err(OpenRefusal::Local);
         };
+        if let Some(refusal) = ends_refusal(local, peers.as_slice()) {
+            return Err(refusal);
+        }
         let socket = match bind(rt, local) {
             Ok(socket) => socket,
             Err(error) => return Err(refusal(&error)),

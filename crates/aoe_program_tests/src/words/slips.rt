@@ -2,23 +2,16 @@
 
 use super::*;
 
-/// What is wrong with a line: the word, or what stands for all of them, and why.
+/// What is said of a line.
 fn slip(alloc: Global, line: &str) -> Result<String, Fail> {
     let words = words_of(alloc, line)?;
-    let Some(slip) = slip_of(alloc, words.as_slice())? else {
+    let words = words.as_slice();
+    let Some(slip) = slip_of(alloc, words)? else {
         return Ok(String::from_str(alloc, "a command")?);
     };
-    let wrong = slip.wrong;
-    Ok(match slip.word {
-        Some(place) => {
-            let word = match words.get(place) {
-                Some(word) => word.as_str(),
-                None => "beyond",
-            };
-            format!(in alloc; "{word}: {wrong}")?
-        }
-        None => format!(in alloc; "{wrong}")?,
-    })
+    let meant = meant(alloc, words, slip)?;
+    let said = SlipText { slip, words, meant };
+    Ok(format!(in alloc; "{said}")?)
 }
 
 /// Of each line is said what stands beside it.
@@ -46,11 +39,19 @@ fn says_which_words_are_missing(rt: HostRuntime) -> Result<(), Fail> {
         ("answer", "SHELF is missing"),
         ("answer 1", "SLOT is missing"),
         ("answer 1 0", "FILE is missing"),
-        ("answer 1 0 disk", "these words don't go together"),
+        ("answer 1 0 disk", "KEEP is missing behind disk"),
         ("audit 1 0", "SECTORS is missing"),
         ("audit 1 0 16", "KEEP is missing"),
         ("keep", "KEEP is missing"),
-        ("cfg e1.0 --tap t", "what to do is missing"),
+        ("serve 1 d0 k0 d1 --tap t", "KEEP is missing behind d1"),
+        ("mirror 1 0 one", "FILE is missing behind one"),
+        ("mirror 1 0 one two", "MARK is missing behind two"),
+        ("mirror 1 0 one two mark", "KEEP is missing behind mark"),
+        ("switch access:10", "PORT is missing behind access:10"),
+        ("cfg e1.0 set --tap t", "TEXT is missing behind set"),
+        ("mask e1.0 edit --tap t", "MAC is missing behind edit"),
+        ("reserve --tap t e1.0 force", "MAC is missing behind force"),
+        ("cfg e1.0 --tap t", "ACTION is missing"),
     ];
     says(&rt, rt.alloc(), &cases)
 }
@@ -58,9 +59,14 @@ fn says_which_words_are_missing(rt: HostRuntime) -> Result<(), Fail> {
 #[test]
 fn says_which_words_are_too_many(rt: HostRuntime) -> Result<(), Fail> {
     let cases = [
+        ("srve", "srve: not the name of a command: did you mean serve?"),
         ("help", "help: not the name of a command"),
         ("replay script", "script: one word too many"),
         ("audit 1 0 16 keep file", "file: one word too many"),
+        (
+            "answer 1 0 disk keep file",
+            "file: one word too many, of SHELF SLOT FILE KEEP at most",
+        ),
         (
             "answer 1 0 disk keep --mtu 1500 --mtu=1500",
             "--mtu=1500: given twice",
@@ -83,7 +89,7 @@ fn says_what_is_wrong_with_options(rt: HostRuntime) -> Result<(), Fail> {
         ),
         (
             "answer 1 0 disk keep --ports",
-            "--ports: not an option of this command",
+            "--ports: not an option of this command: did you mean --port?",
         ),
         (
             "answer 1 0 disk keep -m",
@@ -91,11 +97,11 @@ fn says_what_is_wrong_with_options(rt: HostRuntime) -> Result<(), Fail> {
         ),
         (
             "audit 1 0 16 keep --port 02:00:00:00:00:01",
-            "--port: not an option of this command",
+            "--port: not an option of this command: did you mean --ports?",
         ),
         (
             "answer 1 0 disk --port=",
-            "--port=: empty, longer than 4096 bytes, only hyphens, or without a value behind its =",
+            "--port=: no value behind its =",
         ),
         (
             "get e1.0 0 1 --tap t --verify",
@@ -139,36 +145,36 @@ fn says_what_is_wrong_with_numbers(rt: HostRuntime) -> Result<(), Fail> {
     let cases = [
         (
             "answer 65535 0 disk keep",
-            "65535: not a number from 0 to 65534",
+            "SHELF: 65535 isn't a number from 0 to 65534",
         ),
         (
             "answer 1 0 disk keep --mtu=9001",
-            "--mtu=9001: not a number from 1500 to 9000",
+            "--mtu: 9001 isn't a number from 1500 to 9000",
         ),
         (
             "answer 1 0 disk keep --mtu 9001",
-            "9001: not a number from 1500 to 9000",
+            "--mtu: 9001 isn't a number from 1500 to 9000",
         ),
         (
             "get e1.0 0 281474976710657 --tap t",
-            "281474976710657: not a number from 1 to 281474976710656",
+            "COUNT: 281474976710657 isn't a number from 1 to 281474976710656",
         ),
         (
             "get e1.0 0 0 --tap t",
-            "0: not a number from 1 to 281474976710656",
+            "COUNT: 0 isn't a number from 1 to 281474976710656",
         ),
         (
             "audit 1 0 1099511627777 keep",
-            "1099511627777: not a number from 0 to 1099511627776",
+            "SECTORS: 1099511627777 isn't a number from 0 to 1099511627776",
         ),
-        ("live 0 1", "0: not a number from 1 to 65536"),
+        ("live 0 1", "SECTORS: 0 isn't a number from 1 to 65536"),
         (
             "get e1.0 --tap t --lifetime 0",
-            "0: not a number from 1 to 600000",
+            "--lifetime: 0 isn't a number from 1 to 600000",
         ),
         (
             "flush e1.0 --tap t --lifetime=600001",
-            "--lifetime=600001: not a number from 1 to 600000",
+            "--lifetime: 600001 isn't a number from 1 to 600000",
         ),
     ];
     says(&rt, rt.alloc(), &cases)
@@ -179,13 +185,30 @@ fn says_what_is_wrong_with_links(rt: HostRuntime) -> Result<(), Fail> {
     let cases = [
         (
             "serve 1 disk keep --peers 127.0.0.1:1",
-            "--local is missing",
+            "--local is missing beside --peers",
         ),
         (
             "serve 1 disk keep --local 127.0.0.1:1",
-            "--peers is missing",
+            "--peers is missing beside --local",
         ),
-        ("live 16 10 --one 127.0.0.1:1", "--two is missing"),
+        ("live 16 10 --one 127.0.0.1:1", "--two is missing beside --one"),
+        ("stat", "--local and --peers, or --tap, are missing"),
+        (
+            "live 16 10 --vxlan 3",
+            "--one and --two, or --one-tap and --two-tap, are missing",
+        ),
+        (
+            "answer 1 0 disk keep --durable --cache 0",
+            "--cache and --durable exclude each other",
+        ),
+        (
+            "stat --local 127.0.0.1:1 --tap t",
+            "--tap and --local exclude each other",
+        ),
+        (
+            "live 16 10 --one-tap s --two-tap t --vxlan 3",
+            "--one-tap and --vxlan exclude each other",
+        ),
     ];
     says(&rt, rt.alloc(), &cases)
 }
@@ -195,20 +218,28 @@ fn says_what_is_wrong_with_addresses(rt: HostRuntime) -> Result<(), Fail> {
     let cases = [
         (
             "discover --tap t --port 03:00:00:00:00:01",
-            "03:00:00:00:00:01: not the address of one station, in lower-case hexadecimal as 02:00:00:00:00:0a",
+            "--port: 03:00:00:00:00:01 isn't the address of one station, in lower-case hexadecimal as 02:00:00:00:00:0a",
         ),
         (
             "audit 1 0 16 keep --ports 02:00:00:00:00:01,",
-            "02:00:00:00:00:01,: not one to four addresses of single stations joined by commas, none twice",
+            "--ports: 02:00:00:00:00:01, isn't one to four addresses of single stations joined by commas, none twice",
         ),
-        ("flush 1.0", "1.0: not a device, as e1.0"),
+        (
+            "serve 1 d k --tap t --ports=02:00:00:00:00:01,02-00-00-00-00-02",
+            "--ports: 02-00-00-00-00-02 isn't the address of one station, in lower-case hexadecimal as 02:00:00:00:00:0a",
+        ),
+        (
+            "serve 1 d k --tap t --ports 02:00:00:00:00:01,02:00:00:00:00:01",
+            "--ports: 02:00:00:00:00:01,02:00:00:00:00:01 isn't one to four addresses of single stations joined by commas, none twice",
+        ),
+        ("flush 1.0", "DEV: 1.0 isn't a device, as e1.0"),
         (
             "mask e1.0 edit add=02:00:00:00:00:0A",
-            "add=02:00:00:00:00:0A: neither add=MAC nor del=MAC, in lower-case hexadecimal as 02:00:00:00:00:0a",
+            "MAC: add=02:00:00:00:00:0A isn't add=MAC or del=MAC, in lower-case hexadecimal as 02:00:00:00:00:0a",
         ),
         (
             "reserve e1.0 set 02:00:00:00:00",
-            "02:00:00:00:00: not an address, in lower-case hexadecimal as 02:00:00:00:00:0a",
+            "MAC: 02:00:00:00:00 isn't an address, in lower-case hexadecimal as 02:00:00:00:00:0a",
         ),
     ];
     says(&rt, rt.alloc(), &cases)
@@ -219,20 +250,20 @@ fn says_what_is_wrong_with_actions_and_ports(rt: HostRuntime) -> Result<(), Fail
     let cases = [
         (
             "cfg e1.0 get --tap t",
-            "get: none of read, test, prefix, set, force, clear",
+            "ACTION: get isn't one of read, test, prefix, set, force, clear",
         ),
-        ("mask e1.0 set --tap t", "set: none of read, edit"),
+        ("mask e1.0 set --tap t", "ACTION: set isn't one of read, edit"),
         (
             "reserve e1.0 clear --tap t",
-            "clear: none of read, set, force, release",
+            "ACTION: clear isn't one of read, set, force, release",
         ),
         (
             "keep lists open",
-            "open: none of show, upgrade, lock, unlock",
+            "ACTION: open isn't one of show, upgrade, lock, unlock",
         ),
         (
             "switch access:1 trunk:1,4095",
-            "trunk:1,4095: neither access:VID nor trunk:VID,VID .., with numbers from 1 to 4094",
+            "PORT: trunk:1,4095 isn't access:VID or trunk:VID,VID .., with numbers from 1 to 4094",
         ),
     ];
     says(&rt, rt.alloc(), &cases)

@@ -1,5 +1,5 @@
 use Rattle.std.proofs.Common.{◌≡◌, drop, map, string_bytes}
-use Rattle.aoe_args.specs.Slips.{is_given}
+use Rattle.aoe_args.specs.Places.{is_given}
 use Rattle.aoe_args.proofs.slip.is_given.Given as goal
 
 abbrev pub invariant-words : goal.invariant-words

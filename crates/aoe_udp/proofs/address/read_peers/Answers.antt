@@ -1,9 +1,9 @@
 -- Each turn reads the next piece of the text.
-use Rattle.std.proofs.Common.{◌==◌, ◌+◌, ◌∙◌, ap, rules, sym}
+use Rattle.std.proofs.Common.{◌==◌, rules}
 use Rattle.std.proofs.lemmas.Iterator.Consumers.{YieldsList-turn, YieldsList-end}
 use Rattle.std.proofs.lemmas.Iterator.Splits.{YieldsList-from_slice_split}
 use Rattle.std.proofs.lemmas.List.{length_push}
-use Rattle.aoe_udp.proofs.AddressLemmas.{none_at, one_more, all_read}
+use Rattle.aoe_udp.proofs.AddressLemmas.{none_at, one_more, one_more_read, all_read, read_count, whole_read}
 use Rattle.aoe_udp.proofs.address.read_peers.Goals as goal
 
 pub returns-in_default-clause-refused : goal.returns-in_default-clause-refused
@@ -19,9 +19,10 @@ pieces-preserved c =
     record {
       can = search rules;
       ends = search rules;
-      room = λ e.
+      read = λ e.
           let kept = c.keep-has_room.ensures e in
-          kept.1 ∙ ap (λ n. n + 1) (c.pieces.invariant.room kept.0) ∙ sym (length_push c.pieces.yielded c.in-Some.piece);
+          rw (length_push c.pieces.yielded c.in-Some.piece, kept.1)
+          (one_more_read _ _ _ _ _ t (c.pieces.invariant.read kept.0) c.in-Some-read_address.ensures.read);
       so_far = rw (length_push c.pieces.yielded c.in-Some.piece) (one_more _ _ _ t c.pieces.invariant.so_far c.in-Some-read_address.ensures.spelled);
     }
 
@@ -37,8 +38,14 @@ returns-else-has_room-clause-memory c =
     let t = YieldsList-end road c.pieces.yielded _ c.pieces.yielded_by _ _ c.in-None.is c.next.ensures.steps in
     λ _. all_read _ _ t.1 c.pieces.invariant.so_far
 
+pub returns-then-has_room-clause-read : goal.returns-then-has_room-clause-read
+returns-then-has_room-clause-read c =
+    let road = YieldsList-from_slice_split _ (λ c. c == 44) c.args.text.now (search rules) (search rules) (search rules) (λ x b q k. search rules) in
+    let t = YieldsList-end road c.pieces.yielded _ c.pieces.yielded_by _ _ c.in-None.is c.next.ensures.steps in
+    whole_read _ _ _ t.1 (c.pieces.invariant.read (search rules))
+
 pub returns-then-has_room-clause-each : goal.returns-then-has_room-clause-each
 returns-then-has_room-clause-each c =
     let road = YieldsList-from_slice_split _ (λ c. c == 44) c.args.text.now (search rules) (search rules) (search rules) (λ x b q k. search rules) in
     let t = YieldsList-end road c.pieces.yielded _ c.pieces.yielded_by _ _ c.in-None.is c.next.ensures.steps in
-    c.pieces.invariant.room (search rules) ∙ t.1
+    read_count _ _ (whole_read _ _ _ t.1 (c.pieces.invariant.read (search rules)))
