@@ -1,7 +1,6 @@
 -- Read `AppLemmas` (what clap finds and refuses is known) and `ParsedLemmas` first.
 mod AppLemmas
 mod FindLemmas
-mod LackLemmas
 mod LinkLemmas
 mod ListedLemmas
 mod ParsedLemmas

@@ -6,7 +6,7 @@ use Rattle.std.specs.Option.{option_or}
 use Rattle.std.proofs.lemmas.Bool.Decides.{nat_tests}
 use Rattle.clap.specs.Words.{Text}
 use Rattle.aoe_args.specs.Words.{attached, is_value}
-use Rattle.aoe_args.specs.Places.{Argument, Form, argument_at, argument_behind, awaits, is_flag, is_given, is_plain, option_at, option_name, option_named, plain_before, taking, word_at}
+use Rattle.aoe_args.specs.Places.{Argument, Form, argument_at, argument_behind, awaits, is_flag, is_given, option_at, option_name, option_named, plain_before, taking, word_at}
 use Rattle.aoe_args.specs.Slips.{IsFit, IsRight, text_in}
 use Rattle.aoe_args.specs.Walks.{IsWalked}
 use Rattle.aoe_args.specs.declared.slip.Walked.{Walked}

@@ -86,11 +86,7 @@ fn name_in(word: &str) -> &str {
 
 /// The name that may be meant by the word of this slip: an option's where the word is no option of
 /// the command, and a command's where it is the name of none.
-pub fn meant(
-    alloc: Global,
-    words: &[String],
-    slip: Slip,
-) -> Result<Option<&'static str>, NoMemory>
+pub fn meant(alloc: Global, words: &[String], slip: Slip) -> Result<Option<&'static str>, NoMemory>
     ensures { IfOk result (λ name. IfSome name
         (λ n. IsMeant (map string_bytes words.now) slip.wrong n.now)) }
 {

@@ -532,12 +532,7 @@ pub(crate) fn argument(form: Form, before: usize) -> Option<&'static str>
 
 /// What is wrong with the word at this place, which is no option and goes to the argument of this
 /// name, if to any.
-fn word_slip(
-    form: Form,
-    words: &[String],
-    place: usize,
-    name: Option<&'static str>,
-) -> Option<Slip>
+fn word_slip(form: Form, words: &[String], place: usize, name: Option<&'static str>) -> Option<Slip>
     requires place { (1 ≤ place) × (place < length words.now) }
     requires word { is_value (word_at place (map string_bytes words.now)) ≡ true }
     requires name { option_map (λ name. name.now) name

@@ -4,6 +4,7 @@ use crate::slip::{Slip, Wanted, Wrong, title};
 use std::fmt;
 
 /// A slip as it is said: which argument or word it is about, why, and which name may be meant.
+#[derive(Drop)]
 pub struct SlipText<'a> {
     pub slip: Slip,
 

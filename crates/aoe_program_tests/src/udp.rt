@@ -117,11 +117,7 @@ fn reads_addresses(rt: HostRuntime) {
             "127.0.0.1:7000,[::1]:7001",
             Some(OpenRefusal::Families),
         ),
-        (
-            "[::1]:0",
-            "127.0.0.1:7000",
-            Some(OpenRefusal::Families),
-        ),
+        ("[::1]:0", "127.0.0.1:7000", Some(OpenRefusal::Families)),
         (
             "127.0.0.1:0",
             "127.0.0.1:7000,127.0.0.1:7001,127.0.0.1:7000",

@@ -68,9 +68,7 @@ fn all_different(addresses: &[SocketAddr]) -> bool
 fn are_of_family(local: SocketAddr, peers: &[SocketAddr]) -> bool
     ensures { result ≡ are_of_family local peers.now }
 {
-    peers
-        .iter()
-        .all(|peer| peer.is_ipv4() == local.is_ipv4())
+    peers.iter().all(|peer| peer.is_ipv4() == local.is_ipv4())
 }
 
 /// Why these are no ends of a link, if they aren't: a peer is named twice, or one is of another family.

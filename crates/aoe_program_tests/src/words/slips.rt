@@ -59,7 +59,10 @@ fn says_which_words_are_missing(rt: HostRuntime) -> Result<(), Fail> {
 #[test]
 fn says_which_words_are_too_many(rt: HostRuntime) -> Result<(), Fail> {
     let cases = [
-        ("srve", "srve: not the name of a command: did you mean serve?"),
+        (
+            "srve",
+            "srve: not the name of a command: did you mean serve?",
+        ),
         ("help", "help: not the name of a command"),
         ("replay script", "script: one word too many"),
         ("audit 1 0 16 keep file", "file: one word too many"),
@@ -99,10 +102,7 @@ fn says_what_is_wrong_with_options(rt: HostRuntime) -> Result<(), Fail> {
             "audit 1 0 16 keep --port 02:00:00:00:00:01",
             "--port: not an option of this command: did you mean --ports?",
         ),
-        (
-            "answer 1 0 disk --port=",
-            "--port=: no value behind its =",
-        ),
+        ("answer 1 0 disk --port=", "--port=: no value behind its ="),
         (
             "get e1.0 0 1 --tap t --verify",
             "--verify: not an option of this command",
@@ -191,7 +191,10 @@ fn says_what_is_wrong_with_links(rt: HostRuntime) -> Result<(), Fail> {
             "serve 1 disk keep --local 127.0.0.1:1",
             "--peers is missing beside --local",
         ),
-        ("live 16 10 --one 127.0.0.1:1", "--two is missing beside --one"),
+        (
+            "live 16 10 --one 127.0.0.1:1",
+            "--two is missing beside --one",
+        ),
         ("stat", "--local and --peers, or --tap, are missing"),
         (
             "live 16 10 --vxlan 3",
@@ -252,7 +255,10 @@ fn says_what_is_wrong_with_actions_and_ports(rt: HostRuntime) -> Result<(), Fail
             "cfg e1.0 get --tap t",
             "ACTION: get isn't one of read, test, prefix, set, force, clear",
         ),
-        ("mask e1.0 set --tap t", "ACTION: set isn't one of read, edit"),
+        (
+            "mask e1.0 set --tap t",
+            "ACTION: set isn't one of read, edit",
+        ),
         (
             "reserve e1.0 clear --tap t",
             "ACTION: clear isn't one of read, set, force, release",

@@ -15,7 +15,7 @@ returns-clause-slip c =
     is_in (form c.args.form) (map string_bytes c.args.words.now) c.args.place wrong.NoValue _ c.at.ensures c.requires.place.0
     (rw (length-map c.args.words.now string_bytes) c.requires.place.1) (
       awaits_next (form c.args.form) (map string_bytes c.args.words.now) c.args.place c.requires.place.0 (argument c.args.option) c.requires.option
-      c.requires.valued (search rules),
+          c.requires.valued (search rules),
       λ there.
           let below : c.args.place + 1 < length c.args.words.now = rw (sym (length-map c.args.words.now string_bytes)) there in
           elim c.else-place-words.branch [
