@@ -1,7 +1,7 @@
 -- The texts of a link's addresses.
-use Rattle.std.specs.Prelude.{ℕ, ◌≡◌, ◌==◌, ◌&&◌, Bool, true, false, not, List, [], ◌∷◌, All}
+use Rattle.std.specs.Prelude.{ℕ, ◌==◌, ◌&&◌, Bool, true, false, not, List, [], ◌∷◌, if◌then◌else◌, All}
 use Rattle.std.specs.List.{list_all, list_any, slice_split}
-use Rattle.std.specs.Net.Addr.{ipv4_octets, ipv6_segments, is_ipv4}
+use Rattle.std.specs.Net.Addr.{ipv4_octets, ipv6_segments, is_ipv4, is_ipv6}
 use Rattle.std.specs.Net.Grammar.{IsSocketText}
 use Rattle.std.specs.Net.Socket.{socket_ip, v4_ip, v4_port, v6_flowinfo, v6_ip, v6_port, v6_scope_id}
 use Rattle.std.specs.Str.{bytes_eq}
@@ -35,9 +35,13 @@ abbrev pub all_different : List SocketAddr → Bool
 all_different [] = true
 all_different (address ∷ addresses) = not (list_any (λ other. same_socket other address) addresses) && all_different addresses
 
--- each of them is of the family of this one: all of IPv4, or all of IPv6
+-- an address is of the family of this one: of IPv4, or of IPv6
+abbrev pub is_of_family : SocketAddr → SocketAddr → Bool
+is_of_family local address = if is_ipv4 (socket_ip local) then is_ipv4 (socket_ip address) else is_ipv6 (socket_ip address)
+
+-- and so is each of them
 abbrev pub are_of_family : SocketAddr → List SocketAddr → Bool
-are_of_family local = list_all (λ address. is_ipv4 (socket_ip address) == is_ipv4 (socket_ip local))
+are_of_family local = list_all (is_of_family local)
 
 -- the ends of a link as texts, of peers joined by commas (44), and as addresses
 pub record AreEnds (local peers : List ℕ) (address : SocketAddr) (addresses : List SocketAddr) : Type 0 where

@@ -2,7 +2,7 @@
 ghost use Rattle.std.specs.Prelude.{◌≡◌, ◌==◌, ◌⊎◌, ◌++◌, ◌∷◌, [], false, true, None, Some, Err, OnErr, OnOk, OnSome, IfOk, IfSome, length};
 ghost use Rattle.std.specs.List.{slice_split};
 ghost use Rattle.std.specs.Net.Grammar.{IsSocketText};
-ghost use Rattle.aoe_udp.specs.Addresses.{ArePeers, AreRead, IsAddress, all_different, are_of_family};
+ghost use Rattle.aoe_udp.specs.Addresses.{ArePeers, AreRead, IsAddress, all_different, are_of_family, is_of_family};
 
 use crate::errors::OpenRefusal;
 use std::alloc::Global;
@@ -64,11 +64,22 @@ fn all_different(addresses: &[SocketAddr]) -> bool
     }
 }
 
+/// Whether an address is of the family of this one.
+fn is_of_family(local: SocketAddr, address: SocketAddr) -> bool
+    ensures { result ≡ is_of_family local address }
+{
+    if local.is_ipv4() {
+        address.is_ipv4()
+    } else {
+        address.is_ipv6()
+    }
+}
+
 /// Whether all these addresses are of the family of this one.
 fn are_of_family(local: SocketAddr, peers: &[SocketAddr]) -> bool
     ensures { result ≡ are_of_family local peers.now }
 {
-    peers.iter().all(|peer| peer.is_ipv4() == local.is_ipv4())
+    peers.iter().all(|peer| is_of_family(local, *peer))
 }
 
 /// Why these are no ends of a link, if they aren't: a peer is named twice, or one is of another family.

@@ -12,10 +12,12 @@
 //!
 //! Promised: what is sent for a frame of AoE on a network is that frame there, and nothing on any
 //! other (`vxlan_reads_back`). `UdpMedium::open`, if Ok, read texts that are addresses
-//! (`IsAddress`, `ArePeers`), and has as many peers as the text has pieces; a refusal of the
-//! network's number, the peers or the local address comes only where that is wrong, and `Unbound`
-//! only where both texts are addresses. Inside, what a datagram brings is `frame_of`, and which
-//! errors are silence, a lost frame or a fault is `is_silence` and `is_lost_sending`.
+//! (`IsAddress`, `ArePeers`), and has as many peers as the text has pieces, of the family of the
+//! local address, none twice (`AreEnds`, `are_of_family`, `all_different`); a refusal of the
+//! network's number, the peers, the local address, a peer that is named twice or an end of another
+//! family comes only where that is wrong, and `Unbound` only where both texts are addresses. Inside,
+//! what a datagram brings is `frame_of`, and which errors are silence, a lost frame or a fault is
+//! `is_silence` and `is_lost_sending`.
 //!
 //! Only tested: that the socket takes and sends just these datagrams, and binds the address
 //! (`aoe_program_tests`, udp; tests/datagrams, tests/wire, tests/adapters), and the texts of
