@@ -1,4 +1,4 @@
--- Which statuses a copy has, what they tell of its link and its source, and that a `put` that reads nothing again has no limit.
+-- Which statuses a copy has, and what they tell of its link and its source.
 use Rattle.std.proofs.Common.{◌≡◌, ◌∙◌, Result, Ok, Err, true, ap, refl, sym}
 use Rattle.std.specs.Prelude.{◌↔◌}
 use Rattle.aoe_copy.specs.declared.end.CopyRefusal.{CopyRefusal}
@@ -8,7 +8,6 @@ use Rattle.aoe_tools.specs.declared.end.ToolRefusal.TheVariants as tool
 use Rattle.aoe.specs.Tools.{copied, copy_status, is_copy_status}
 use Rattle.aoe.specs.declared.status.Status.{Status}
 use Rattle.aoe.specs.declared.status.Status.TheVariants as status
-use Rattle.aoe.specs.declared.status.What.{What}
 
 told-link : (r : CopyRefusal) → copy_status r ≡ status.LinkFault 0 → r ≡ copy.Tool tool.LinkFault
 told-link (copy.Tool tool.LinkFault) e = refl
@@ -16,7 +15,6 @@ told-link (copy.Tool tool.NoMemory) e = absurd cc
 told-link (copy.Tool (tool.Unanswered n)) e = absurd cc
 told-link (copy.Tool (tool.Refused r)) e = absurd cc
 told-link (copy.Stream offset) e = absurd cc
-told-link copy.Limit e = absurd cc
 told-link copy.SourceFault e = absurd cc
 told-link copy.SinkFault e = absurd cc
 
@@ -32,7 +30,6 @@ told-source (copy.Tool tool.NoMemory) e = absurd cc
 told-source (copy.Tool (tool.Unanswered n)) e = absurd cc
 told-source (copy.Tool (tool.Refused r)) e = absurd cc
 told-source (copy.Stream offset) e = absurd cc
-told-source copy.Limit e = absurd cc
 told-source copy.SourceFault e = refl
 told-source copy.SinkFault e = absurd cc
 
@@ -48,24 +45,5 @@ told-status (copy.Tool tool.NoMemory) = refl
 told-status (copy.Tool (tool.Unanswered n)) = refl
 told-status (copy.Tool (tool.Refused r)) = refl
 told-status (copy.Stream offset) = refl
-told-status copy.Limit = refl
 told-status copy.SourceFault = refl
 told-status copy.SinkFault = refl
-
--- ---- a `put` whose sectors aren't read again ends by no limit
-
-told-limit : (r : CopyRefusal) (excess : What) → copy_status r ≡ status.Limit excess → r ≡ copy.Limit
-told-limit copy.Limit excess e = refl
-told-limit (copy.Tool tool.LinkFault) excess e = absurd cc
-told-limit (copy.Tool tool.NoMemory) excess e = absurd cc
-told-limit (copy.Tool (tool.Unanswered n)) excess e = absurd cc
-told-limit (copy.Tool (tool.Refused r)) excess e = absurd cc
-told-limit (copy.Stream offset) excess e = absurd cc
-told-limit copy.SourceFault excess e = absurd cc
-told-limit copy.SinkFault excess e = absurd cc
-
-abbrev ended_by : CopyRefusal → Result Unit CopyRefusal
-ended_by r = Err r
-
-pub unlimited : (s : Status) (r : CopyRefusal) → s ≡ copy_status r → (Err r ≡ ended_by copy.Limit → ⊥) → (excess : What) → s ≡ status.Limit excess → ⊥
-unlimited s r is none excess e = none (ap Err (told-limit r excess (sym is ∙ e)))

@@ -70,7 +70,6 @@ limit_text what.Events = codes "aoe: limit: events"
 limit_text what.ScriptBytes = codes "aoe: limit: script bytes"
 limit_text what.Frames = codes "aoe: limit: frames"
 limit_text what.FrameBytes = codes "aoe: limit: frame bytes"
-limit_text what.InputBytes = codes "aoe: limit: input bytes"
 limit_text what.Records = codes "aoe: limit: records"
 limit_text what.CaptureBytes = codes "aoe: limit: capture bytes"
 

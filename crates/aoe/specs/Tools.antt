@@ -1,5 +1,5 @@
 -- What the tools ask and say, and how they end.
-use Rattle.std.specs.Prelude.{ℕ, ◌≡◌, ◌≢◌, ◌≤◌, Bool, true, false, not, List, [], Option, Result, Ok, Err, option_map}
+use Rattle.std.specs.Prelude.{ℕ, ◌≡◌, ◌≤◌, Bool, true, not, List, [], Option, Result, Ok, Err, option_map}
 use Rattle.arrayvec.specs.ArrayVec.{ArrayVec}
 use Rattle.aoe_base.specs.declared.failure.NoMemory.{NoMemory}
 use Rattle.aoe_base.specs.Sizes.{longest_lifetime}
@@ -30,8 +30,6 @@ use Rattle.aoe_args.specs.declared.command.Tool.{Tool}
 use Rattle.aoe_args.specs.declared.command.Tool.TheVariants as tool
 use Rattle.aoe.specs.declared.status.Status.{Status}
 use Rattle.aoe.specs.declared.status.Status.TheVariants as status
-use Rattle.aoe.specs.declared.status.What.{What}
-use Rattle.aoe.specs.declared.status.What.TheVariants as what
 
 -- who asks, and how long it listens
 abbrev pub ask_of : Asking → Ask
@@ -144,7 +142,6 @@ pub record RunsTool (tool : Tool) (s : Status) (held held' : Option (List ℕ)) 
 abbrev pub copy_status : CopyRefusal → Status
 copy_status (copy.Tool r) = tool_status r
 copy_status (copy.Stream offset) = status.Stream offset
-copy_status copy.Limit = status.Limit what.InputBytes
 copy_status copy.SourceFault = status.SourceFault
 copy_status copy.SinkFault = status.SinkFault
 
@@ -155,7 +152,6 @@ copied (Err r) = copy_status r
 -- the statuses that it can end with
 abbrev pub is_copy_status : Status → Bool
 is_copy_status (status.Stream offset) = true
-is_copy_status (status.Limit excess) = true
 is_copy_status status.SourceFault = true
 is_copy_status s = is_tool_status s
 
@@ -165,10 +161,8 @@ pub record CopiesOut (asked : Get) (s : Status) (held held' : Option (List ℕ))
   pub runs : Copies result (terms_of asked.asking asked.lifetime) asked.id asked.at asked.count t held held'
   pub ends : s ≡ copied result
 
--- `put` ran over a source, a link and a clock, with a flush at its end unless it was asked for without, and the status tells how it ended. No
--- input is too long for it where the sectors aren't read again.
+-- `put` ran over a source, a link and a clock, with a flush at its end unless it was asked for without, and the status tells how it ended
 pub record CopiesIn (asked : Put) (s : Status) (left left' : Option (List ℕ)) (t : Told) : Type 0 where
   pub result : Result Unit CopyRefusal
   pub runs : Puts result (terms_of asked.asking asked.lifetime) asked.id asked.at (not asked.no_flush) asked.verify t left left'
   pub ends : s ≡ copied result
-  pub unlimited : asked.verify ≡ false → (excess : What) → s ≢ status.Limit excess

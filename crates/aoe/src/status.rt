@@ -69,8 +69,6 @@ pub enum What {
     Frames,
     /// The frames that a script sends have more than 536,870,912 bytes together.
     FrameBytes,
-    /// The input of a tool that copies sectors has more than 16,777,216 bytes.
-    InputBytes,
     /// A capture has more than 200,000 records.
     Records,
     /// The records of a capture have more than 536,870,912 captured bytes together.
@@ -166,7 +164,6 @@ fn limit_text(alloc: Global, what: What) -> Result<Blob, NoMemory>
         What::ScriptBytes => Blob::of(alloc, b"aoe: limit: script bytes"),
         What::Frames => Blob::of(alloc, b"aoe: limit: frames"),
         What::FrameBytes => Blob::of(alloc, b"aoe: limit: frame bytes"),
-        What::InputBytes => Blob::of(alloc, b"aoe: limit: input bytes"),
         What::Records => Blob::of(alloc, b"aoe: limit: records"),
         What::CaptureBytes => Blob::of(alloc, b"aoe: limit: capture bytes"),
     }

@@ -8,7 +8,7 @@ ghost use Rattle.aoe_lists.specs.Settings.{max_directives};
 ghost use Rattle.aoe_base.specs.Sizes.{longest_lifetime};
 ghost use Rattle.aoe.specs.Tools.{CanAsk, CopiesIn, CopiesOut, RunsTool, Says, SaysConfig, SaysFlush, SaysFound, SaysMasks, SaysReserves, SaysStat, ask_of, copy_status, dirs_of, is_copy_status, is_tool_status, said, terms_of, tool_status};
 
-use crate::status::{Status, What};
+use crate::status::Status;
 use aoe_args::{Asking, Cfg, Discover, Flush, Get, Mask, Put, Reserve, Stat, Tool};
 use aoe_base::{Blob, Failed, Lifetimes, Millis, NoMemory};
 use aoe_copy::{CopyRefusal, Terms, Watch, flush, get, put};
@@ -252,7 +252,6 @@ fn copy_status(refusal: CopyRefusal) -> Status
     match refusal {
         CopyRefusal::Tool(refusal) => tool_status(refusal),
         CopyRefusal::Stream { offset } => Status::Stream { offset },
-        CopyRefusal::Limit => Status::Limit(What::InputBytes),
         CopyRefusal::SourceFault => Status::SourceFault,
         CopyRefusal::SinkFault => Status::SinkFault,
     }

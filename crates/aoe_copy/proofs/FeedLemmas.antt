@@ -3,8 +3,7 @@ use Rattle.std.proofs.Common.{ℕ, ◌≡◌, ◌+◌, ◌-◌, ◌%◌, ◌<◌
 use Rattle.std.proofs.Math.Seq.{take-append-add}
 use Rattle.std.proofs.lemmas.List.{drop-drop, length-drop, length-take, take-append-drop, take-append-le, take-take, take_all, take_rest}
 use Rattle.aoe_io.specs.Bytes.{Gave, IsEnded}
-use Rattle.aoe_copy.specs.Feed.{Feeds}
-use Rattle.aoe_copy.specs.Putting.{IsPiece}
+use Rattle.aoe_copy.specs.Feed.{Feeds, IsPiece}
 
 -- the front of a buffer was filled with what stands at a place
 pub front-took : (xs piece behind : List ℕ) (u n : ℕ) → length piece ≡ n → piece ≡ take n (take (length xs - u) (drop u xs))

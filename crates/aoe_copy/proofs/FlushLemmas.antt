@@ -36,7 +36,6 @@ runs-tool (copy.Stream offset) c seen now front left other runs =
     let fed : HasFed [] (Some []) now.left _ runs.behind = rw (front, left) at runs.seen_is.fed in
     absurd (omega (arith, fed-none now.left _ runs.behind fed, runs.ends.4))
 runs-tool copy.SourceFault c seen now front left other runs = absurd (other refl)
-runs-tool copy.Limit c seen now front left other runs = absurd runs.ends
 runs-tool copy.SinkFault c seen now front left other runs = absurd runs.ends
 
 at-tool : (found : Result Device ToolRefusal) (e : CopyRefusal) (t : Terms) (id : TargetId) (seen now : PutSeen) → seen.left ≡ Some []

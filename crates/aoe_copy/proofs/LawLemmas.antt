@@ -1,5 +1,5 @@
 -- What follows from the steps of a copy out of a device.
-use Rattle.std.proofs.Common.{ℕ, suc, ◌≡◌, ◌+◌, ◌-◌, ◌*◌, ◌≤◌, cond, Bool, true, false, nat_le, List, [], ◌∷◌, ◌++◌, length, map, drop, Some, None, refl, sym, ap, ◌∙◌, arith, inl, inr, length-append}
+use Rattle.std.proofs.Common.{ℕ, suc, ◌≡◌, ◌+◌, ◌-◌, ◌*◌, ◌<◌, ◌≤◌, cond, Bool, true, false, nat_le, List, [], ◌∷◌, ◌++◌, length, map, drop, Some, None, refl, sym, ap, ◌∙◌, arith, inl, inr, length-append}
 use Rattle.std.specs.Prelude.{Contains, if◌then◌else◌, slice_index, slice_range}
 use Rattle.std.proofs.lemmas.Bool.{cases_Bool, leb-true}
 use Rattle.std.proofs.lemmas.List.{length-drop, length-take}
@@ -21,7 +21,7 @@ use Rattle.aoe_initiator.specs.HostLog.{commands}
 use Rattle.aoe_initiator.specs.Response.{answer, ata_success, has_flag, is_failure, outcome_of, success}
 use Rattle.aoe_copy.specs.declared.plan.Plan.{Plan}
 use Rattle.aoe_copy.specs.Law.{reads, AreResponses, IsFront, IsResponse}
-use Rattle.aoe_copy.specs.Plan.{span_at}
+use Rattle.aoe_copy.specs.Plan.{reach, span_at}
 use Rattle.aoe_copy.specs.Steps.{given, read_at, written, ReadLaw, ReadStep}
 use Rattle.aoe_copy.specs.Window.{most_open, read_done}
 
@@ -69,6 +69,18 @@ window-law b p w (submits o ∷ steps) are = omega (arith, are.1.2.1.few)
 window-law b p w (sends o ∷ steps) are = window-law b p w steps are.0
 window-law b p w (hears turn heard ∷ steps) are = window-law b p w steps are.0
 window-law b p w (own bytes ∷ steps) are = omega (arith, window-law b p w steps are.0)
+
+-- each command asks for a sector at least, and none for sectors that aren't copied
+pub asked-few : (b : Start) (p : Plan) (w : Patience) (steps : List ReadStep) → 0 < p.max → AreReadSteps b p w steps
+    → (asked steps ≤ reach p (asked steps)) × (reach p (asked steps) ≤ p.count)
+asked-few b p w [] some are = (omega arith, omega arith)
+asked-few b p w (ticks answer gave_up ∷ steps) some are = asked-few b p w steps some are.0
+asked-few b p w (submits o ∷ steps) some are =
+    let before = asked-few b p w steps some are.0 in
+    (omega (arith, before.0, are.1.2.1.left, some), omega (arith, before.1, are.1.2.1.left))
+asked-few b p w (own bytes ∷ steps) some are = asked-few b p w steps some are.0
+asked-few b p w (sends o ∷ steps) some are = asked-few b p w steps some are.0
+asked-few b p w (hears turn heard ∷ steps) some are = asked-few b p w steps some are.0
 
 -- sectors came only of commands that were submitted
 pub ticket-law : (b : Start) → IsStart b → (p : Plan) (w : Patience) (steps : List ReadStep) (n : ℕ) (bytes : List ℕ) → AreReadSteps b p w steps

@@ -22,5 +22,4 @@ mod PutStepLemmas
 mod PutTurnLemmas
 mod StepLemmas
 mod TurnLemmas
-mod Unlimited
 mod WindowLemmas

@@ -1,5 +1,5 @@
 -- What follows from the steps of a copy into a device.
-use Rattle.std.proofs.Common.{ℕ, suc, ◌≡◌, ◌≤◌, cond, Bool, true, false, nat_le, List, [], ◌∷◌, ◌++◌, length, map, drop, Some, None, refl, sym, ap, ◌∙◌, arith, inl, inr}
+use Rattle.std.proofs.Common.{ℕ, suc, ◌≡◌, ◌+◌, ◌≤◌, cond, Bool, true, false, nat_le, List, [], ◌∷◌, ◌++◌, length, map, drop, Some, None, refl, sym, ap, ◌∙◌, arith, inl, inr}
 use Rattle.std.specs.Prelude.{All, Contains, if◌then◌else◌, slice_index}
 use Rattle.std.proofs.lemmas.Bool.{cases_Bool, not-false}
 use Rattle.std.proofs.lemmas.List.Elements.{All-contains, Contains-append_left, Contains-append_right}
@@ -30,7 +30,8 @@ use Rattle.aoe_copy.specs.declared.plan.Plan.{Plan}
 use Rattle.aoe_copy.specs.declared.putting.Stage.{Stage}
 use Rattle.aoe_copy.specs.declared.putting.Stage.TheVariants as stage
 use Rattle.aoe_copy.specs.PutLaw.{flush_ops, write_ops, writes, AreAcknowledged, AreParts, IsWritten}
-use Rattle.aoe_copy.specs.PutSteps.{has_flush, pieces, stage_fed, stage_of, write_after, Fed, PutLaw, PutStep}
+use Rattle.aoe_copy.specs.Checking.{count_more}
+use Rattle.aoe_copy.specs.PutSteps.{count_of, has_flush, pieces, stage_fed, stage_of, write_after, Fed, PutLaw, PutStep}
 use Rattle.aoe_copy.specs.PutSteps.Fed.{ends, exceeds}
 use Rattle.aoe_copy.specs.Window.{most_open}
 use Rattle.aoe_copy.proofs.PutStepLemmas.{stage-own}
@@ -115,6 +116,28 @@ module _ (b : Start) (p : Plan) (flush : Bool) (w : Patience) where
       rw (stage-own steps (exceeds bytes) reads) before
   ops-are (sends o ∷ steps) are = ops-are steps are.0
   ops-are (hears turn heard ∷ steps) are = ops-are steps are.0
+
+  -- each write is of a sector at least, and none of sectors that the copy doesn't have; one command is the flush
+  pub asked-few : (steps : List PutStep) → ArePutSteps steps
+      → (asked steps ≤ count_of (pieces steps) + count_more (has_flush (ops steps))) × (count_of (pieces steps) ≤ p.count)
+  asked-few [] are = (omega arith, omega arith)
+  asked-few (ticks answer gave_up ∷ steps) are = asked-few steps are.0
+  asked-few (submits (op.Write at bytes) ∷ steps) are =
+      let before = asked-few steps are.0 in
+      let part = are.1.2.2 in
+      (omega (arith, before.0, part.some, part.whole), omega (arith, before.1, part.most))
+  asked-few (submits op.Flush ∷ steps) are =
+      let before = asked-few steps are.0 in
+      let none = ap count_more (unflushed-ended steps are.1.2.ended) in
+      (omega (arith, before.0, none), before.1)
+  asked-few (submits (op.Read span) ∷ steps) are = absurd are.1.2
+  asked-few (submits op.Identify ∷ steps) are = absurd are.1.2
+  asked-few (submits (op.Config ccmd text) ∷ steps) are = absurd are.1.2
+  asked-few (submits (op.Masks edit dirs) ∷ steps) are = absurd are.1.2
+  asked-few (submits (op.Reserve rcmd list) ∷ steps) are = absurd are.1.2
+  asked-few (own fed ∷ steps) are = asked-few steps are.0
+  asked-few (sends o ∷ steps) are = asked-few steps are.0
+  asked-few (hears turn heard ∷ steps) are = asked-few steps are.0
 
   pub writes-law : (steps : List PutStep) → ArePutSteps steps
       → map as_asked (commands (log_of b steps)) ≡ map as_asked (commands b.log) ++ writes b p steps

@@ -16,11 +16,11 @@ use Rattle.aoe_copy.specs.declared.end.CopyRefusal.TheVariants as copy
 use Rattle.aoe_copy.specs.declared.putting.Putting.{Putting}
 use Rattle.aoe_copy.specs.declared.putting.Stage.{Stage}
 use Rattle.aoe_copy.specs.declared.putting.Stage.TheVariants as stage
-use Rattle.aoe_copy.specs.Feed.{ahead, Feeds}
+use Rattle.aoe_copy.specs.Feed.{ahead, Feeds, IsPiece}
 use Rattle.aoe_copy.specs.PutRuns.{EndsBy, HasFed, HasPut, IsReadOut, PutSeen, IsLean as IsLeanAll}
 use Rattle.aoe_copy.specs.PutSteps.{has_flush, pieces, rest_of, room_after, stage_at_end, stage_fed, stage_of, write_after, written, Fed, IsFilled, IsPart, MayFlush, MayRead, NothingLeft, PutLaw, PutStep}
 use Rattle.aoe_copy.specs.PutSteps.Fed.{ends, exceeds}
-use Rattle.aoe_copy.specs.Putting.{end_in, end_of, flushes_left, is_ended, is_reading, left_of, may_flush, may_read, room_of, stage_behind, stage_past, Asked, Ended, FlushesOne, IsLean, IsOver, IsPiece, IsRest, Keeps, ReadsOn, Setting, Stands, WritesOne, WritesSome}
+use Rattle.aoe_copy.specs.Putting.{end_in, end_of, flushes_left, is_ended, is_reading, left_of, may_flush, may_read, room_of, stage_behind, stage_past, Asked, Ended, FlushesOne, IsLean, IsOver, IsRest, Keeps, ReadsOn, Setting, Stands, WritesOne, WritesSome}
 use Rattle.aoe_copy.specs.Steps.{patience}
 use Rattle.aoe_copy.specs.Window.{most_open}
 
@@ -127,7 +127,7 @@ module _ {front : List ℕ} {before left : Option (List ℕ)} {used a : List ℕ
     all = sym (append_assoc front h.fed g.0) ∙ ap (λ (l : List ℕ). l ++ g.0) h.all ∙ append_assoc used a g.0;
   }
 
-fed-used : {front : List ℕ} {before left : Option (List ℕ)} {used rest : List ℕ} (bytes : List ℕ) → HasFed front before left used (bytes ++ rest)
+pub fed-used : {front : List ℕ} {before left : Option (List ℕ)} {used rest : List ℕ} (bytes : List ℕ) → HasFed front before left used (bytes ++ rest)
     → HasFed front before left (used ++ bytes) rest
 fed-used {used = used} {rest} bytes h = record { fed = h.fed; gave = h.gave; all = h.all ∙ sym (append_assoc used bytes rest) }
 
@@ -290,7 +290,6 @@ ends-unread {c} {seen} {left} {left'} refusal s well may some memory = by refusa
 
     by : (r : CopyRefusal) → (r ≢ copy.SourceFault → (r ≡ copy.Tool tool.NoMemory) × (left' ≡ left)) → Ended (Err r) c (record { link = seen; left = left' })
     by copy.SourceFault why = ends-source s well may some
-    by copy.Limit why = other copy.Limit (why (λ e. cc))
     by copy.SinkFault why = other copy.SinkFault (why (λ e. cc))
     by (copy.Stream offset) why = other (copy.Stream offset) (why (λ e. cc))
     by (copy.Tool e) why = other (copy.Tool e) (why (λ e. cc))

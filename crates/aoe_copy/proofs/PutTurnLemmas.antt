@@ -56,6 +56,7 @@ fit-host {x} {y} fit held is =
       attached = many ∙ fit.attached;
       asked_is = fit.asked_is ∙ sym held.last;
       few = omega (arith, held.last, fit.few);
+      before = fit.before;
       within = fit.within;
       small = fit.small;
       some = fit.some;

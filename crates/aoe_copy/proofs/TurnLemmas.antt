@@ -2,7 +2,7 @@
 use Rattle.std.proofs.Common.{ℕ, ◌≡◌, ◌+◌, ◌-◌, ◌*◌, ◌<◌, true, false, nat_eq, List, [], length, Option, Some, None, refl, sym, ap, ◌∙◌, arith, inl}
 use Rattle.std.specs.Prelude.{Result, Ok, Err}
 use Rattle.std.proofs.lemmas.Bool.{and_parts, eqb-true}
-use Rattle.aoe_block.specs.Steps.{asked, has_ticked, outcomes, quiet_turns, Start, Told}
+use Rattle.aoe_block.specs.Steps.{asked, has_ticked, outcomes, quiet_turns, Drives, Start, Told}
 use Rattle.aoe_block.specs.Turns.{quiet_by, Heard}
 use Rattle.aoe_block.proofs.OpenLemmas.{pending-open, smaller}
 use Rattle.aoe_block.proofs.SendLemmas.{added-nothing}
@@ -24,18 +24,21 @@ use Rattle.aoe_copy.proofs.StepLemmas.{open-is}
 
 -- with an empty window all that was asked for was given, and where nothing is left to be asked for that is all
 pub over : {c : Setting} {seen : ReadSeen} {steps : List ReadStep} {x : Copying} → Collected c seen steps x → IsFit x → true ≡ is_over x
-    → Ended (Ok record {}) c seen
+    → (r : Ended (Ok record {}) c seen) × Drives c.start r.steps x.host × (x.host.waiting ≡ [])
 over {c} {seen} {steps} {x} d fit is =
     let both = and_parts (nat_eq (length x.window.slots.items) 0) (nat_eq x.reached x.plan.count) (sym is) in
     let none = eqb-true (length x.window.slots.items) 0 both.0 in
     let all = eqb-true x.reached x.plan.count both.1 in
     let k = d.keeps in
-    let same : given d.steps' ≡ asked d.steps' = omega (arith, open-is k fit, none) in
-    record {
-      steps = d.steps';
-      are = d.stands.are;
-      ends = (d.stands.read, d.goes_on, ap (reach c.plan) same ∙ sym k.reached_is ∙ all ∙ ap (λ (p : Plan). p.count) k.plan_is);
-    }
+    let same : given d.steps' ≡ asked d.steps' = omega (arith, open-is k fit, none) in (
+      record {
+        steps = d.steps';
+        are = d.stands.are;
+        ends = (d.stands.read, d.goes_on, ap (reach c.plan) same ∙ sym k.reached_is ∙ all ∙ ap (λ (p : Plan). p.count) k.plan_is);
+      },
+      k.drives,
+      d.waiting,
+    )
 
 pub passes-after : {c : Setting} {seen seen' : ReadSeen} {steps : List ReadStep} {x y : Copying} {heard : Option Heard} (d : Collected c seen steps x)
     → Passes c seen' d.steps' y heard → Passes c seen' steps y heard

@@ -150,7 +150,7 @@ pub record Passes (c : Setting) (seen : ReadSeen) (steps : List ReadStep) (x : C
 
 -- what a turn came to
 abbrev pub Turns : Result Passed CopyRefusal → Setting → ReadSeen → List ReadStep → Copying → Type 0
-Turns (Ok passed.Over) c seen steps x = Ended (Ok record {}) c seen
+Turns (Ok passed.Over) c seen steps x = (r : Ended (Ok record {}) c seen) × Drives c.start r.steps x.host × (x.host.waiting ≡ [])
 Turns (Ok passed.Answered) c seen steps x = (h : Heard) × Passes c seen steps x (Some h)
 Turns (Ok passed.Quiet) c seen steps x = Passes c seen steps x None
 Turns (Err refusal) c seen steps x = Ended (Err refusal) c seen

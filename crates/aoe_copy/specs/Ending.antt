@@ -15,14 +15,12 @@ copy_code copy.SourceFault = 3
 copy_code copy.SinkFault = 4
 copy_code (copy.Tool r) = code_of r
 copy_code (copy.Stream offset) = 11
-copy_code copy.Limit = 12
 
 abbrev pub copy_text : CopyRefusal → List ℕ
 copy_text copy.SourceFault = codes "aoe: source fault"
 copy_text copy.SinkFault = codes "aoe: sink fault"
 copy_text (copy.Tool r) = text_of r
 copy_text (copy.Stream offset) = codes "aoe: bad stream at byte " ++ decimal offset
-copy_text copy.Limit = codes "aoe: limit: input bytes"
 
 -- why an outcome ends a copy: the device refused, or the command was given up
 abbrev pub failure : ℕ → Outcome → Option ToolRefusal

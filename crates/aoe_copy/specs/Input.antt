@@ -18,13 +18,11 @@ Unread copy.SourceFault left left' = GaveSome left left'
 Unread (copy.Tool tool.NoMemory) left left' = IsReadInPart most_input left left'
 Unread (copy.Tool refusal) left left' = ⊥
 Unread (copy.Stream offset) left left' = ⊥
-Unread copy.Limit left left' = ⊥
 Unread copy.SinkFault left left' = ⊥
 
 -- what the source gave, to its end: whole sectors, and not too many; or why not
 abbrev pub Inputs : Result (List ℕ) CopyRefusal → Option (List ℕ) → Option (List ℕ) → Type 0
 Inputs (Ok bytes) left left' = IsReadUpTo most_input left left' bytes × (length bytes ≤ most_input) × (length bytes % 512 ≡ 0)
-Inputs (Err copy.Limit) left left' = (bytes : List ℕ) × IsReadUpTo most_input left left' bytes × (most_input < length bytes)
 Inputs (Err (copy.Stream offset)) left left' =
     (bytes : List ℕ) × IsReadUpTo most_input left left' bytes × (length bytes ≤ most_input) × (length bytes % 512 ≢ 0)
     × (offset ≡ length bytes - length bytes % 512)
@@ -34,5 +32,4 @@ Inputs (Err refusal) left left' = Unread refusal left left'
 abbrev pub Reads : Result Input CopyRefusal → Option (List ℕ) → Option (List ℕ) → Type 0
 Reads (Ok (input.Sectors bytes)) left left' = Inputs (Ok bytes) left left'
 Reads (Ok (input.Longer bytes)) left left' = IsReadUpTo most_input left left' bytes × (most_input < length bytes)
-Reads (Err copy.Limit) left left' = ⊥
 Reads (Err refusal) left left' = Inputs (Err refusal) left left'

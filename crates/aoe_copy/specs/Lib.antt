@@ -1,4 +1,5 @@
 pub mod Again
+pub mod Checking
 pub mod Copying
 pub mod Ending
 pub mod Feed

@@ -75,7 +75,6 @@ EndsBy (Err (copy.Stream offset)) b p flush turns left steps behind =
     × IsEnded left
 EndsBy (Err copy.SourceFault) b p flush turns left steps behind = GoesOn steps × MayRead b p steps
 EndsBy (Err (copy.Tool refusal)) b p flush turns left steps behind = Breaks refusal b p flush turns steps
-EndsBy (Err copy.Limit) b p flush turns left steps behind = ⊥
 EndsBy (Err copy.SinkFault) b p flush turns left steps behind = ⊥
 
 -- what a copy into a device is: where it begins, where it goes, whether a flush follows, how long it is waited, and what was read of the

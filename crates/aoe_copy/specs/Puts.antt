@@ -18,15 +18,17 @@ pub record IsUnsent (x : ToldAll) (left left' : Option (List ℕ)) : Type 0 wher
   pub clock : x.answers' ≡ x.answers
   pub source : left' ≡ left
 
--- an input whose end came soon is written, and read again and compared where that is asked for; a longer one is written part by part, and
--- can't be compared
+-- what was read of an input
+abbrev pub front_of : Input → List ℕ
+front_of (input.Sectors bytes) = bytes
+front_of (input.Longer front) = front
+
+-- an input is written, and read again and compared where that is asked for
 abbrev pub PutsRead : Result Input CopyRefusal → Result Unit CopyRefusal → Terms → TargetId → ℕ → Bool → Bool → ToldAll → Option (List ℕ) → Option (List ℕ)
     → Type 0
 PutsRead (Err e) result t id at flush verify x left left' = (result ≡ Err e) × IsUnsent x left left'
-PutsRead (Ok (input.Sectors bytes)) result t id at flush true x left left' = PutsAgain result t id at flush bytes x left left'
-PutsRead (Ok (input.Sectors bytes)) result t id at flush false x left left' = Copies result t id at flush bytes x left left'
-PutsRead (Ok (input.Longer front)) result t id at flush true x left left' = (result ≡ Err copy.Limit) × IsUnsent x left left'
-PutsRead (Ok (input.Longer front)) result t id at flush false x left left' = Copies result t id at flush front x left left'
+PutsRead (Ok i) result t id at flush true x left left' = PutsAgain result t id at flush (front_of i) x left left'
+PutsRead (Ok i) result t id at flush false x left left' = Copies result t id at flush (front_of i) x left left'
 
 -- the input is read up to its end, or to more than is read before anything is sent, and then written
 abbrev pub Puts : Result Unit CopyRefusal → Terms → TargetId → ℕ → Bool → Bool → ToldAll → Option (List ℕ) → Option (List ℕ) → Type 0

@@ -36,7 +36,8 @@ flushes_in stage.Flushing = 1
 pub record IsFit (x : Putting) : Type 0 where
   pub attached : length x.host.devices ≡ 1
   pub asked_is : x.asked ≡ x.host.last_ticket
-  pub few : x.host.last_ticket ≤ x.reached + flushes_in x.stage
+  pub few : x.host.last_ticket ≤ x.before + x.reached + flushes_in x.stage
+  pub before : x.before ≤ 2 ^ 62
   pub within : x.reached ≤ x.plan.count
   pub small : x.plan.at + x.plan.count ≤ 2 ^ 48
   pub some : 0 < x.plan.max
@@ -174,17 +175,6 @@ pub record FlushesOne (old new : Putting) : Type 0 where
   pub reached_is : new.reached ≡ old.reached
   pub stage_is : new.stage ≡ stage.Flushing
   pub feed_is : new.feed ≡ old.feed
-
--- a piece of the input: whole sectors, and so many bytes behind them, which are fewer than a sector; it is shorter than was wanted only
--- where the input ends
-pub record IsPiece (want : ℕ) (left left' : Option (List ℕ)) (ahead ahead' sectors : List ℕ) (behind : ℕ) : Type 0 where
-  pub rest : List ℕ
-  pub rest_is : length rest ≡ behind
-  pub feeds : Feeds left left' ahead ahead' (sectors ++ rest)
-  pub whole : length sectors % 512 ≡ 0
-  pub less : behind < 512
-  pub most : length sectors + behind ≤ want
-  pub short : length sectors + behind < want → IsEnded left' × (ahead' ≡ [])
 
 -- how many commands are left that are no writes
 abbrev pub flushes_left : Stage → ℕ

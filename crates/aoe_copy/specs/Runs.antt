@@ -66,12 +66,16 @@ abbrev pub MayRun : Result Unit CopyRefusal → Terms → TargetId → Device �
 MayRun result t id d p before now =
     ((result ≡ Err (copy.Tool tool.NoMemory)) × IsIdle before now) ⊎ Runs result (new_start (host_at t id d)) p t.ask.turns before now
 
+-- it tells no number of sectors (ATA, IDENTIFY DEVICE, words 100 to 103), or fewer than are wanted
+abbrev pub LacksSome : Device → ℕ → Option ℕ → Type 0
+LacksSome d at count = (d.total ≡ 0) ⊎ (d.total < at + wanted d at count)
+
 -- once a device is found: it doesn't have all of the sectors; or it does, and there is no memory for a host; or they are copied
 abbrev pub CopiesAt : Result Device ToolRefusal → Result Unit CopyRefusal → Terms → TargetId → ℕ → Option ℕ → ReadSeen → ReadSeen → Type 0
 CopiesAt (Err e) result t id at count before now = (result ≡ Err (copy.Tool e)) × IsIdle before now
 CopiesAt (Ok d) result t id at count before now =
-    ((d.total < at + wanted d at count) × (result ≡ Err (copy.Tool (tool.Refused refusal.Range))) × IsIdle before now)
-    ⊎ ((at + wanted d at count ≤ d.total)
+    (LacksSome d at count × (result ≡ Err (copy.Tool (tool.Refused refusal.Range))) × IsIdle before now)
+    ⊎ ((0 < d.total) × (at + wanted d at count ≤ d.total)
     × MayRun result t id d (plan_of d at count) before now)
 
 -- the device is found, by the clock's first answer, and then copied; a command has so many sectors at most

@@ -64,7 +64,8 @@ fn copy_out<L: Link, C: Clock, K: Sink, W: Watch>(
 
 /// Reads the `count` sectors of a device from `at` on, or all that it has there, and writes them to
 /// the sink in their order, each as soon as all before it are there. A command asks for as many
-/// sectors as the device takes, but at most as many as the terms say.
+/// sectors as the device takes, but at most as many as the terms say. A device that tells no number of
+/// sectors has none to read (`Range`).
 pub fn get<L: Link, C: Clock, K: Sink, W: Watch>(
     alloc: Global,
     terms: &Terms,
@@ -96,6 +97,9 @@ pub fn get<L: Link, C: Clock, K: Sink, W: Watch>(
         Ok(device) => device,
         Err(refusal) => return Err(CopyRefusal::Tool(refusal)),
     };
+    if device.total == 0 {
+        return Err(CopyRefusal::Tool(ToolRefusal::Refused(Refusal::Range)));
+    }
     match plan_of(&device, at, count) {
         Some(plan) => copy_out(alloc, terms, id, &device, plan, sink, link, clock, watch),
         None => Err(CopyRefusal::Tool(ToolRefusal::Refused(Refusal::Range))),

@@ -1,8 +1,8 @@
 //! A copy out of a device, turn by turn.
-ghost use Rattle.std.specs.Prelude.{◌≡◌, ◌≢◌, ◌+◌, ◌<◌, ◌≤◌, ◌^◌, ◌∷◌, ℕ, suc, List, [], Option, Err, IfOk, OnOk, IfSome, length, true, false};
+ghost use Rattle.std.specs.Prelude.{◌≡◌, ◌≢◌, ◌+◌, ◌<◌, ◌≤◌, ◌^◌, ◌∷◌, ℕ, suc, List, [], Option, Ok, Err, IfOk, OnOk, IfSome, length, true, false};
 ghost use Rattle.aoe_base.specs.Faults.{Blamed};
 ghost use Rattle.aoe_block.specs.Answered.{IsStart};
-ghost use Rattle.aoe_block.specs.Steps.{has_ticked, outcomes, GoesOn, Seen, Start};
+ghost use Rattle.aoe_block.specs.Steps.{has_ticked, outcomes, Drives, GoesOn, Seen, Start};
 ghost use Rattle.aoe_initiator.specs.declared.outcome.Done.{Done};
 ghost use Rattle.aoe_initiator.specs.Host.{Matches};
 ghost use Rattle.aoe_initiator.specs.HostLog.{Event};
@@ -74,6 +74,17 @@ impl Copying {
             reached: 0,
             window: Window::new(alloc, before),
         }
+    }
+
+    /// The host, and how many tickets it gave.
+    pub(crate) fn into_host(self) -> (Initiator, u64)
+        requires { IsFit self }
+        ensures host { result.0 ≡ self.host }
+        ensures asked { result.1 ≡ self.host.last_ticket }
+        ensures attached { length self.host.devices ≡ 1 }
+    {
+        let Copying { host, window, .. } = self;
+        (host, window.given() + window.len())
     }
 
     /// Takes the outcomes that wait, up to the first that ends the copy.
@@ -278,6 +289,11 @@ impl Copying {
         requires fit { IsFit self.old }
         requires begins { (b : Start) × (p : PlanOf) × Begins b p self.old }
         requires waiting { self.old.host.waiting ≡ [] }
+        ensures fit { OnOk result (IsFit self.new) }
+        ensures ran { OnOk result ((b : Start) (p : PlanOf) → Begins b p self.old → (r : Runs (Ok record {}) b p turns
+            (record { link = record { turns = L.turns link.old; given = L.given link.old; taken = L.taken link.old; answers = C.answers clock.old }; held = K.held sink.old })
+            (record { link = record { turns = L.turns link.new; given = L.given link.new; taken = L.taken link.new; answers = C.answers clock.new }; held = K.held sink.new }))
+            × Drives b r.steps self.new.host × (self.new.host.waiting ≡ [])) }
         ensures run { (b : Start) (p : PlanOf) → Begins b p self.old
             → Runs result b p turns
             (record { link = record { turns = L.turns link.old; given = L.given link.old; taken = L.taken link.old; answers = C.answers clock.old }; held = K.held sink.old })

@@ -16,9 +16,6 @@ pub enum CopyRefusal {
     /// The input isn't whole sectors: from this byte offset on less than a sector is left.
     Stream { offset: u64 },
 
-    /// The input is longer than what can be read again and compared.
-    Limit,
-
     /// The source failed.
     SourceFault,
 
@@ -36,7 +33,6 @@ impl CopyRefusal {
             CopyRefusal::SinkFault => 4,
             CopyRefusal::Tool(refusal) => refusal.code(),
             CopyRefusal::Stream { .. } => 11,
-            CopyRefusal::Limit => 12,
         }
     }
 
@@ -47,7 +43,6 @@ impl CopyRefusal {
         match *self {
             CopyRefusal::Tool(refusal) => refusal.text(alloc),
             CopyRefusal::Stream { offset } => stream_text(alloc, offset),
-            CopyRefusal::Limit => Blob::of(alloc, b"aoe: limit: input bytes"),
             CopyRefusal::SourceFault => Blob::of(alloc, b"aoe: source fault"),
             CopyRefusal::SinkFault => Blob::of(alloc, b"aoe: sink fault"),
         }

@@ -1,11 +1,14 @@
 //! The bytes that a copy into a device has left to read.
-ghost use Rattle.std.specs.Prelude.{◌≡◌, ◌<◌, ◌≤◌, ◌+◌, ◌++◌, [], length, take, IfOk, OnErr, OnOk};
-ghost use Rattle.aoe_base.specs.Faults.{Rose};
+ghost use Rattle.std.specs.Prelude.{◌≡◌, ◌≢◌, ◌<◌, ◌≤◌, ◌+◌, ◌++◌, [], length, take, Err, IfErr, IfOk, OnErr, OnOk};
+ghost use Rattle.aoe_base.specs.Faults.{Blamed, Rose};
 ghost use Rattle.aoe_io.specs.Bytes.{GaveSome, IsEnded};
-ghost use Rattle.aoe_copy.specs.Feed.{ahead, Feeds, IsFeed};
+ghost use Rattle.aoe_copy.specs.Feed.{ahead, Feeds, IsFeed, IsPiece};
 
-use aoe_base::Failed;
+use crate::end::CopyRefusal;
+use aoe_base::{Blob, Failed, SECTOR_LEN};
 use aoe_io::{Source, fill_from};
+use aoe_tools::ToolRefusal;
+use std::alloc::Global;
 
 /// What is left of an input: of its front, which was read before, and then of the source.
 #[derive(Drop)]
@@ -68,5 +71,39 @@ impl<'a> Feed<'a> {
             Ok(more) => Ok(n + more),
             Err(Failed) => Err(Failed),
         }
+    }
+
+    /// The next bytes, as many as are wanted, or fewer where the input ends: the whole sectors, and how
+    /// many bytes are behind them. Room for them is asked for before they are read.
+    pub(crate) fn piece<S: Source>(
+        &mut self,
+        alloc: Global,
+        source: &mut S,
+        want: usize,
+    ) -> Result<(Blob, usize), CopyRefusal>
+        requires fit { IsFeed self.old }
+        requires some { 0 < want }
+        ensures fit { OnOk result (IsFeed self.new) }
+        ensures piece { IfOk result (λ r. IsPiece want (S.left source.old) (S.left source.new)
+            (ahead self.old) (ahead self.new) r.0 r.1) }
+        ensures failed { OnErr result (GaveSome (S.left source.old) (S.left source.new)) }
+        ensures memory { IfErr result (λ e. e ≢ CopyRefusal.SourceFault
+            → (e ≡ CopyRefusal.Tool ToolRefusal.NoMemory)
+            × (S.left source.new ≡ S.left source.old)) }
+        ensures count { S.faults source.old ≤ S.faults source.new }
+        ensures source { Blamed (result ≡ Err CopyRefusal.SourceFault) (S.faults source.old)
+            (S.faults source.new) }
+    {
+        let mut piece = match Vec::from_elem(alloc, 0u8, want) {
+            Ok(piece) => piece,
+            Err(_) => return Err(CopyRefusal::Tool(ToolRefusal::NoMemory)),
+        };
+        let n = match self.fill(source, piece.as_mut_slice()) {
+            Ok(n) => n,
+            Err(Failed) => return Err(CopyRefusal::SourceFault),
+        };
+        let rest = n % SECTOR_LEN;
+        piece.truncate(n - rest);
+        Ok((Blob::from_vec(piece), rest))
     }
 }

@@ -63,7 +63,7 @@ fn copy_in<S: Source, L: Link, C: Clock, W: Watch>(
         device.total,
         device.max,
     ) {
-        Ok(host) => Putting::new(alloc, host, plan, flush, front).run(
+        Ok(host) => Putting::new(alloc, host, 0, plan, flush, front).run(
             terms.ask.turns,
             source,
             link,
@@ -94,7 +94,6 @@ fn put_front<S: Source, L: Link, C: Clock, W: Watch>(
     ensures run { Copies result terms.now id at flush front.now
         (told C.least C.answers L.turns L.given L.taken clock.old clock.new link.old link.new)
         (S.left source.old) (S.left source.new) }
-    ensures unlimited { result ≢ Err CopyRefusal.Limit }
     ensures unwritten { result ≢ Err CopyRefusal.SinkFault }
     ensures count { L.faults link.old ≤ L.faults link.new }
     ensures link { Blamed (result ≡ Err (CopyRefusal.Tool ToolRefusal.LinkFault))
@@ -124,9 +123,10 @@ fn put_front<S: Source, L: Link, C: Clock, W: Watch>(
 /// Writes what the source gives to the sectors of a device from `at` on, and where `flush` is set
 /// flushes the device once all is acknowledged. The first 16,777,216 bytes are read before anything
 /// is sent, and what follows them as commands are acknowledged. A command has as many sectors as the
-/// device takes, but at most as many as the terms say. Where `verify` is set each sector is read again
-/// at the end, and compared with what was sent: an input of more than 16,777,216 bytes is refused then
-/// (`Limit`).
+/// device takes, but at most as many as the terms say. Where `verify` is set the input is written in
+/// parts of 16,781,312 bytes, and each is flushed, and read again and compared with what was sent,
+/// before the next is read: `Differs` names the first sector that came back with other bytes. A part
+/// that isn't whole sectors, or goes on behind the device's last sector, isn't sent then.
 pub fn put<S: Source, L: Link, C: Clock, W: Watch>(
     alloc: Global,
     terms: &Terms,
@@ -146,7 +146,6 @@ pub fn put<S: Source, L: Link, C: Clock, W: Watch>(
     ensures run { Puts result terms.now id at flush verify
         (told C.least C.answers L.turns L.given L.taken clock.old clock.new link.old link.new)
         (S.left source.old) (S.left source.new) }
-    ensures unlimited { verify ≡ false → result ≢ Err CopyRefusal.Limit }
     ensures unwritten { result ≢ Err CopyRefusal.SinkFault }
     ensures count { L.faults link.old ≤ L.faults link.new }
     ensures link { Blamed (result ≡ Err (CopyRefusal.Tool ToolRefusal.LinkFault))
@@ -156,20 +155,7 @@ pub fn put<S: Source, L: Link, C: Clock, W: Watch>(
         (S.faults source.new) }
 {
     match read_input(alloc, source) {
-        Ok(Input::Sectors(sectors)) if verify => put_again(
-            alloc,
-            terms,
-            id,
-            at,
-            flush,
-            sectors.bytes(),
-            source,
-            link,
-            clock,
-            watch,
-        ),
-        Ok(Input::Longer(_)) if verify => Err(CopyRefusal::Limit),
-        Ok(Input::Sectors(front)) => put_front(
+        Ok(Input::Sectors(front) | Input::Longer(front)) if verify => put_again(
             alloc,
             terms,
             id,
@@ -181,7 +167,7 @@ pub fn put<S: Source, L: Link, C: Clock, W: Watch>(
             clock,
             watch,
         ),
-        Ok(Input::Longer(front)) => put_front(
+        Ok(Input::Sectors(front) | Input::Longer(front)) => put_front(
             alloc,
             terms,
             id,
@@ -206,7 +192,6 @@ fn as_tool(ended: Result<(), CopyRefusal>) -> Result<(), ToolRefusal>
         Ok(()) => Ok(()),
         Err(CopyRefusal::Tool(refusal)) => Err(refusal),
         Err(CopyRefusal::Stream { .. }) => unreachable!(),
-        Err(CopyRefusal::Limit) => unreachable!(),
         Err(CopyRefusal::SourceFault) => unreachable!(),
         Err(CopyRefusal::SinkFault) => unreachable!(),
     }

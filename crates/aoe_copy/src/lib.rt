@@ -14,8 +14,9 @@
 //!
 //! `put` reads the first 16,777,216 bytes before it sends anything, so an input of no more that isn't
 //! whole sectors, or is too long for the device, sends no write. What follows is read as commands are
-//! acknowledged, and what a copy holds doesn't grow with it. An input that is to be compared has no
-//! more than these bytes (`Limit`), since a source can't be read twice.
+//! acknowledged, and what a copy holds doesn't grow with it. Where the sectors are read again this is
+//! done part by part, 1,928 commands of 17 sectors at a time: a part is read, written and flushed, and
+//! then the same host reads its sectors and compares them with what it sent, which it still holds.
 //!
 //! Where `get` breaks off the sink has a front of the sectors, so that the same call with a later
 //! first sector goes on from there. What a `put` that broke off wrote isn't flushed.
@@ -27,8 +28,9 @@
 //! command with its ticket (`copied_law`, `Ends`). `put` writes the input part by part in order, at
 //! most 8 commands without an outcome. Ok says that the parts are the whole input, that none was
 //! refused or given up, and with a flush that each was acknowledged before it, and then the flush
-//! (`put_law`, `IsWritten`, `EndsBy`); with `verify` also that all sectors came back equal, and
-//! `Differs` names the first that didn't (`IsCompared`). `flush` is a `put` of nothing (`Flushes`).
+//! (`put_law`, `IsWritten`, `EndsBy`); with `verify` each part ended so, and all its sectors came back
+//! equal before the next was sent (`AreChecked`); `Differs` names the first that didn't
+//! (`IsCompared`). `flush` is a `put` of nothing (`Flushes`).
 //!
 //! Only tested: what a [`Watch`] is told and where a copy broke off (`aoe_host_tests`, `copies`;
 //! `tests/tools`). No clause bounds its memory, or the tags of more than 4,294,967,295 commands.

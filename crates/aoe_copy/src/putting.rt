@@ -12,7 +12,7 @@ ghost use Rattle.aoe_copy.specs.Copying.{InOrder, Takes};
 ghost use Rattle.aoe_copy.specs.Feed.{ahead};
 ghost use Rattle.aoe_copy.specs.PutRuns.{PutSeen, PutSetting, Runs};
 ghost use Rattle.aoe_copy.specs.PutSteps.{PutStep};
-ghost use Rattle.aoe_copy.specs.Putting.{end_of, may_flush, may_read, reads_left, room_of, stage_behind, stage_past, Begins, Collects, FlushesOne, IsFit, IsPiece, Keeps, MayBegin, ReadsOn, Setting, Stands, Turns, WritesOne, WritesSome};
+ghost use Rattle.aoe_copy.specs.Putting.{end_of, may_flush, may_read, reads_left, room_of, stage_behind, stage_past, Begins, Collects, FlushesOne, IsFit, Keeps, MayBegin, ReadsOn, Setting, Stands, Turns, WritesOne, WritesSome};
 ghost use Rattle.aoe_copy.specs.Window.{most_open};
 
 use crate::copying::Passed;
@@ -83,7 +83,10 @@ pub(crate) struct Putting<'a> {
 
     feed: Feed<'a>,
 
-    /// How many commands were submitted.
+    /// The ticket that the host gave last before.
+    before: u64,
+
+    /// The ticket that it gave last.
     asked: u64,
 
     /// How many sectors were submitted.
@@ -95,17 +98,19 @@ pub(crate) struct Putting<'a> {
 }
 
 impl<'a> Putting<'a> {
-    /// A copy of an input with this front by a host that is attached to the one device, and did
-    /// nothing yet.
+    /// A copy of an input with this front by a host that is attached to the one device, and gave so
+    /// many tickets before.
     pub(crate) fn new(
         alloc: Global,
         host: Initiator,
+        before: u64,
         plan: Plan,
         flush: bool,
         front: &'a [u8],
     ) -> Putting<'a>
         requires attached { length host.devices ≡ 1 }
-        requires new { host.last_ticket ≡ 0 }
+        requires given { before ≡ host.last_ticket }
+        requires few { before ≤ 2 ^ 62 }
         requires small { plan.at + plan.count ≤ 2 ^ 48 }
         requires some { 0 < plan.max }
         requires max { plan.max ≤ 17 }
@@ -120,7 +125,8 @@ impl<'a> Putting<'a> {
             plan,
             flush,
             feed: Feed::new(front),
-            asked: 0,
+            before,
+            asked: before,
             reached: 0,
             stage: Stage::Reading,
             flying: Flying::new(),
@@ -132,7 +138,6 @@ impl<'a> Putting<'a> {
         requires { IsFit self }
         ensures host { result.0 ≡ self.entry.host }
         ensures asked { result.1 ≡ self.entry.host.last_ticket }
-        ensures few { result.1 ≤ 2 ^ 49 }
         ensures attached { length self.entry.host.devices ≡ 1 }
     {
         let Putting { host, asked, .. } = self;
@@ -210,40 +215,6 @@ impl<'a> Putting<'a> {
     {
         let left = self.plan.count - self.reached;
         u64::from(self.plan.max).min(left) as u32
-    }
-
-    /// The next bytes of the input, as many as are wanted, or fewer where it ends: the whole sectors,
-    /// and how many bytes are behind them. Room for them is asked for before they are read.
-    fn read_piece<S: Source>(
-        &mut self,
-        source: &mut S,
-        want: usize,
-    ) -> Result<(Blob, usize), CopyRefusal>
-        requires fit { IsFit self.old }
-        requires some { 0 < want }
-        ensures same { self.new ≡ record self.old { feed = self.new.feed } }
-        ensures fit { OnOk result (IsFit self.new) }
-        ensures piece { IfOk result (λ r. IsPiece want (S.left source.old) (S.left source.new)
-            (ahead self.old.feed) (ahead self.new.feed) r.0 r.1) }
-        ensures failed { OnErr result (GaveSome (S.left source.old) (S.left source.new)) }
-        ensures memory { IfErr result (λ e. e ≢ CopyRefusal.SourceFault
-            → (e ≡ CopyRefusal.Tool ToolRefusal.NoMemory)
-            × (S.left source.new ≡ S.left source.old)) }
-        ensures count { S.faults source.old ≤ S.faults source.new }
-        ensures source { Blamed (result ≡ Err CopyRefusal.SourceFault) (S.faults source.old)
-            (S.faults source.new) }
-    {
-        let mut piece = match Vec::from_elem(self.alloc, 0u8, want) {
-            Ok(piece) => piece,
-            Err(_) => return Err(CopyRefusal::Tool(ToolRefusal::NoMemory)),
-        };
-        let n = match self.feed.fill(source, piece.as_mut_slice()) {
-            Ok(n) => n,
-            Err(Failed) => return Err(CopyRefusal::SourceFault),
-        };
-        let rest = n % SECTOR_LEN;
-        piece.truncate(n - rest);
-        Ok((Blob::from_vec(piece), rest))
     }
 
     /// Submits the next write.
@@ -324,7 +295,7 @@ impl<'a> Putting<'a> {
             (S.faults source.new) }
     {
         let want = SECTOR_LEN * room as usize;
-        match self.read_piece(source, want) {
+        match self.feed.piece(self.alloc, source, want) {
             Ok((sectors, rest)) if sectors.bytes().len() < want => self.write_last(sectors, rest),
             Ok((sectors, _)) => self.submit_write(sectors),
             Err(refusal) => Err(refusal),
@@ -348,7 +319,7 @@ impl<'a> Putting<'a> {
         ensures source { Blamed (result ≡ Err CopyRefusal.SourceFault) (S.faults source.old)
             (S.faults source.new) }
     {
-        match self.read_piece(source, SECTOR_LEN) {
+        match self.feed.piece(self.alloc, source, SECTOR_LEN) {
             Ok((sectors, rest)) => {
                 self.stage = stage_past(sectors.bytes().len() + rest);
                 Ok(())
@@ -533,9 +504,8 @@ impl<'a> Putting<'a> {
     fn acknowledged(&self) -> u64 {
         match self.flying.first() {
             Some(ticket) => {
-                let before = ticket.saturating_sub(1);
-                before
-                    .saturating_mul(u64::from(self.plan.max))
+                let done = ticket.saturating_sub(self.before).saturating_sub(1);
+                done.saturating_mul(u64::from(self.plan.max))
                     .min(self.reached)
             }
             None => self.reached,

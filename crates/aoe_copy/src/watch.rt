@@ -20,3 +20,18 @@ impl Watch for Unwatched {
 
     fn reached(&mut self, sectors: u64) {}
 }
+
+/// Of a part of a copy, whoever is told of the whole: so many sectors were reached before the part.
+#[derive(Drop)]
+pub(crate) struct Onward<'a, W: Watch> {
+    pub(crate) watch: &'a mut W,
+    pub(crate) before: u64,
+}
+
+impl<'a, W: Watch> Watch for Onward<'a, W> {
+    fn planned(&mut self, sectors: u64) {}
+
+    fn reached(&mut self, sectors: u64) {
+        self.watch.reached(self.before.saturating_add(sectors));
+    }
+}

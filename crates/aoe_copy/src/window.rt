@@ -39,7 +39,9 @@ impl Window {
     }
 
     /// The last ticket of the commands whose sectors were given to the sink.
-    pub(crate) fn given(&self) -> u64 {
+    pub(crate) fn given(&self) -> u64
+        ensures { result ≡ self.now.given }
+    {
         self.given
     }
 

@@ -1,7 +1,7 @@
 use Rattle.std.proofs.Common.{◌∙◌, ap}
 use Rattle.aoe.specs.Tools.{is_copy_status}
 use Rattle.aoe.proofs.Blame.{retold}
-use Rattle.aoe.proofs.CopyLemmas.{copied-link, copied-source, told-status, unlimited}
+use Rattle.aoe.proofs.CopyLemmas.{copied-link, copied-source, told-status}
 use Rattle.aoe.proofs.tools.run_put.Goals as goal
 
 pub returns-in-Err-clause-status : goal.returns-in-Err-clause-status
@@ -18,5 +18,4 @@ returns-in-Err-clause-run g c = record {
   result = _;
   runs = rw c.terms_of-terms.ensures at c.in-Err.ensures.run;
   ends = c.copy_status.ensures;
-  unlimited = λ fast. unlimited _ c.in-Err.refusal c.copy_status.ensures (c.in-Err.ensures.unlimited fast);
 }

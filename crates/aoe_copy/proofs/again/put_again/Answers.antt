@@ -1,4 +1,4 @@
-use Rattle.std.proofs.Common.{inl, inr, refl}
+use Rattle.std.proofs.Common.{arith, inl, inr, refl}
 use Rattle.aoe_copy.proofs.again.put_again.Goals as goal
 
 pub returns-in-Err-clause-run : goal.returns-in-Err-clause-run
@@ -20,7 +20,7 @@ returns-in-None-clause-run g c = record {
   found = _;
   mid = _;
   finds = c.in-Ok.ensures.finds;
-  copies = inl (c.in-None.ensures.none, refl, refl);
+  copies = inl (omega (arith, c.in-None.ensures.none), refl, refl);
 }
 
 pub returns-in-Some-clause-run : goal.returns-in-Some-clause-run
@@ -31,5 +31,5 @@ returns-in-Some-clause-run g c = record {
   found = _;
   mid = _;
   finds = c.in-Ok.ensures.finds;
-  copies = let plan = c.in-Some.ensures.some in inr (plan.1, rw plan.0 at c.write_and_read.ensures.runs);
+  copies = let plan = c.in-Some.ensures.some in inr (omega (arith, plan.1), rw plan.0 at c.check_in.ensures.checks);
 }

@@ -1,4 +1,4 @@
-use Rattle.std.proofs.Common.{inl, inr, refl}
+use Rattle.std.proofs.Common.{arith, inl, inr, refl}
 use Rattle.aoe_copy.proofs.copy.get.Goals as goal
 
 pub returns-in-Err-clause-run : goal.returns-in-Err-clause-run
@@ -20,7 +20,7 @@ returns-in-Some-clause-run g c = record {
   found = _;
   mid = _;
   finds = c.in-Ok.ensures.finds;
-  copies = let plan = c.in-Some.ensures.some in inr (plan.1, rw plan.0 at c.copy_out.ensures.runs);
+  copies = let plan = c.in-Some.ensures.some in inr (omega (arith, c.if-device-eq0.false), plan.1, rw plan.0 at c.copy_out.ensures.runs);
 }
 
 pub returns-in-None-clause-run : goal.returns-in-None-clause-run
@@ -31,5 +31,16 @@ returns-in-None-clause-run g c = record {
   found = _;
   mid = _;
   finds = c.in-Ok.ensures.finds;
-  copies = inl (c.in-None.ensures.none, refl, refl);
+  copies = inl (inr c.in-None.ensures.none, refl, refl);
+}
+
+pub returns-then-device-eq0-clause-run : goal.returns-then-device-eq0-clause-run
+returns-then-device-eq0-clause-run g c = record {
+  first = c.now-first.result;
+  later = g.C.Clock.answers c.now-first.new.self;
+  answered = record { least_is = c.now-first.ensures.least; told = c.now-first.ensures.told };
+  found = _;
+  mid = _;
+  finds = c.in-Ok.ensures.finds;
+  copies = inl (inl c.if-device-eq0.true, refl, refl);
 }

@@ -1,6 +1,5 @@
 use Rattle.std.proofs.Common.{ap, inl, inr, refl, arith}
 use Rattle.aoe_copy.specs.declared.plan.Plan.{Plan}
-use Rattle.aoe_copy.proofs.Unlimited.{unlimited}
 use Rattle.aoe_copy.proofs.into.put_front.Goals as goal
 
 pub returns-in-Err-clause-run : goal.returns-in-Err-clause-run
@@ -48,6 +47,3 @@ returns-clause-run g c = record {
   copies = let plan = c.in-Some.ensures.some in
       inr (omega (arith, plan.1, ap (λ (p : Plan). p.count) plan.0, c.if-front_count-plan.false), rw plan.0 at c.copy_in.ensures.runs);
 }
-
-pub returns-clause-unlimited : goal.returns-clause-unlimited
-returns-clause-unlimited g c limit = unlimited _ c.args.terms.now _ _ _ _ _ _ _ c.copy_in.ensures.runs limit

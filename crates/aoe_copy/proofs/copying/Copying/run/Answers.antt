@@ -14,6 +14,13 @@ turns-init g c = record {
 pub returns-in-Ok-Over-clause-run : goal.returns-in-Ok-Over-clause-run
 returns-in-Ok-Over-clause-run g c = λ b p begins.
     let s = c.turns.invariant.so b p begins in
+    let t = rw c.in-Ok-Over.field-0-is at
+    (c.in-Ok-Over.ensures.turn _ _ _ s.steps c.now.ensures.told s.stands s.keeps s.order (may-begin s c.args.turns refl c.turns-test.true)) in
+    t.0
+
+pub returns-in-Ok-Over-clause-ran : goal.returns-in-Ok-Over-clause-ran
+returns-in-Ok-Over-clause-ran g c = λ b p begins.
+    let s = c.turns.invariant.so b p begins in
     rw c.in-Ok-Over.field-0-is at
     (c.in-Ok-Over.ensures.turn _ _ _ s.steps c.now.ensures.told s.stands s.keeps s.order (may-begin s c.args.turns refl c.turns-test.true))
 

@@ -1,5 +1,4 @@
-use Rattle.std.proofs.Common.{refl, sym, ap, ◌∙◌}
-use Rattle.aoe_copy.specs.declared.putting.Putting.{Putting}
+use Rattle.std.proofs.Common.{refl, sym, ◌∙◌}
 use Rattle.aoe_copy.proofs.PutStepLemmas.{ends-unread, may-read, past-more, room-is}
 use Rattle.aoe_copy.proofs.putting.Putting.look_behind.Goals as goal
 
@@ -7,7 +6,7 @@ pub returns-in-Ok-clause-reads : goal.returns-in-Ok-clause-reads
 returns-in-Ok-clause-reads g c = λ s seen steps stands keeps well ticked.
     let may = may-read stands keeps c.requires.may in
     past-more _ stands may.reads well ticked c.in-Ok.ensures.piece refl may (sym (room-is keeps) ∙ c.requires.none) keeps
-    (ap (λ (z : Putting). record z { stage = c.stage_past-self.result }) c.in-Ok.ensures.same) (rw c.bytes.ensures at c.stage_past-self.ensures)
+    refl (rw c.bytes.ensures at c.stage_past-self.ensures)
 
 pub returns-in-Err-clause-reads : goal.returns-in-Err-clause-reads
 returns-in-Err-clause-reads g c = λ s seen steps stands keeps well ticked.

@@ -1,6 +1,6 @@
 use Rattle.std.proofs.Common.{ℕ, ◌-◌, ◌%◌, List, take, ap, ◌∙◌, arith}
 use Rattle.aoe_copy.proofs.FeedLemmas.{lent-whole, piece-of}
-use Rattle.aoe_copy.proofs.putting.Putting.read_piece.Goals as goal
+use Rattle.aoe_copy.proofs.feed.Feed.piece.Goals as goal
 
 pub returns-clause-piece : goal.returns-clause-piece
 returns-clause-piece g c =
