@@ -1,12 +1,12 @@
 -- The sectors of a copy into a device that are read again by the same host.
-use Rattle.std.proofs.Common.{ℕ, ◌≡◌, ◌≢◌, ◌+◌, ◌*◌, ◌/◌, ◌%◌, ◌<◌, ◌≤◌, ◌⊎◌, Bool, true, false, nat_eq, List, [], ◌∷◌, ◌++◌, length, Option, Some, refl, sym, ap, ◌∙◌, arith, inl, inr, append-nil}
+use Rattle.std.proofs.Common.{ℕ, ◌≡◌, ◌≢◌, ◌+◌, ◌*◌, ◌/◌, ◌%◌, ◌<◌, ◌≤◌, ◌⊎◌, Bool, true, false, nat_eq, List, [], ◌∷◌, ◌++◌, length, Option, Some, refl, ap, ◌∙◌, arith, inl, inr, append-nil}
 use Rattle.std.specs.Prelude.{All, Ok, Err, IfOk, OnOk, Result}
 use Rattle.std.proofs.lemmas.Bool.{cases_lt, eqb-false}
 use Rattle.std.proofs.lemmas.List.{append_assoc, nil_from_length}
 use Rattle.std.proofs.lemmas.List.Elements.{All-head, All-tail}
 use Rattle.std.proofs.lemmas.Option.{same_Some}
 use Rattle.aoe_block.specs.Answered.{IsStart}
-use Rattle.aoe_block.specs.Steps.{asked, log_of, ops, Drives, Seen, Start, Step}
+use Rattle.aoe_block.specs.Steps.{log_of, ops, Drives, Seen, Start, Step}
 use Rattle.aoe_initiator.specs.Host.{Host}
 use Rattle.aoe_io.specs.Bytes.{GaveSome, IsEnded}
 use Rattle.aoe_tools.specs.declared.end.ToolRefusal.TheVariants as tool
@@ -18,7 +18,7 @@ use Rattle.aoe_copy.specs.Again.{holding, part_bytes, part_plan, part_setting, s
 use Rattle.aoe_copy.specs.Checking.{count_more, PartEnds, ReadsInto}
 use Rattle.aoe_copy.specs.Feed.{IsPiece}
 use Rattle.aoe_copy.specs.PutRuns.{HasFed, PutSeen, PutSetting, Runs as Writes}
-use Rattle.aoe_copy.specs.PutSteps.{count_of, has_flush, pieces}
+use Rattle.aoe_copy.specs.PutSteps.{count_of, has_flush}
 use Rattle.aoe_copy.specs.Runs.{Runs}
 use Rattle.aoe_copy.specs.Steps.{patience, written}
 use Rattle.aoe_copy.specs.Window.{in_order}

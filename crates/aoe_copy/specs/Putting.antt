@@ -1,5 +1,5 @@
 -- What a copy into a device keeps while it runs, and what it is true of: the steps so far, and what link, clock and source tell of them.
-use Rattle.std.specs.Prelude.{ℕ, suc, ◌≡◌, ◌+◌, ◌-◌, ◌*◌, ◌/◌, ◌%◌, ◌^◌, ◌<◌, ◌≤◌, ◌⊎◌, min, nat_eq, nat_lt, not, Bool, true, false, ◌&&◌, List, [], ◌∷◌, ◌++◌, length, Option, Some, None, Result, Ok, Err, if◌then◌else◌}
+use Rattle.std.specs.Prelude.{ℕ, suc, ◌≡◌, ◌+◌, ◌-◌, ◌*◌, ◌/◌, ◌^◌, ◌<◌, ◌≤◌, ◌⊎◌, min, nat_eq, nat_lt, not, Bool, true, false, ◌&&◌, List, [], ◌∷◌, ◌++◌, length, Option, Some, None, Result, Ok, Err, if◌then◌else◌}
 use Rattle.aoe_block.specs.Answered.{IsStart}
 use Rattle.aoe_block.specs.Steps.{has_ticked, open_of, outcomes, quiet_turns, AreSteps, Drives, GoesOn}
 use Rattle.aoe_block.specs.Turns.{quiet_by, the_device, Heard}
@@ -18,7 +18,7 @@ use Rattle.aoe_copy.specs.declared.putting.Putting.{Putting}
 use Rattle.aoe_copy.specs.declared.putting.Stage.{Stage}
 use Rattle.aoe_copy.specs.declared.putting.Stage.TheVariants as stage
 use Rattle.aoe_copy.specs.Copying.{count_heard, InOrder}
-use Rattle.aoe_copy.specs.Feed.{ahead, Feeds, IsFeed}
+use Rattle.aoe_copy.specs.Feed.{ahead, IsFeed}
 use Rattle.aoe_copy.specs.PutRuns.{HasPut, PutSeen, PutSetting, Runs}
 use Rattle.aoe_copy.specs.PutSteps.{count_of, pieces, rest_of, stage_of, written, AreFull, PutLaw, PutStep}
 use Rattle.aoe_copy.specs.Steps.{patience}

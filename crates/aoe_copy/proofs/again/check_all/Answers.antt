@@ -1,4 +1,4 @@
-use Rattle.std.proofs.Common.{[], append-nil, ◌∙◌, sym, arith, refl}
+use Rattle.std.proofs.Common.{[], append-nil, ◌∙◌, arith, refl}
 use Rattle.aoe_io.proofs.BytesLemmas.{Gave-nothing}
 use Rattle.aoe_copy.proofs.again.check_all.Goals as goal
 

@@ -1,4 +1,3 @@
-use Rattle.std.proofs.Common.{inl, inr, refl}
 use Rattle.aoe_copy.proofs.HostLemmas.{starts-new}
 use Rattle.aoe_copy.proofs.again.check_in.Goals as goal
 

@@ -1,7 +1,6 @@
-use Rattle.std.proofs.Common.{ℕ, ◌≡◌, ◌+◌, ◌*◌, ◌/◌, List, [], ◌∷◌, length, ap, ◌∙◌, sym, arith, inl, inr, refl}
+use Rattle.std.proofs.Common.{ℕ, ◌≡◌, ◌*◌, List, [], ◌∷◌, length, ap, ◌∙◌, sym, arith, inl, inr, refl}
 use Rattle.std.proofs.lemmas.Bool.{eqb-true}
 use Rattle.std.proofs.lemmas.List.Elements.{All-cons}
-use Rattle.aoe_copy.specs.declared.end.CopyRefusal.{CopyRefusal}
 use Rattle.aoe_copy.specs.declared.end.CopyRefusal.TheVariants as copy
 use Rattle.aoe_copy.specs.Again.{IsFull}
 use Rattle.aoe_copy.specs.Feed.{ahead}

@@ -1,4 +1,4 @@
-use Rattle.std.proofs.Common.{◌≡◌, ap, ◌∙◌, sym, arith, inl, inr, refl}
+use Rattle.std.proofs.Common.{ap, ◌∙◌, sym, arith, inl, inr, refl}
 use Rattle.aoe_block.specs.Steps.{log_of}
 use Rattle.aoe_initiator.specs.Host.{Host}
 use Rattle.aoe_copy.proofs.AgainLemmas.{few-more, part-ended, starts-again, writes-tickets}
