@@ -6,7 +6,7 @@ use Rattle.aoe_disk.specs.State.{Contents, HasShape, IsDisk, BothTell}
 use Rattle.aoe_disk.specs.Calls.{IsRun, Syncs, SyncsTo}
 use Rattle.aoe_store.specs.Store.{Stores, StoresTo}
 use Rattle.aoe_mirror.specs.Sides.{Agree, IsMark, IsMirror, Pair, both, seen, shown, side_of, turned}
-use Rattle.aoe_mirror.specs.Calls.{Counts, FollowerFailed, LeadFailed, SettlesLead}
+use Rattle.aoe_mirror.specs.Calls.{Counts, FollowerFailed, LeadFailed, NewFollowerFailed, SettlesLead}
 use Rattle.aoe_mirror.proofs.Told.{and_if, both_swap, both_if, if_mono, map_if, told_tells}
 use Rattle.aoe_mirror.proofs.Whole.{Fit, agree_swapped, seen_shape, seen_swapped}
 use Rattle.aoe_mirror.specs.Marks.{count_of}
@@ -54,6 +54,13 @@ lead_moved old new le e rose = rw (ne_eqb old.side new.side (λ q. absurd (omega
 
 pub follower_moved : (old new : Pair) → new.side ≡ 1 - old.side → Rose old.follower.faults new.lead.faults → FollowerFailed old new
 follower_moved old new e rose = rw (eq-eqb (1 - old.side) new.side (sym e)) rose
+
+-- the side that follows from then on
+pub newly_same : (old new : Pair) → old.side ≤ 1 → new.side ≡ old.side → Rose old.follower.faults new.follower.faults → NewFollowerFailed old new
+newly_same old new le e rose = rw (ne_eqb (1 - new.side) old.side (λ q. absurd (omega arith))) rose
+
+pub newly_moved : (old new : Pair) → old.side ≤ 1 → new.side ≡ 1 - old.side → Rose old.lead.faults new.follower.faults → NewFollowerFailed old new
+newly_moved old new le e rose = rw (eq-eqb (1 - new.side) old.side (omega arith)) rose
 
 -- A MIRROR AS A STORE
 
@@ -191,3 +198,10 @@ follower_later old mid new le counts failed = λ low.
     let h : (side_of mid (1 - old.side)).faults ≤ (side_of new (1 - old.side)).faults =
     rw (ne_eqb (1 - old.side) 2 (λ e. absurd (omega arith))) at (counts (1 - old.side) (omega arith)) in
     omega arith
+
+pub newly_later : (old mid new : Pair) → mid.side ≤ 1 → new.side ≡ mid.side → Counts mid new → NewFollowerFailed old mid → NewFollowerFailed old new
+newly_later old mid new le same counts failed =
+    let h : mid.follower.faults ≤ new.follower.faults =
+    rw (ne_eqb (1 - mid.side) 2 (λ e. absurd (omega arith)), ne_eqb (1 - mid.side) mid.side (λ e. absurd (omega arith)), same,
+    ne_eqb (1 - mid.side) mid.side (λ e. absurd (omega arith))) at (counts (1 - mid.side) (omega arith)) in
+    rw same (λ low. let more : (side_of old (1 - mid.side)).faults < mid.follower.faults = failed low in omega arith)

@@ -10,12 +10,12 @@ use Rattle.aoe_disk.specs.Sectors.{Calms}
 use Rattle.aoe_disk.proofs.Touching.{calm_refl, settles_calm, settles_kept}
 use Rattle.aoe_mirror.specs.Marks.{AreSet, count_of}
 use Rattle.aoe_mirror.specs.Sides.{Agree, IsMirror, Pair, both, disk_of, seen, shown, turned}
-use Rattle.aoe_mirror.specs.Calls.{Answer, Blames, Copies, CopiesNext, Counts, DiskFailed, FollowerFailed, FollowerSyncs, Later, LeadFailed, Leads, MarkFailed, MirrorSyncs, SettlesLead, StaysLead, StaysWhole, TakesLead, lowest}
+use Rattle.aoe_mirror.specs.Calls.{Answer, Blames, Copies, CopiesNext, Counts, DiskFailed, FollowerFailed, FollowerSyncs, Later, LeadFailed, Leads, MarkFailed, MirrorSyncs, NewFollowerFailed, SettlesLead, StaysLead, StaysWhole, TakesLead, lowest}
 use Rattle.aoe_mirror.proofs.Told.{and_if, both_if, if_any, map_if, told_both, told_ends, told_if, told_map, told_mono, told_same, told_then, told_to}
 use Rattle.aoe_mirror.proofs.Bits.{next_set, with_each_inside, with_each_outside}
 use Rattle.aoe_mirror.proofs.Whole.{Fit, cases_range}
 use Rattle.aoe_mirror.proofs.Quiet.{Grows, agree_calm, calm_by, calm_may, calm_settles, calm_then, grows_all, grows_if, grows_refl, none_seen, seen_calm, settled_by}
-use Rattle.aoe_mirror.proofs.Steps.{Holds, counts_moved, counts_same, counts_then, fit_of, follower_later, lead_later, settled_counts, follower_moved, follower_same, holds_of, lead_moved, lead_same, rose_part, settled_faults, settled_mirror, settled_sectors, settled_shown, settled_side, settled_stale, shown_if, synced, turned_mirror, turned_shown}
+use Rattle.aoe_mirror.proofs.Steps.{Holds, counts_moved, counts_same, counts_then, fit_of, lead_later, newly_later, newly_moved, newly_same, settled_counts, follower_moved, follower_same, holds_of, lead_moved, lead_same, rose_part, settled_faults, settled_mirror, settled_sectors, settled_shown, settled_side, settled_stale, shown_if, synced, turned_mirror, turned_shown}
 
 abbrev pub Quiet : Contents → Type 0
 Quiet c = (s : ℕ) → is_loose c.loose s ≡ false
@@ -166,7 +166,12 @@ module _ (old : Pair) (m : IsMirror old) (settled : old.settled ≡ true) (lead 
       mirror = through_is_mirror;
       syncs = synced old through_pair m through_is_mirror sync.call.sectors (omega (arith, sync.call.later, f.sync.call.later)) result
           (sync_ok result old through_pair m through_is_mirror done through_is_calm through_is_quiet) (λ bad. absurd (both_ways (is_err result) done bad));
-      keeps = record { later = omega arith; stale = λ s was now. inr (follower_fell (newly_if (is_err f.answer) old.stale s was now)); lead = inl refl };
+      keeps = record {
+        later = omega arith;
+        stale = λ s was now. inl (newly_same old through_pair m.mark.side refl
+            (OnTrue_at (newly_if (is_err f.answer) old.stale s was now) f.sync.call.cause));
+        lead = inl refl;
+      };
       counts = counts_same old through_pair refl sync.call.later f.sync.call.later (omega arith);
       settled = λ _. settled;
       cause = λ bad. absurd (both_ways (is_err result) done bad);
@@ -244,6 +249,9 @@ module _ (old : Pair) (m : IsMirror old) (settled : old.settled ≡ true) (lead 
       mid_failed : LeadFailed old t.mid
       mid_failed = lead_moved old t.mid m.mark.side mid_side (rw mid_follower fell)
 
+      mid_trails : NewFollowerFailed old t.mid
+      mid_trails = newly_moved old t.mid m.mark.side mid_side (rw mid_follower fell)
+
       mid_by : {T E : Type 0} (result : Result T E) → is_err result ≡ true → t.fails ≡ true → MirrorSyncs result old t.mid
       mid_by result failed e =
           let faults = settled_faults t.fails (turned eased) t.mid t.settles in
@@ -253,7 +261,7 @@ module _ (old : Pair) (m : IsMirror old) (settled : old.settled ≡ true) (lead 
             syncs = synced old t.mid m mid_mirror (ap (λ (d : DiskState). d.sectors) mid_lead ∙ m.size)
                 (omega (arith, faults, later, sync.call.later)) result (sync_err result old t.mid m mid_mirror failed mid_calm)
                 (λ _. rose_part old.lead.faults lead.faults (shown old).faults (shown t.mid).faults fell (omega arith) (omega (arith, faults, later)));
-            keeps = record { later = later; stale = λ _ was now. inl mid_failed; lead = inr mid_failed };
+            keeps = record { later = later; stale = λ _ was now. inl mid_trails; lead = inr mid_failed };
             counts = counts_moved old t.mid m.mark.side mid_side (rw mid_follower sync.call.later) (rw mid_lead (omega arith)) later;
             settled = λ ok. absurd (both_ways (is_err result) ok failed);
             cause = λ _. inr (inr (t.settles.cause e));
@@ -289,6 +297,9 @@ module _ (old : Pair) (m : IsMirror old) (settled : old.settled ≡ true) (lead 
         last_lead_failed : LeadFailed old last
         last_lead_failed = lead_moved old last m.mark.side mid_side (rw mid_follower fell)
 
+        last_trails : NewFollowerFailed old last
+        last_trails = newly_moved old last m.mark.side mid_side (rw mid_follower fell)
+
         last_follower_failed : is_err x.answer ≡ true → FollowerFailed old last
         last_follower_failed failed = follower_moved old last mid_side (rw mid_lead at (OnTrue_at failed x.sync.call.cause))
 
@@ -309,7 +320,7 @@ module _ (old : Pair) (m : IsMirror old) (settled : old.settled ≡ true) (lead 
                   (omega (arith, later, one, two, three, sync.call.later)) result (last_syncs result (is_err x.answer) refl is)
                   (λ _. rose_part old.lead.faults lead.faults (shown old).faults (shown last).faults fell (omega arith)
                   (omega (arith, later, one, two, three)));
-              keeps = record { later = later; stale = λ _ was now. inl last_lead_failed; lead = inr last_lead_failed };
+              keeps = record { later = later; stale = λ _ was now. inl last_trails; lead = inr last_lead_failed };
               counts = counts_moved old last m.mark.side mid_side (rw mid_follower sync.call.later) (rw mid_lead at one) later;
               settled = λ _. settled_mid;
               cause = λ failed. inr (inl (last_lead_failed, last_follower_failed (sym is ∙ failed)));
@@ -448,8 +459,8 @@ run_syncs {T = T} {E = E} {S = S} {F = F} v w at n failed old mid new m s run c 
         later = let a = s.keeps.later in let b = c.counts 2 (omega arith) in omega arith;
         stale = λ k was now. elim (cases_Bool (is_loose mid.stale k)) [
           | inl on ↦ elim (s.keeps.stale k was on) [
-            | inl l ↦ inl (lead_later old mid new m.mark.side c.counts l)
-            | inr f ↦ inr (follower_later old mid new m.mark.side c.counts f)
+            | inl f ↦ inl (newly_later old mid new s.mirror.mark.side c.side c.counts f)
+            | inr l ↦ inr (lead_later old mid new m.mark.side c.counts l.0, l.1)
           ]
           | inr off ↦ absurd (both_ways _ (stale_before at n failed mid new run c k off) now)
         ];

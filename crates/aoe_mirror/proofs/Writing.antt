@@ -10,11 +10,11 @@ use Rattle.aoe_store.specs.Store.{MaySpoil, Stores}
 use Rattle.aoe_store.proofs.Spoiling.{spoils_may_spoil}
 use Rattle.aoe_mirror.specs.Marks.{count_of, with_each}
 use Rattle.aoe_mirror.specs.Sides.{Agree, IsMirror, Pair, both, seen, shown, turned}
-use Rattle.aoe_mirror.specs.Calls.{Answer, FollowerFailed, LeadFailed, MarkFailed, MarksWrite, MirrorWrites, SettlesLead, Swaps, Later}
+use Rattle.aoe_mirror.specs.Calls.{Answer, FollowerFailed, LeadFailed, MarkFailed, MarksWrite, MirrorWrites, NewFollowerFailed, SettlesLead, Swaps, Later}
 use Rattle.aoe_mirror.proofs.Bits.{length-with_each, with_each_inside, with_each_outside}
 use Rattle.aoe_mirror.proofs.Told.{told_both, told_if, told_map, told_mono, told_same, told_with}
 use Rattle.aoe_mirror.proofs.Whole.{Beside, Fit, agree_written, beside_refl, cases_range, loose_written, puts_beside, same_marks_each, same_piece, seen_shape, spoils_beside}
-use Rattle.aoe_mirror.proofs.Steps.{Holds, counts_moved, counts_same, counts_then, settled_counts, shown_if, turned_mirror, turned_shown, follower_same, holds_of, lead_moved, lead_same, rose_part, settled_faults, settled_mirror, settled_sectors, settled_shown, settled_side, settled_stale, stored}
+use Rattle.aoe_mirror.proofs.Steps.{Holds, counts_moved, counts_same, counts_then, settled_counts, shown_if, turned_mirror, turned_shown, follower_same, holds_of, lead_moved, lead_same, newly_moved, newly_same, rose_part, settled_faults, settled_mirror, settled_sectors, settled_shown, settled_side, settled_stale, stored}
 
 -- a write by its answer
 
@@ -137,7 +137,11 @@ module _ (at : ℕ) (piece : List ℕ) (old : Pair) (m : IsMirror old) (range : 
           (told_mono (Puts at piece) (Stores at piece result) (shown old).contents (shown through).contents through_puts
           (λ a b p. stores_put at piece result a b done p))
           (λ bad. absurd (both_ways (is_err result) done bad));
-      keeps = record { later = omega arith; stale = λ s was is. inr (follower_failed (newly s was is)); lead = inl refl };
+      keeps = record {
+        later = omega arith;
+        stale = λ s was is. inl (newly_same old through m.mark.side refl (OnTrue_at (newly s was is) f.call.cause));
+        lead = inl refl;
+      };
       counts = counts_same old through refl w.call.later f.call.later (omega arith);
       marks = rw done (marks_through (is_err answer) refl);
       settled = λ _. settled;
@@ -228,7 +232,14 @@ module _ (at : ℕ) (piece : List ℕ) (old : Pair) (m : IsMirror old) (range : 
             (told_mono (MaySpoil at (length piece)) (Stores at piece result) (shown old).contents (shown halted).contents halted_spoils
             (λ a b p. stores_spoilt at piece result a b failed p))
             (λ _. rose_part old.lead.faults lead.faults (shown old).faults (shown halted).faults lead_rose (omega arith) (omega (arith, after_later.later)));
-        keeps = record { later = omega arith; stale = λ s was is. inl lead_failed; lead = inl refl };
+        keeps = record {
+          later = omega arith;
+          stale = λ s was is. elim why [
+            | inl idle ↦ inr (lead_failed, idle.0)
+            | inr x ↦ inl (newly_same old halted m.mark.side refl (OnTrue_at x.1 x.2.call.cause))
+          ];
+          lead = inl refl;
+        };
         counts = counts_same old halted refl w.call.later after_later.later (omega arith);
         marks = inr (inl (inl lead_failed, refl));
         settled = λ ok. absurd (both_ways (is_err result) ok failed);
@@ -281,6 +292,9 @@ module _ (at : ℕ) (piece : List ℕ) (old : Pair) (m : IsMirror old) (range : 
   swap_lead_failed : LeadFailed old new
   swap_lead_failed = lead_moved old new m.mark.side moved (let e : new.follower ≡ lead = ap (λ (p : Pair). p.follower) settles.is in rw e lead_fell)
 
+  swap_trails : NewFollowerFailed old new
+  swap_trails = newly_moved old new m.mark.side moved (let e : new.follower ≡ lead = ap (λ (p : Pair). p.follower) settles.is in rw e lead_fell)
+
   pub swapped_writes : {T E : Type 0} (result : Result T E) → is_err result ≡ failed → MirrorWrites at piece result old new
   swapped_writes result is = record {
     mirror = new_mirror;
@@ -291,7 +305,7 @@ module _ (at : ℕ) (piece : List ℕ) (old : Pair) (m : IsMirror old) (range : 
         (λ _. let f = settled_faults failed mid new settles in
         rose_part old.lead.faults lead.faults (shown old).faults (shown new).faults lead_fell (omega arith)
         (omega (arith, f, s.write.call.later, settles.mark.later)));
-    keeps = record { later = settles.mark.later; stale = λ _ was now. inl swap_lead_failed; lead = inr swap_lead_failed };
+    keeps = record { later = settles.mark.later; stale = λ _ was now. inl swap_trails; lead = inr swap_lead_failed };
     counts = counts_moved old new m.mark.side moved
         (let e : new.follower.faults ≡ lead.faults = ap (λ (p : Pair). p.follower.faults) settles.is in let later = w.call.later in omega arith)
         (let e : new.lead.faults ≡ s.written.faults = ap (λ (p : Pair). p.lead.faults) settles.is in let later = s.write.call.later in omega arith)

@@ -24,6 +24,10 @@ MarkFailed old new = Rose old.mark.faults new.mark.faults
 abbrev pub DiskFailed : Pair → Pair → ℕ → Type 0
 DiskFailed old new k = Rose (disk_of old k).faults (disk_of new k).faults
 
+-- a call of the side failed that follows now
+abbrev pub NewFollowerFailed : Pair → Pair → Type 0
+NewFollowerFailed old new = Rose (side_of old (1 - new.side)).faults new.follower.faults
+
 -- side 0 failed, or side 1
 abbrev pub SideFailed : Pair → Pair → Type 0
 SideFailed old new = DiskFailed old new 0 ⊎ DiskFailed old new 1
@@ -41,10 +45,12 @@ pub record ReadCause (at n : ℕ) (old new : Pair) : Type 0 where
 abbrev pub Cause : Pair → Pair → Type 0
 Cause old new = (LeadFailed old new × (0 < count_of old.stale)) ⊎ ((LeadFailed old new × FollowerFailed old new) ⊎ MarkFailed old new)
 
--- a sector gets stale only where a side failed, and the lead changes only where the old lead failed
+-- a sector gets stale only where the side failed that follows then, or the lead did while another sector was stale; and the lead changes
+-- only where the old lead failed
 pub record Keeps (old new : Pair) : Type 0 where
   pub later : old.mark.faults ≤ new.mark.faults
-  pub stale : (s : ℕ) → is_loose old.stale s ≡ false → is_loose new.stale s ≡ true → LeadFailed old new ⊎ FollowerFailed old new
+  pub stale : (s : ℕ) → is_loose old.stale s ≡ false → is_loose new.stale s ≡ true
+      → NewFollowerFailed old new ⊎ (LeadFailed old new × (0 < count_of old.stale))
   pub lead : (new.side ≡ old.side) ⊎ LeadFailed old new
 
 -- the stale sectors after a write of n sectors: none of them where both sides were written, all of them where one failed, and as
