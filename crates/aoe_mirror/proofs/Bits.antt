@@ -69,6 +69,19 @@ none_count [] clear = refl
 none_count (true ∷ marks) clear = let e : true ≡ false = clear 0 in cc
 none_count (false ∷ marks) clear = none_count marks (λ s. clear (suc s))
 
+-- a mark that is set, where some are
+pub some_set : (marks : List Bool) → 0 < count_of marks → (s : ℕ) × (is_loose marks s ≡ true)
+unfolding count_of
+some_set [] some = absurd (omega (arith, some))
+some_set (true ∷ marks) some = (0, refl)
+some_set (false ∷ marks) some = let rest = some_set marks some in (suc rest.0, rest.1)
+
+pub set_some : (marks : List Bool) (s : ℕ) → is_loose marks s ≡ true → 0 < count_of marks
+set_some marks s on = elim (cases_lt 0 (count_of marks)) [
+  | inl some ↦ some
+  | inr none ↦ absurd (let off : is_loose marks s ≡ false = count_none marks s (omega arith) in let no : true ≡ false = sym on ∙ off in cc)
+]
+
 -- the test `word & bit != 0`
 pub bit_test : (word k : ℕ) → k < 64 → not (eqb (bit_and word (1 * 2 ^ k % 2 ^ 64)) 0) ≡ eqb (bit_at word k) 1
 bit_test word k h =

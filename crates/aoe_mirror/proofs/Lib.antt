@@ -18,3 +18,4 @@ pub mod Syncing
 pub mod Copying
 pub mod Passing
 pub mod Surviving
+pub mod Covering

@@ -202,6 +202,10 @@ follower_later old mid new le counts failed = λ low.
 pub newly_later : (old mid new : Pair) → mid.side ≤ 1 → new.side ≡ mid.side → Counts mid new → NewFollowerFailed old mid → NewFollowerFailed old new
 newly_later old mid new le same counts failed =
     let h : mid.follower.faults ≤ new.follower.faults =
-    rw (ne_eqb (1 - mid.side) 2 (λ e. absurd (omega arith)), ne_eqb (1 - mid.side) mid.side (λ e. absurd (omega arith)), same,
-    ne_eqb (1 - mid.side) mid.side (λ e. absurd (omega arith))) at (counts (1 - mid.side) (omega arith)) in
+    rw (
+      ne_eqb (1 - mid.side) 2 (λ e. absurd (omega arith)),
+      ne_eqb (1 - mid.side) mid.side (λ e. absurd (omega arith)),
+      same,
+      ne_eqb (1 - mid.side) mid.side (λ e. absurd (omega arith)),
+    ) at (counts (1 - mid.side) (omega arith)) in
     rw same (λ low. let more : (side_of old (1 - mid.side)).faults < mid.follower.faults = failed low in omega arith)

@@ -2,3 +2,4 @@ pub mod Marks
 pub mod Sides
 pub mod Calls
 pub mod Mirror
+pub mod Covering

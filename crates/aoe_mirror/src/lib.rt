@@ -25,8 +25,9 @@
 //! from one that is right where both answer. No two of the three disks may be one.
 //!
 //! Promised: the calls are those of a store over `shown`: the lead's sectors, each of which is the
-//! same on both sides where it isn't stale (`Agree`). A read fails only by `ReadCause`, a write or
-//! a sync only by `Cause`; after Ok the mark disk names the lead. `resync_all` leaves at most 64
+//! same on both sides where it isn't stale (`Agree`). A sector gets stale only where the side failed
+//! that follows then, or the lead while others were stale (`Keeps`). A read fails only by
+//! `ReadCause`, a write or a sync only by `Cause`; after Ok the mark disk names the lead. `resync_all` leaves at most 64
 //! stale sectors for each failure (`CopiesAll`), and an Ok sync ends with the copy of a run
 //! (`SyncsAndCopies`). After a crash of all three disks the side that the mark disk names has the
 //! mirror's bytes in each sector that isn't loose (`Survives`). A disk that `failed` names did fail

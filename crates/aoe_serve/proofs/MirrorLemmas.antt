@@ -1,5 +1,5 @@
 -- A mirror as the slot of a shelf.
-use Rattle.std.proofs.Common.{◌≡◌, ◌≤◌, ◌⊎◌, ℕ, zero, suc, Bool, true, false, List, [], ◌∷◌, ◌++◌, length, length-append, Option, Some, None, IfSome, Result, Ok, Err, is_err, is_some, refl, sym, ap, subst, ◌∙◌, inl, inr, arith, eq-eqb, ne_eqb, get_or}
+use Rattle.std.proofs.Common.{◌≡◌, ◌≤◌, ◌+◌, ◌-◌, ◌^◌, ◌==◌, ◌⊎◌, ℕ, min, zero, suc, Bool, true, false, List, [], ◌∷◌, ◌++◌, length, length-append, Option, Some, None, IfSome, Result, Ok, Err, is_err, is_some, refl, sym, ap, subst, ◌∙◌, inl, inr, arith, eq-eqb, ne_eqb, get_or}
 use Rattle.std.proofs.lemmas.Bool.{both_ways, cases_eq, cases_lt}
 use Rattle.std.proofs.lemmas.Option.{same_Some}
 use Rattle.std.specs.Prelude.{IsSome, OnErr, slice_get}
@@ -14,6 +14,7 @@ use Rattle.aoe_disk.proofs.Touching.{settles_calm, settles_kept}
 use Rattle.aoe_keep.specs.Found.{AlwaysFinds}
 use Rattle.aoe_keep.specs.Keep.{Kept}
 use Rattle.aoe_mirror.specs.Calls.{Answer, Blames, CopiesAll, Counts, MirrorSyncs, SideFailed}
+use Rattle.aoe_mirror.specs.Covering.{IsRunning, IsSince, first_count, has_held, is_covered, stored}
 use Rattle.aoe_mirror.specs.Marks.{count_of}
 use Rattle.aoe_mirror.specs.Mirror.{Mirrored, Mounts, first_of, pair, second_of, state_of}
 use Rattle.aoe_mirror.specs.Sides.{IsMirror, Pair, both, disk_of, pair_of, seen, shown, side_of}
@@ -26,24 +27,21 @@ use Rattle.aoe_mirror.proofs.Surviving.{survives}
 use Rattle.aoe_mirror.proofs.Syncing.{Quiet, sync_ok, synced_quiet}
 use Rattle.aoe_mirror.proofs.Told.{told_if, told_mono, told_then, told_to}
 use Rattle.aoe_mirror.proofs.Whole.{seen_at}
-use Rattle.aoe_serve.specs.Exporting.{FindsAll, HasRun, Outside, SyncsSlot, Tells, first_failed}
-use Rattle.aoe_serve.specs.Mirroring.{AreEqual, AreEqualBut, EndsMirror, HasFailed, IsBegun, IsLeftStale, IsMirrored, IsOf, IsSince, LeavesAlone, RanMirror, faults_of, has_ended}
-use Rattle.aoe_serve.specs.Slots.{EachSlot, Slot, slot_of, slots_of}
+use Rattle.aoe_serve.specs.Arrivals.{at_slot}
+use Rattle.aoe_serve.specs.Exporting.{AtFirst, FindsAll, HasRun, Outside, SyncsSlot, Tells, arrivals_in, first_failed}
+use Rattle.aoe_serve.specs.Mirroring.{AreEqual, AreEqualBut, EndsMirror, HasFailed, IsBegun, IsLeftStale, IsMirrored, IsOf, LeavesAlone, RanMirror, faults_of, has_ended}
+use Rattle.aoe_serve.specs.Slots.{EachSlot, IsServed, Slot, slot_of, slots_of}
 use Rattle.aoe_serve.specs.declared.over_mirror.MirrorDisks.{MirrorDisks}
 use Rattle.aoe_serve.specs.declared.over_mirror.MirrorEnd.{MirrorEnd}
 use Rattle.aoe_serve.specs.declared.plan.Plan.{Plan}
-use Rattle.aoe_serve.proofs.EndLemmas.{run_ends}
+use Rattle.aoe_mirror.proofs.Covering.{cause_uncovers, covered_before, covered_by, covered_count, held, least_count, stored_syncs}
+use Rattle.aoe_serve.proofs.EndLemmas.{run_ends, served_in}
 use Rattle.aoe_shelf.specs.Calls.{TakesLast}
+use Rattle.aoe_target.specs.History.{count_failed, store_failed}
 use Rattle.aoe_target.specs.Mounted.{Mounted}
 use Rattle.aoe_target.specs.declared.station.Station.{Station}
 
 -- Since the disks were handed in.
-
-pub since_then : (faults : ℕ → ℕ) (old new : Pair) → IsMirror new → Counts old new → IsSince faults old → IsSince faults new
-since_then faults old new m counts since = record {
-  mirror = m;
-  counts = λ k le. let before = since.counts k le in let after = counts k le in omega (arith, before, after);
-}
 
 -- the disks by their numbers
 module _ {D : Type 0} (state : D → DiskState) (s : Sides D) (one : s.side ≤ 1) where
@@ -90,6 +88,14 @@ begun_since state given s begun m c = record {
   counts = λ k le. let before = mounted_since state given s m k le in let after = c.counts k le in omega (arith, before, after);
 }
 
+-- a run that begins as `faults` and `whole` say
+pub run_begun : (faults given : ℕ → ℕ) (whole : Bool) (p : Pair) → faults ≡ given → (whole ≡ true → count_of p.stale ≡ 0) → IsSince given p
+    → IsRunning faults whole p
+run_begun faults given whole p same none s = record {
+  since = subst (λ (f : ℕ → ℕ). IsSince f p) (sym same) s;
+  trails = λ is some. let e = none is in absurd (omega (arith, e, some));
+}
+
 -- The last sync.
 
 pub ends_failed : (well : Bool) (failed : Option ℕ) (r : Answer) (old new : Pair) → is_err r ≡ true → MirrorSyncs r old new → OnErr r (IsSome failed)
@@ -101,6 +107,7 @@ ends_failed well failed (Err e) old new bad s some blames = record {
   syncs = s.syncs;
   mirror = s.mirror;
   counts = s.counts;
+  cause = λ _. s.cause refl;
   blames = blames;
   whole = λ _ none. let no : false ≡ true = rw none at some in cc;
 }
@@ -113,6 +120,7 @@ ends_synced well (Ok v) old new not ok s = record {
   syncs = s.syncs;
   mirror = s.mirror;
   counts = s.counts;
+  cause = λ e. cc;
   blames = tt;
   whole = λ is _. absurd (both_ways well not is);
 }
@@ -136,6 +144,7 @@ ends_copied well (Ok v) old mid new m ok s c =
           (sync_ok {T = Unit {0}} {E = Failed} (Ok v) old new m c.mirror refl calm quiet) (λ e. cc);
       mirror = c.mirror;
       counts = counts_then old mid new s.counts c.counts;
+      cause = λ e. cc;
       blames = tt;
       whole = λ _ _. elim (cases_lt 0 c.fails) [
         | inl some ↦ inr (side_from old mid new s.counts c.counts (c.cause some))
@@ -175,34 +184,49 @@ each_one R x y r = record { count = refl; each = at }
 
 -- The mirror and the keep of the only slot: as they left it, with the mirror as its last sync and copying left it, and their disks as they
 -- were given back.
-pub record IsEnded {D : Type 0} (state : D → DiskState) (faults : ℕ → ℕ) (e : MirrorEnd) (back : MirrorDisks D) (targets : List (Mounted (Mirrored D) D))
-    : Type 0 where
+pub record IsEnded {D : Type 0} (state : D → DiskState) (faults : ℕ → ℕ) (whole : Bool) (e : MirrorEnd) (back : MirrorDisks D)
+    (targets : List (Mounted (Mirrored D) D)) : Type 0 where
   pub left : Mirrored D
   pub keep : Kept D
   pub alone : LeavesAlone left keep targets
-  pub since : IsSince faults (pair state left)
+  pub running : IsRunning faults whole (pair state left)
   pub ended : Mirrored D
   pub ends : EndsMirror (has_ended e.end) e.unsynced (pair state left) (pair state ended)
   pub told : IsLeftStale e (pair state ended)
   pub disks : IsOf state back (pair state ended)
   pub kept : back.keep ≡ keep.disk
 
-pub ran_mirror : {D S K L : Type 0} (state : D → DiskState) (name : ℕ → Station) (faults : ℕ → ℕ) (t : Tells S K L) (p : Plan) (e : MirrorEnd)
+-- the mirror as the store of a slot
+abbrev pub store_of : {D : Type 0} → (D → DiskState) → (ℕ → ℕ) → Bool → Mirrored D → DiskState
+store_of state faults whole m = stored faults whole (pair state m)
+
+unsynced_none : (unsynced : Option ℕ) (failed : Bool) → is_some unsynced ≡ failed → (failed ≡ true → ⊥) → unsynced ≡ None
+unsynced_none None failed e ok = refl
+unsynced_none (Some k) failed e ok = absurd (ok (sym e))
+
+uncounted : (shown n sum after : ℕ) → after ≡ min sum (2 ^ 64 - 2) → min sum (2 ^ 64 - 2) ≤ shown → min (shown + n) (2 ^ 64 - 1) ≤ after → n ≡ 0
+uncounted shown n sum after is least most = omega (arith, is, least, most)
+
+pub ran_mirror : {D S K L : Type 0} (state : D → DiskState) (name : ℕ → Station) (faults : ℕ → ℕ) (whole : Bool) (t : Tells S K L) (p : Plan) (e : MirrorEnd)
     (a b : Outside S K L) (mirror : Mirrored D) (kept : Kept D) (back : MirrorDisks D) (targets targets' : List (Mounted (Mirrored D) D))
+    → IsRunning faults whole (pair state mirror)
     → targets ≡ record { station = name (state_of state mirror).sectors; keep = kept; store = mirror } ∷ []
-    → HasRun t p e.end a b (slots_of false (state_of state) state targets) (slots_of false (state_of state) state targets')
-    → IsEnded state faults e back targets' → RanMirror state name faults t p e a b (pair state mirror) kept back
-ran_mirror {D} state name faults t p e a b mirror kept back targets targets' seated run x =
+    → HasRun t p e.end a b (slots_of false (store_of state faults whole) state targets) (slots_of false (store_of state faults whole) state targets')
+    → IsEnded state faults whole e back targets' → RanMirror state name faults whole t p e a b (pair state mirror) kept back
+ran_mirror {D} state name faults whole t p e a b mirror kept back targets targets' begins seated run x =
     let first : Slot = record {
       station = name (state_of state mirror).sectors;
       lasts = false;
-      device = record { lists = kept.lists; keep = state kept.disk; store = state_of state mirror };
+      device = record { lists = kept.lists; keep = state kept.disk; store = store_of state faults whole mirror };
     } in
-    let mid : Slot = slot_of false (state_of state) state x.alone.target in
-    let last : Slot = record mid { device = record mid.device { store = shown (pair state x.ended) } } in
+    let mid : Slot = slot_of false (store_of state faults whole) state x.alone.target in
+    let last : Slot = record mid { device = record mid.device { store = store_of state faults whole x.ended } } in
     let ran : HasRun t p e.end a b (first ∷ []) (mid ∷ []) = rw (seated, x.alone.only) at run in
-    let syncs : SyncsTo x.ends.answer mid.device.store (shown (pair state x.ended)) =
-    subst (λ (m : Mirrored D). SyncsTo x.ends.answer (state_of state m) (shown (pair state x.ended))) x.alone.store x.ends.syncs in
+    let syncs : SyncsTo x.ends.answer mid.device.store (store_of state faults whole x.ended) =
+    subst (λ (m : Mirrored D). SyncsTo x.ends.answer (store_of state faults whole m) (store_of state faults whole x.ended)) x.alone.store
+    (stored_syncs faults whole (pair state x.left) (pair state x.ended) x.running x.ends.counts x.ends.answer x.ends.cause x.ends.syncs) in
+    let served : IsServed first mid (at_slot 0 (arrivals_in t p e.end a b (first ∷ []) (mid ∷ []) ran)) =
+    (served_in t p e.end a b (first ∷ []) (mid ∷ []) ran).slots.each 0 first mid refl refl in
     record {
       first = first;
       last = last;
@@ -211,7 +235,7 @@ ran_mirror {D} state name faults t p e a b mirror kept back targets targets' sea
       keep = refl;
       lists = refl;
       middle = pair state x.left;
-      since = x.since;
+      running = x.running;
       ended = pair state x.ended;
       ends = x.ends;
       left = x.told;
@@ -228,6 +252,18 @@ ran_mirror {D} state name faults t p e a b mirror kept back targets targets' sea
         };
         unsynced = told_first e.unsynced x.ends.answer x.ends.told;
       };
+      covered = λ on.
+          let before : is_covered faults whole (pair state x.left) ≡ true =
+          covered_before faults whole (pair state x.left) (pair state x.ended) x.running.since x.ends.counts on in
+          let count : mid.device.store.faults ≡ first_count faults =
+          subst (λ (m : Mirrored D). (store_of state faults whole m).faults ≡ first_count faults) x.alone.store
+          (covered_count faults whole (pair state x.left) before) in (
+            uncounted first.device.store.faults (count_failed store_failed (at_slot 0 (arrivals_in t p e.end a b (first ∷ []) (mid ∷ []) ran)))
+                (faults 0 + faults 1 + faults 2) mid.device.store.faults count
+                (least_count faults whole (pair state mirror) begins.since) served.store_faults,
+            unsynced_none e.unsynced (is_err x.ends.answer) x.ends.told
+                (λ bad. both_ways _ (cause_uncovers faults whole (pair state x.left) (pair state x.ended) x.ends.counts x.running (x.ends.cause bad)) on),
+          );
     }
 
 -- Sides that are equal where nothing is stale.
@@ -296,11 +332,21 @@ no_error : (unsynced : Option ℕ) (b : Bool) → is_some unsynced ≡ b → uns
 no_error None b e none = sym e
 no_error (Some k) b e none = cc
 
-pub mirrored : {D S K L : Type 0} (state : D → DiskState) (name : ℕ → Station) (faults : ℕ → ℕ) (t : Tells S K L) (p : Plan) (e : MirrorEnd)
-    (a b : Outside S K L) (given back : MirrorDisks D) (begun : Pair) (kept : Kept D) → faults ≡ faults_of state given → IsBegun state given kept begun
-    → RanMirror state name faults t p e a b begun kept back → IsMirrored state name t p e a b given back
-mirrored {D} state name faults t p e a b given back begun kept same begins r =
-    let since : IsSince (faults_of state given) r.middle = subst (λ (f : ℕ → ℕ). IsSince f r.middle) same r.since in
+-- a side that didn't fail, by its counts at the end
+calm_held : {D : Type 0} (state : D → DiskState) (given back : MirrorDisks D) (middle ended : Pair) → IsSince (faults_of state given) middle
+    → Counts middle ended → IsOf state back ended → (k : ℕ) → k ≤ 2 → (HasFailed state given back k → ⊥)
+    → has_held (faults_of state given) ended k ≡ true
+calm_held state given back middle ended since counts is k le calm =
+    let before = since.counts k le in
+    let after = counts k le in
+    held (faults_of state given) ended k (omega (arith, before, after)) (λ rose. calm (rw (counts_of state back ended is k le) rose))
+
+mirrored_since : {D S K L : Type 0} (state : D → DiskState) (name : ℕ → Station) (t : Tells S K L) (p : Plan) (e : MirrorEnd)
+    (a b : Outside S K L) (given back : MirrorDisks D) (begun : Pair) (kept : Kept D) → IsBegun state given kept begun
+    → RanMirror state name (faults_of state given) (count_of begun.stale == 0) t p e a b begun kept back → IsMirrored state name t p e a b given back
+mirrored_since {D} state name t p e a b given back begun kept begins r =
+    let since : IsSince (faults_of state given) r.middle = r.running.since in
+    let calm = calm_held state given back r.middle r.ended since r.ends.counts r.disks_back in
     let finds : AlwaysFinds r.first.device.keep r.first.device.lists = rw (r.keep, r.lists) begins.keep.finds in
     let apart : e.unsynced ≡ None → IfSome (both (state back.one).contents (state back.two).contents) (AreEqualBut r.ended.stale) = λ none.
     equal_sides state back r.ended r.ends.mirror
@@ -325,6 +371,12 @@ mirrored {D} state name faults t p e a b given back begun kept same begins r =
       };
       run = r.run;
       ends = run_ends t p e.end a b (r.first ∷ []) r.run.middle (r.last ∷ []) r.run.results r.run.ran (finds_one r.first finds) r.run.synced;
+      covered = λ none mark one. r.covered
+          (let w : (count_of begun.stale == 0) ≡ true = eq-eqb (count_of begun.stale) 0 none in
+          rw w (covered_by (faults_of state given) r.ended (calm 2 (omega arith) mark) (elim one [
+            | inl first ↦ inl (calm 0 (omega arith) first)
+            | inr second ↦ inr (calm 1 (omega arith) second)
+          ])));
       blames = blamed_one state given back r.middle r.ended since r.ends.counts r.disks_back e.unsynced r.ends.blames;
       left = r.left;
       apart = apart;
@@ -334,3 +386,18 @@ mirrored {D} state name faults t p e a b given back begun kept same begins r =
         | inr side ↦ failed_side state given back r.middle r.ended since r.ends.counts r.disks_back side
       ];
     }
+
+-- where the run began as `faults` and `whole` say
+pub mirrored : {D S K L : Type 0} (state : D → DiskState) (name : ℕ → Station) (faults : ℕ → ℕ) (whole : Bool) (t : Tells S K L) (p : Plan) (e : MirrorEnd)
+    (a b : Outside S K L) (given back : MirrorDisks D) (begun : Pair) (kept : Kept D) → faults ≡ faults_of state given
+    → whole ≡ (count_of begun.stale == 0) → IsBegun state given kept begun
+    → RanMirror state name faults whole t p e a b begun kept back → IsMirrored state name t p e a b given back
+mirrored {D} state name faults whole t p e a b given back begun kept same is begins ran =
+    mirrored_since state name t p e a b given back begun kept begins
+    (subst (λ (w : Bool). RanMirror state name (faults_of state given) w t p e a b begun kept back) is
+    (subst (λ (f : ℕ → ℕ). RanMirror state name f whole t p e a b begun kept back) same ran))
+
+-- the first of links that were left as they are
+pub same_first : {X : Type 0} (R : X → X → Type 0) (xs : List X) → ((x : X) → R x x) → AtFirst R xs xs
+same_first R [] same = tt
+same_first R (x ∷ xs) same = (same x, refl)

@@ -7,10 +7,11 @@ use Rattle.aoe_disk.specs.Calls.{SyncsTo}
 use Rattle.aoe_disk.specs.State.{Contents, DiskState, is_loose, sector}
 use Rattle.aoe_keep.specs.Keep.{HasMounted, IsRefused, Kept}
 use Rattle.aoe_lists.specs.Settings.{Settings}
-use Rattle.aoe_mirror.specs.Calls.{Blames, CopiesAll, Counts, SideFailed}
+use Rattle.aoe_mirror.specs.Calls.{Blames, Cause, CopiesAll, Counts, SideFailed}
+use Rattle.aoe_mirror.specs.Covering.{IsRunning, is_covered, stored}
 use Rattle.aoe_mirror.specs.Marks.{count_of}
 use Rattle.aoe_mirror.specs.Mirror.{Mirrored, Mounts, Refuses}
-use Rattle.aoe_mirror.specs.Sides.{IsMirror, Pair, Survives, both, disk_of, pair_of, shown, side_of}
+use Rattle.aoe_mirror.specs.Sides.{IsMirror, Pair, Survives, both, pair_of, shown, side_of}
 use Rattle.aoe_mirror.specs.declared.sides.Sides.{Sides}
 use Rattle.aoe_serve.specs.Arrivals.{at_slot}
 use Rattle.aoe_serve.specs.Ending.{EndsAfter}
@@ -26,6 +27,7 @@ use Rattle.aoe_serve.specs.declared.plan.Exported.{Exported}
 use Rattle.aoe_serve.specs.declared.plan.Plan.{Plan}
 use Rattle.aoe_serve.specs.declared.plan.RunEnd.{RunEnd}
 use Rattle.aoe_serve.specs.declared.plan.RunEnd.TheVariants as end
+use Rattle.aoe_target.specs.History.{count_failed, store_failed}
 use Rattle.aoe_target.specs.Mounted.{Mounted}
 use Rattle.aoe_target.specs.declared.station.Station.{Station}
 
@@ -37,6 +39,7 @@ pub record EndsMirror (well : Bool) (unsynced : Option ℕ) (old new : Pair) : T
   pub syncs : SyncsTo answer (shown old) (shown new)
   pub mirror : IsMirror new
   pub counts : Counts old new
+  pub cause : is_err answer ≡ true → Cause old new
   pub blames : Blames unsynced old new
   pub whole : well ≡ true → unsynced ≡ None → (count_of new.stale ≡ 0) ⊎ SideFailed old new
 
@@ -47,11 +50,6 @@ faults_of state disks k = if k == 2 then (state disks.mark).faults else if k == 
 -- a call of that disk failed
 abbrev pub HasFailed : {D : Type 0} → (D → DiskState) → MirrorDisks D → MirrorDisks D → ℕ → Type 0
 HasFailed state given back k = Rose (faults_of state given k) (faults_of state back k)
-
--- what holds of a mirror since disks with these counts of faults were handed in
-pub record IsSince (faults : ℕ → ℕ) (p : Pair) : Type 0 where
-  pub mirror : IsMirror p
-  pub counts : (k : ℕ) → k ≤ 2 → faults k ≤ (disk_of p k).faults
 
 -- the mirror and the keep of these disks, after the first copying
 pub record IsBegun {D : Type 0} (state : D → DiskState) (given : MirrorDisks D) (kept : Kept D) (begun : Pair) : Type 0 where
@@ -73,13 +71,13 @@ pub record OverMirror {D : Type 0} (state : D → DiskState) (name : ℕ → Sta
   pub begun : Pair
   pub begins : IsBegun state given kept begun
   pub station : first.station ≡ name (shown begun).sectors
-  pub store : first.device.store ≡ shown begun
+  pub store : first.device.store ≡ stored (faults_of state given) (count_of begun.stale == 0) begun
   pub keep : first.device.keep ≡ state kept.disk
   pub lists : first.device.lists ≡ kept.lists
   pub ended : Pair
   pub mirror : IsMirror ended
   pub survives : Survives ended
-  pub store_back : last.device.store ≡ shown ended
+  pub store_back : last.device.store ≡ stored (faults_of state given) (count_of begun.stale == 0) ended
   pub disks_back : IsOf state back ended
   pub keep_back : state back.keep ≡ last.device.keep
 
@@ -106,23 +104,25 @@ pub record IsLeftStale (e : MirrorEnd) (ended : Pair) : Type 0 where
   pub follower : e.follower ≡ 1 - ended.side
 
 -- The plan was run over a mirror and a keep, which were a slot: the mirror is synced then, and their disks are given back.
-pub record RanMirror {D S K L : Type 0} (state : D → DiskState) (name : ℕ → Station) (faults : ℕ → ℕ) (t : Tells S K L) (p : Plan) (e : MirrorEnd)
-    (a b : Outside S K L) (begun : Pair) (kept : Kept D) (back : MirrorDisks D) : Type 0 where
+pub record RanMirror {D S K L : Type 0} (state : D → DiskState) (name : ℕ → Station) (faults : ℕ → ℕ) (whole : Bool) (t : Tells S K L) (p : Plan)
+    (e : MirrorEnd) (a b : Outside S K L) (begun : Pair) (kept : Kept D) (back : MirrorDisks D) : Type 0 where
   pub first : Slot
   pub last : Slot
   pub station : first.station ≡ name (shown begun).sectors
-  pub store : first.device.store ≡ shown begun
+  pub store : first.device.store ≡ stored faults whole begun
   pub keep : first.device.keep ≡ state kept.disk
   pub lists : first.device.lists ≡ kept.lists
   pub middle : Pair
-  pub since : IsSince faults middle
+  pub running : IsRunning faults whole middle
   pub ended : Pair
   pub ends : EndsMirror (has_ended e.end) e.unsynced middle ended
   pub left : IsLeftStale e ended
-  pub store_back : last.device.store ≡ shown ended
+  pub store_back : last.device.store ≡ stored faults whole ended
   pub disks_back : IsOf state back ended
   pub keep_back : state back.keep ≡ last.device.keep
   pub run : HasRunAndSynced t p (exported_of e) a b (first ∷ []) (last ∷ [])
+  pub covered : is_covered faults whole ended ≡ true
+      → (count_failed store_failed (at_slot 0 (arrivals_in t p e.end a b (first ∷ []) run.middle run.ran)) ≡ 0) × (e.unsynced ≡ None)
 
 -- two sides with equal sectors where nothing is stale, which no crash changes
 pub record AreEqualBut (stale : List Bool) (sides : Contents × Contents) : Type 0 where
@@ -141,10 +141,15 @@ abbrev pub EndedAs : Result MirrorEnd MirrorStop → RunEnd → Type 0
 EndedAs (Ok e) end = e.end ≡ end
 EndedAs (Err why) end = ⊥
 
+-- one side didn't fail
+abbrev pub OneHeld : {D : Type 0} → (D → DiskState) → MirrorDisks D → MirrorDisks D → Type 0
+OneHeld state given back = (HasFailed state given back 0 → ⊥) ⊎ (HasFailed state given back 1 → ⊥)
+
 -- A run over a mirror and its keep: the mirror was a slot, the plan was run over it, and then it was synced. At the end the slot holds
 -- what is known after the frames that came to it and the sync, and outlives a loss of power. A disk that is said to have failed did. Where
 -- the last sync was Ok both sides are equal but in the sectors that are told as stale; after a run that ended well there are none, or a side
--- failed.
+-- failed. Where nothing was stale when the run began, the mark disk didn't fail and one side didn't either, no frame got a fault of the store,
+-- and the last sync was Ok, however often the other side failed.
 pub record IsMirrored {D S K L : Type 0} (state : D → DiskState) (name : ℕ → Station) (t : Tells S K L) (p : Plan) (e : MirrorEnd)
     (a b : Outside S K L) (given back : MirrorDisks D) : Type 0 where
   pub first : Slot
@@ -153,6 +158,8 @@ pub record IsMirrored {D S K L : Type 0} (state : D → DiskState) (name : ℕ �
   pub run : HasRunAndSynced t p (exported_of e) a b (first ∷ []) (last ∷ [])
   pub ends : EachSlot (λ i x y. EndsAfter (at_slot i (arrivals_in t p e.end a b (first ∷ []) run.middle run.ran)) (get_or run.results i (Ok tt)) x y)
       (first ∷ []) (last ∷ [])
+  pub covered : count_of over.begun.stale ≡ 0 → (HasFailed state given back 2 → ⊥) → OneHeld state given back
+      → (count_failed store_failed (at_slot 0 (arrivals_in t p e.end a b (first ∷ []) run.middle run.ran)) ≡ 0) × (e.unsynced ≡ None)
   pub blames : IfSome e.unsynced (λ k. (k ≤ 2) × HasFailed state given back k)
   pub left : IsLeftStale e over.ended
   pub apart : e.unsynced ≡ None → IfSome (both (state back.one).contents (state back.two).contents) (AreEqualBut over.ended.stale)

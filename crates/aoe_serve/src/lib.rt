@@ -23,7 +23,9 @@
 //! what its frames left, and outlives a loss of power (`IsExported`, `EndsAfter`), with `durable`
 //! each done write too. `export_mirror` does so with a mirror; its sides end equal but for the
 //! sectors that it tells as stale, and after a run that ended well there are some only if a side
-//! failed (`IsMirrored`). A refused run leaves source, sink and links as they were, and a fault of
+//! failed. Where nothing was stale when the run began, no frame gets a fault of the store and the last
+//! sync is Ok as long as the mark disk and one of the sides don't fail, however often the other one does
+//! (`IsMirrored`, `covered`). A refused run leaves source, sink and links as they were, and a fault of
 //! one is told only if its count rose. A `send` of `ShelfLink` never fails.
 //!
 //! Only tested: each call of source, sink, link and disk failing (`serve` of aoe_shelf_tests),

@@ -1,16 +1,17 @@
 //! The call that exports a mirror.
 ghost use Rattle.std.specs.Prelude.{◌≡◌, ◌≤◌, ◌<◌, ◌+◌, ◌-◌, ◌/◌, [], ◌∷◌, ℕ, IfErr, IfOk, IfSome, IsSome, None, OnErr, false, is_err, length, true};
 ghost use Rattle.aoe_base.specs.Faults.{Blamed};
+ghost use Rattle.aoe_mirror.specs.Covering.{IsRunning, IsSince};
 ghost use Rattle.aoe_mirror.specs.Marks.{count_of};
 ghost use Rattle.aoe_mirror.specs.Mirror.{pair, state_of};
 ghost use Rattle.aoe_mirror.specs.Sides.{IsMirror};
 ghost use Rattle.aoe_serve.specs.Exporting.{AtFirst, CanExport, is_served};
 ghost use Rattle.aoe_serve.specs.Files.{named};
-ghost use Rattle.aoe_serve.specs.Mirroring.{EndedAs, EndsMirror, IsBegun, IsMirrored, IsSince, LeavesAlone, RanMirror, Stops, faults_of, has_ended};
+ghost use Rattle.aoe_serve.specs.Mirroring.{EndedAs, EndsMirror, IsBegun, IsMirrored, LeavesAlone, RanMirror, Stops, faults_of, has_ended};
 
 use crate::run::run;
 use crate::{AnswerEnd, ExportOptions, Plan, RunEnd, ServeEnd};
-use aoe_base::{Failed, NoMemory};
+use aoe_base::{Failed, NoMemory, copy_of};
 use aoe_disk::Disk;
 use aoe_io::{Link, Sink, Source};
 use aoe_keep::{Keep, MountRefusal};
@@ -63,16 +64,26 @@ pub enum MirrorStop {
     Mirror(MirrorRefusal),
 }
 
-/// The counts of faults of a mirror's disks when they were handed in.
+/// How a run over a mirror began: the counts of faults of its disks when they were handed in, and
+/// whether no sector was stale.
 pub(crate) trait Given {
+    ghost use Rattle.std.specs.Prelude.{Bool};
+
     ghost faults: { ℕ → ℕ };
+
+    ghost whole: { Bool };
 }
 
 impl Given for Brand {
+    ghost use Rattle.std.specs.Prelude.{false};
+
     ghost faults = { λ disk. 0 };
+
+    ghost whole = { false };
 }
 
-/// A mirror of disks that were handed in with the counts of faults that `G` says.
+/// A mirror in a run that began as `G` says. Its count of faults, as contracts see it, stays as long as
+/// one side covers what the other one fails in.
 #[derive(Drop)]
 pub(crate) struct Counted<D: Disk, G: Given> {
     mirror: Mirror<D>,
@@ -81,18 +92,18 @@ pub(crate) struct Counted<D: Disk, G: Given> {
 
 impl<D: Disk, G: Given> Model for Counted<D, G> {
     ghost use Rattle.aoe_mirror.specs.Mirror.{Mirrored, pair};
-    ghost use Rattle.aoe_serve.specs.Mirroring.{IsSince};
+    ghost use Rattle.aoe_mirror.specs.Covering.{IsRunning};
 
     ghost Value = { Mirrored D };
 
     ghost view = { λ c. c.mirror };
 
-    ghost invariant = { λ c. IsSince G.faults (pair D.state c.mirror) };
+    ghost invariant = { λ c. IsRunning G.faults G.whole (pair D.state c.mirror) };
 }
 
 impl<D: Disk, G: Given> Counted<D, G> {
     fn new(mirror: Mirror<D>) -> Self
-        requires { IsSince G.faults (pair D.state mirror) }
+        requires { IsRunning G.faults G.whole (pair D.state mirror) }
         ensures { result ≡ mirror }
     {
         Counted {
@@ -103,7 +114,7 @@ impl<D: Disk, G: Given> Counted<D, G> {
 
     fn close(self) -> Mirror<D>
         ensures mirror { result ≡ self }
-        ensures since { IsSince G.faults (pair D.state result) }
+        ensures running { IsRunning G.faults G.whole (pair D.state result) }
     {
         self.mirror
     }
@@ -111,9 +122,10 @@ impl<D: Disk, G: Given> Counted<D, G> {
 
 impl<D: Disk, G: Given> Store for Counted<D, G> {
     ghost use Rattle.std.specs.Prelude.{None, false};
-    ghost use Rattle.aoe_mirror.specs.Mirror.{state_of};
+    ghost use Rattle.aoe_mirror.specs.Mirror.{pair};
+    ghost use Rattle.aoe_mirror.specs.Covering.{stored};
 
-    ghost state = { λ s. state_of D.state s };
+    ghost state = { λ s. stored G.faults G.whole (pair D.state s) };
 
     ghost lasts = { false };
 
@@ -237,7 +249,7 @@ fn seat<D: Disk + Drop, G: Given>(
 )
     requires empty { shelf.old.targets ≡ [] }
     requires minor { minor < 255 }
-    requires since { IsSince G.faults (pair D.state mirror) }
+    requires running { IsRunning G.faults G.whole (pair D.state mirror) }
     ensures targets { shelf.new.targets ≡ record {
       station = named shelf.old.major shelf.old.ports shelf.old.mtu minor (state_of D.state mirror).sectors;
       keep = keep;
@@ -255,7 +267,7 @@ fn seat<D: Disk + Drop, G: Given>(
 fn leave<D: Disk + Drop, G: Given>(shelf: &mut Shelf<Counted<D, G>, D>) -> (Mirror<D>, Keep<D>)
     requires { length shelf.old.targets ≡ 1 }
     ensures leaves { LeavesAlone result.0 result.1 shelf.old.targets }
-    ensures since { IsSince G.faults (pair D.state result.0) }
+    ensures running { IsRunning G.faults G.whole (pair D.state result.0) }
 {
     let Some((store, keep)) = shelf.take_last() else {
         unreachable!()
@@ -277,8 +289,8 @@ fn run_over<D: Disk + Drop, G: Given, S: Source, K: Sink, L: Link>(
     requires empty { shelf.old.targets ≡ [] }
     requires minor { minor < 255 }
     requires link { is_served plan ≡ true → 0 < length links.old }
-    requires since { IsSince G.faults (pair D.state mirror) }
-    ensures ran { RanMirror D.state (named shelf.old.major shelf.old.ports shelf.old.mtu minor) G.faults
+    requires running { IsRunning G.faults G.whole (pair D.state mirror) }
+    ensures ran { RanMirror D.state (named shelf.old.major shelf.old.ports shelf.old.mtu minor) G.faults G.whole
         record { left = S.left; held = K.held; turns = L.turns; given = L.given; taken = L.taken } plan result.0
         record { source = source.old; sink = sink.old; links = links.old } record { source = source.new; sink = sink.new; links = links.new }
         (pair D.state mirror) keep result.1 }
@@ -347,11 +359,13 @@ pub fn export_mirror<D: Disk + Drop, S: Source, K: Sink, L: Link>(
     ensures link_blame { AtFirst (λ a b. Blamed (EndedAs result.0 (RunEnd.Served ServeEnd.LinkFault))
         (L.faults a) (L.faults b)) links.old links.new }
 {
-    mirror_at::<Brand, D, S, K, L>(alloc, options, plan, source, sink, disks, links)
+    mirror_at::<Brand, Brand, D, S, K, L>(alloc, options, plan, source, sink, disks, links)
 }
 
-/// The same, where `G` says how many faults the disks had.
-fn mirror_at<G: Given, D: Disk + Drop, S: Source, K: Sink, L: Link>(
+/// The same, where `W` and `B` say how many faults the disks had. Only after the first copying it is
+/// known whether a sector is stale, and no memory is taken then: so there is a shelf for a mirror that is
+/// whole when its run begins, and one for a mirror that isn't.
+fn mirror_at<W: Given, B: Given, D: Disk + Drop, S: Source, K: Sink, L: Link>(
     alloc: Global,
     options: ExportOptions,
     plan: Plan,
@@ -360,7 +374,8 @@ fn mirror_at<G: Given, D: Disk + Drop, S: Source, K: Sink, L: Link>(
     disks: MirrorDisks<D>,
     links: &mut [L],
 ) -> (Result<MirrorEnd, MirrorStop>, MirrorDisks<D>)
-    requires faults { G.faults ≡ faults_of D.state disks }
+    requires whole { (W.faults ≡ faults_of D.state disks) × (W.whole ≡ true) }
+    requires behind { (B.faults ≡ faults_of D.state disks) × (B.whole ≡ false) }
     requires possible { CanExport options plan 2 (length links.old) }
     ensures ran { IfOk result.0 (λ e. IsMirrored D.state (named options.first.major options.ports.items options.mtu options.first.minor)
         record { left = S.left; held = K.held; turns = L.turns; given = L.given; taken = L.taken } plan e
@@ -387,24 +402,28 @@ fn mirror_at<G: Given, D: Disk + Drop, S: Source, K: Sink, L: Link>(
         cache: _,
         durable: _,
     } = options;
-    let mut shelf: Shelf<Counted<D, G>, D> = match Shelf::new(alloc, first.major, ports, mtu) {
+    let mut whole: Shelf<Counted<D, W>, D> = match Shelf::new(
+        alloc,
+        first.major,
+        copy_of(&ports),
+        mtu,
+    ) {
         Ok(shelf) => shelf,
         Err(NoMemory) => return (Err(MirrorStop::NoMemory), disks),
     };
-    match mount(alloc, disks) {
-        Ok((mirror, keep)) => {
-            let (end, disks) = run_over(
-                &mut shelf,
-                first.minor,
-                plan,
-                source,
-                sink,
-                mirror,
-                keep,
-                links,
-            );
-            (Ok(end), disks)
-        }
-        Err((why, disks)) => (Err(why), disks),
+    let mut behind: Shelf<Counted<D, B>, D> = match Shelf::new(alloc, first.major, ports, mtu) {
+        Ok(shelf) => shelf,
+        Err(NoMemory) => return (Err(MirrorStop::NoMemory), disks),
+    };
+    let (mirror, keep) = match mount(alloc, disks) {
+        Ok(mounted) => mounted,
+        Err((why, disks)) => return (Err(why), disks),
+    };
+    let minor = first.minor;
+    if mirror.stale() == 0 {
+        let (end, disks) = run_over(&mut whole, minor, plan, source, sink, mirror, keep, links);
+        return (Ok(end), disks);
     }
+    let (end, disks) = run_over(&mut behind, minor, plan, source, sink, mirror, keep, links);
+    (Ok(end), disks)
 }

@@ -1,5 +1,9 @@
+use Rattle.std.proofs.Common.{false, true}
 use Rattle.aoe_serve.specs.Mirroring.{faults_of}
 use Rattle.aoe_serve.proofs.over_mirror.export_mirror.Given as goal
 
-abbrev pub ghosts-mirror_at : goal.ghosts-mirror_at
-ghosts-mirror_at g a = record { faults = faults_of g.D.Disk.state a.disks }
+abbrev pub ghosts-mirror_at-W-Given : goal.ghosts-mirror_at-W-Given
+ghosts-mirror_at-W-Given g a = record { faults = faults_of g.D.Disk.state a.disks; whole = true }
+
+abbrev pub ghosts-mirror_at-B-Given : goal.ghosts-mirror_at-B-Given
+ghosts-mirror_at-B-Given g a = record { faults = faults_of g.D.Disk.state a.disks; whole = false }

@@ -27,12 +27,12 @@ returns-clause-ran g c =
     let of : IsOf state back (pair state ended) =
     is_of state ended.sides c.finish-unsynced.ensures.mirror.mark.side back c.close-one.ensures.one c.close-one.ensures.two c.close-one.ensures.mark in
     rw c.told-ended.ensures
-    (ran_mirror state (named shelf.major shelf.ports shelf.mtu c.args.minor) g.G.Given.faults _ c.args.plan end _ _ c.args.mirror c.args.keep back
-    c.seat.new.shelf.targets c.run-end.new.shelf.targets c.seat.ensures.targets c.run-end.ensures.run (record {
+    (ran_mirror state (named shelf.major shelf.ports shelf.mtu c.args.minor) g.G.Given.faults g.G.Given.whole _ c.args.plan end _ _ c.args.mirror c.args.keep back
+    c.seat.new.shelf.targets c.run-end.new.shelf.targets c.requires.running c.seat.ensures.targets c.run-end.ensures.run (record {
       left = c.leave-mirror.result.0;
       keep = c.leave-mirror.result.1;
       alone = c.leave-mirror.ensures.leaves;
-      since = c.leave-mirror.ensures.since;
+      running = c.leave-mirror.ensures.running;
       ended = ended;
       ends = rw c.has_ended.ensures at c.finish-unsynced.ensures;
       told = record { stale = refl; follower = refl };
