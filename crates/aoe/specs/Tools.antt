@@ -1,5 +1,5 @@
 -- What the tools ask and say, and how they end.
-use Rattle.std.specs.Prelude.{ℕ, ◌≡◌, ◌≤◌, Bool, true, not, List, [], Option, Result, Ok, Err, option_map}
+use Rattle.std.specs.Prelude.{ℕ, ◌≡◌, ◌≤◌, Bool, true, false, not, List, [], Option, Result, Ok, Err, option_map}
 use Rattle.arrayvec.specs.ArrayVec.{ArrayVec}
 use Rattle.aoe_base.specs.declared.failure.NoMemory.{NoMemory}
 use Rattle.aoe_base.specs.Sizes.{longest_lifetime}
