@@ -54,7 +54,7 @@ use std::fs::File;
 use std::io::{BufReader, ErrorKind};
 use std::process::ExitCode;
 use std::{fs, io};
-use teller::Teller;
+use teller::{SideTeller, Teller};
 use top::aoe;
 
 /// How much of standard input is read at a time, in bytes.
@@ -366,11 +366,12 @@ fn say_slip(rt: &HostRuntime, words: &[String]) {
     }
 }
 
-/// Runs the command over its files and links, the standard streams and the clock. The flow is told how far
-/// a copy has come.
+/// Runs the command over its files, which have these names, its links, the standard streams and the clock.
+/// The flow is told how far a copy has come.
 fn run_over(
     rt: &HostRuntime,
     command: &Command,
+    files: &[String],
     disks: &mut [Option<FileDisk>],
     links: &mut [Until<WireLink<Wire>>],
     flow: &Flow,
@@ -387,6 +388,7 @@ fn run_over(
     let mut sink = Output::new(rt.stdout());
     let mut clock = SystemClock::new(rt);
     let mut watch = Teller::new(flow);
+    let sides = SideTeller::new(rt, files);
     let status = aoe(
         rt.alloc(),
         command,
@@ -396,6 +398,7 @@ fn run_over(
         links,
         &mut clock,
         &mut watch,
+        sides,
     );
     flow.close();
     status
@@ -503,6 +506,7 @@ fn run_line(rt: &HostRuntime, line: CommandLine) -> u8
     let status = run_over(
         rt,
         &command,
+        files.as_slice(),
         disks.as_mut_slice(),
         links.as_mut_slice(),
         &flow,

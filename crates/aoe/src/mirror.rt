@@ -10,6 +10,7 @@ use crate::status::Status;
 use aoe_args::Mirror;
 use aoe_disk::Disk;
 use aoe_io::{Link, Sink, Source};
+use aoe_mirror::MirrorWatch;
 use aoe_serve::{Format, MirrorDisks, Plan, export_mirror};
 use std::alloc::Global;
 
@@ -61,14 +62,16 @@ fn put_four<D: Disk + Drop>(disks: &mut [Option<D>], given: MirrorDisks<D>)
     disks[3] = Some(keep);
 }
 
-/// Answers the frames of a source as one target over two sides.
-pub(crate) fn run_mirror<S: Source, K: Sink, D: Disk + Drop, L: Link>(
+/// Answers the frames of a source as one target over two sides. What becomes of the sides the watch is
+/// told.
+pub(crate) fn run_mirror<S: Source, K: Sink, D: Disk + Drop, L: Link, M: MirrorWatch + Drop>(
     alloc: Global,
     asked: Mirror,
     source: &mut S,
     sink: &mut K,
     disks: &mut [Option<D>],
     links: &mut [L],
+    watch: M,
 ) -> Status
     requires range { CanMirror asked }
     requires count { length disks.old ≡ 4 }
@@ -89,7 +92,7 @@ pub(crate) fn run_mirror<S: Source, K: Sink, D: Disk + Drop, L: Link>(
     let options = mirror_options(asked);
     let given = take_four(disks);
     let plan = Plan::Answer(Format::Replies);
-    let (answer, back) = export_mirror(alloc, options, plan, source, sink, given, links);
+    let (answer, back, _) = export_mirror(alloc, options, plan, source, sink, given, links, watch);
     put_four(disks, back);
     mirrored_as(answer)
 }

@@ -40,6 +40,7 @@ use aoe_args::{Command, Soak};
 use aoe_copy::Watch;
 use aoe_disk::Disk;
 use aoe_io::{Clock, Link, Sink, Source};
+use aoe_mirror::MirrorWatch;
 use aoe_serve::{ExportOptions, ExportRefusal, Plan, export};
 use aoe_world::{replay, soak};
 use std::alloc::Global;
@@ -117,7 +118,15 @@ fn run_soak<K: Sink>(alloc: Global, asked: Soak, sink: &mut K) -> Status
 }
 
 /// Runs a command: over its files and links, or the script that the source gives.
-fn run_command<S: Source, K: Sink, D: Disk + Drop, L: Link, C: Clock, W: Watch>(
+fn run_command<
+    S: Source,
+    K: Sink,
+    D: Disk + Drop,
+    L: Link,
+    C: Clock,
+    W: Watch,
+    M: MirrorWatch + Drop,
+>(
     alloc: Global,
     command: &Command,
     source: &mut S,
@@ -126,6 +135,7 @@ fn run_command<S: Source, K: Sink, D: Disk + Drop, L: Link, C: Clock, W: Watch>(
     links: &mut [L],
     clock: &mut C,
     watch: &mut W,
+    sides: M,
 ) -> Status
     requires range { IsInRange command.now }
     requires count { length disks.old ≡ file_count command.now }
@@ -183,7 +193,7 @@ fn run_command<S: Source, K: Sink, D: Disk + Drop, L: Link, C: Clock, W: Watch>(
             let (options, plan) = serve_plan(serve);
             run_files(alloc, options, plan, source, sink, disks, links)
         }
-        Command::Mirror(asked) => run_mirror(alloc, *asked, source, sink, disks, links),
+        Command::Mirror(asked) => run_mirror(alloc, *asked, source, sink, disks, links, sides),
         Command::Replay => run_script(alloc, source, sink),
         Command::Soak(asked) => run_soak(alloc, *asked, sink),
         Command::Live(asked) => {
@@ -212,7 +222,8 @@ fn run_command<S: Source, K: Sink, D: Disk + Drop, L: Link, C: Clock, W: Watch>(
 ///
 /// `mirror SHELF SLOT FILE FILE MARK KEEP` answers as `answer` does over two sides, the first two
 /// disks, either of which may fail. The third says which of them leads, and the fourth is the keep. The
-/// sides are made equal before the first frame is read, and at the end of a run that went well.
+/// sides are made equal before the first frame is read, and at the end of a run that went well. When one
+/// fails, leads in the place of the other or has all sectors again, `sides` is told.
 ///
 /// The tools ask over the first link and the clock: `discover` and `stat` which targets there are, with
 /// their sizes and states, `cfg`, `mask` and `reserve` one target for a list or a change of it; what they
@@ -255,7 +266,7 @@ fn run_command<S: Source, K: Sink, D: Disk + Drop, L: Link, C: Clock, W: Watch>(
 ///
 /// Memory is taken for the shelf and its stores before the first keep is mounted; then no more. A replay
 /// takes memory until its text is written, and so does a tool; `keep` takes it for its line.
-pub fn aoe<S: Source, K: Sink, D: Disk + Drop, L: Link, C: Clock, W: Watch>(
+pub fn aoe<S: Source, K: Sink, D: Disk + Drop, L: Link, C: Clock, W: Watch, M: MirrorWatch + Drop>(
     alloc: Global,
     command: &Command,
     source: &mut S,
@@ -264,6 +275,7 @@ pub fn aoe<S: Source, K: Sink, D: Disk + Drop, L: Link, C: Clock, W: Watch>(
     links: &mut [L],
     clock: &mut C,
     watch: &mut W,
+    sides: M,
 ) -> Status
     requires range { IsInRange command.now }
     requires count { length disks.old ≡ file_count command.now }
@@ -350,5 +362,7 @@ pub fn aoe<S: Source, K: Sink, D: Disk + Drop, L: Link, C: Clock, W: Watch>(
     ensures replays { (text : List ℕ) → command.now ≡ Command.Replay → S.left source.old ≡ Some text → refusal text ≡ None
         → IsFaultless (S.faults source.old) (S.faults source.new) → IsFaultless (K.faults sink.old) (K.faults sink.new) → HasReplayed (script_of text) result }
 {
-    run_command(alloc, command, source, sink, disks, links, clock, watch)
+    run_command(
+        alloc, command, source, sink, disks, links, clock, watch, sides,
+    )
 }

@@ -19,3 +19,4 @@ pub mod Copying
 pub mod Passing
 pub mod Surviving
 pub mod Covering
+pub mod Telling

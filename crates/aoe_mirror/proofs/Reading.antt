@@ -76,6 +76,7 @@ module _ (at n : ℕ) (out : List ℕ) (old : Pair) (m : IsMirror old) where
       };
       keeps = record { later = omega arith; stale = λ s was is. absurd (both_ways (is_loose old.stale s) was is); lead = inl refl };
       counts = counts_same old after refl l.later f.later (omega arith);
+      side = refl;
       stale = refl;
       cause = λ bad. (why bad).1;
     }

@@ -68,6 +68,7 @@ pub record MirrorReads {T E : Type 0} (at n : ℕ) (result : Result T E) (out : 
   pub reads : Reads at n result out (shown old) (shown new)
   pub keeps : Keeps old new
   pub counts : Counts old new
+  pub side : new.side ≡ old.side
   pub stale : new.stale ≡ old.stale
   pub cause : is_err result ≡ true → ReadCause at (n / 512) old new
 

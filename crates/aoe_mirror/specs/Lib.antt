@@ -3,3 +3,4 @@ pub mod Sides
 pub mod Calls
 pub mod Mirror
 pub mod Covering
+pub mod Watching

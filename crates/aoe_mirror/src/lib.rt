@@ -14,7 +14,9 @@
 //!    `write` and `sync` do both sides. Where the follower fails, what it missed is stale. Where
 //!    the lead fails and nothing is stale, the other side leads from then on, as soon as the mark
 //!    disk says so. A `sync` that is Ok ends with one `resync`.
-//! 4. [`Mirror::close`] returns the disks. Sync before.
+//! 4. [`note`] tells a [`MirrorWatch`] which side leads and whether the other has all sectors, where
+//!    that isn't as it was told.
+//! 5. [`Mirror::close`] returns the disks. Sync before.
 //!
 //! A bit for each sector is held, so a disk of 1 TB takes 244 MB, and one of 2^40 sectors 128 GB,
 //! which an allocator may refuse. A copy of 64 sectors goes through 32 kB that are taken at the
@@ -44,6 +46,8 @@ mod marks;
 mod mirror;
 mod refusal;
 mod sides;
+mod watch;
 
 pub use mirror::Mirror;
 pub use refusal::MirrorRefusal;
+pub use watch::{MirrorEvent, MirrorWatch, Standing, note};

@@ -1,5 +1,5 @@
 //! A mirror: two disks as one store.
-ghost use Rattle.std.specs.Prelude.{◌≡◌, ◌<◌, None, Some, IfErr, IfOk, IfSome, IsSome, OnErr, OnOk, false, is_err};
+ghost use Rattle.std.specs.Prelude.{◌≡◌, ◌≤◌, ◌<◌, None, Some, IfErr, IfOk, IfSome, IsSome, OnErr, OnOk, false, is_err};
 ghost use Rattle.aoe_disk.specs.State.{BothTell, IsDisk};
 ghost use Rattle.aoe_disk.specs.Calls.{IsRun};
 ghost use Rattle.aoe_disk.specs.Sectors.{Calms};
@@ -128,6 +128,7 @@ impl<D: Disk> Mirror<D> {
     /// after a crash of all three disks, it has the mirror's bytes in each sector that isn't loose.
     pub fn lead(&self) -> u8
         ensures lead { result ≡ self.now.sides.side }
+        ensures one { result ≤ 1 }
         ensures crash { Survives (pair D.state self.now) }
     {
         self.sides.side

@@ -18,7 +18,11 @@ use Rattle.aoe_mirror.specs.Covering.{IsRunning, IsSince, first_count, has_held,
 use Rattle.aoe_mirror.specs.Marks.{count_of}
 use Rattle.aoe_mirror.specs.Mirror.{Mirrored, Mounts, first_of, pair, second_of, state_of}
 use Rattle.aoe_mirror.specs.Sides.{IsMirror, Pair, both, disk_of, pair_of, seen, shown, side_of}
+use Rattle.aoe_mirror.specs.Watching.{HasTold, TellsChanges, standing_of}
 use Rattle.aoe_mirror.specs.declared.sides.Sides.{Sides}
+use Rattle.aoe_mirror.specs.declared.watch.MirrorEvent.{MirrorEvent}
+use Rattle.aoe_mirror.specs.declared.watch.Standing.{Standing}
+use Rattle.aoe_mirror.proofs.Telling.{tells_then}
 use Rattle.aoe_mirror.proofs.Bits.{count_none}
 use Rattle.aoe_mirror.proofs.Passing.{side_from}
 use Rattle.aoe_mirror.proofs.Quiet.{calm_then, parts_in}
@@ -29,11 +33,12 @@ use Rattle.aoe_mirror.proofs.Told.{told_if, told_mono, told_then, told_to}
 use Rattle.aoe_mirror.proofs.Whole.{seen_at}
 use Rattle.aoe_serve.specs.Arrivals.{at_slot}
 use Rattle.aoe_serve.specs.Exporting.{AtFirst, FindsAll, HasRun, Outside, SyncsSlot, Tells, arrivals_in, first_failed}
-use Rattle.aoe_serve.specs.Mirroring.{AreEqual, AreEqualBut, EndsMirror, HasFailed, IsBegun, IsLeftStale, IsMirrored, IsOf, LeavesAlone, RanMirror, faults_of, has_ended}
+use Rattle.aoe_serve.specs.Mirroring.{AreEqual, AreEqualBut, EndsMirror, HasFailed, IsBegun, IsLeftStale, IsMirrored, IsOf, LeavesAlone, RanMirror, TellsOf, faults_of, has_ended}
 use Rattle.aoe_serve.specs.Slots.{EachSlot, IsServed, Slot, slot_of, slots_of}
 use Rattle.aoe_serve.specs.declared.over_mirror.MirrorDisks.{MirrorDisks}
 use Rattle.aoe_serve.specs.declared.over_mirror.MirrorEnd.{MirrorEnd}
 use Rattle.aoe_serve.specs.declared.plan.Plan.{Plan}
+use Rattle.aoe_serve.specs.declared.plan.RunEnd.{RunEnd}
 use Rattle.aoe_mirror.proofs.Covering.{cause_uncovers, covered_before, covered_by, covered_count, held, least_count, stored_syncs}
 use Rattle.aoe_serve.proofs.EndLemmas.{run_ends, served_in}
 use Rattle.aoe_shelf.specs.Calls.{TakesLast}
@@ -265,6 +270,19 @@ ran_mirror {D} state name faults whole t p e a b mirror kept back targets target
                 (λ bad. both_ways _ (cause_uncovers faults whole (pair state x.left) (pair state x.ended) x.ends.counts x.running (x.ends.cause bad)) on),
           );
     }
+
+-- What the watch was told of the run.
+
+pub run_told : (end : RunEnd) (unsynced : Option ℕ) (middle ended : Pair) (was now : Standing) (given old x y : Option (List MirrorEvent)) → given ≡ old
+    → ended.side ≤ 1
+    → HasTold middle was given x → TellsChanges was now x y → now ≡ standing_of ended
+    → TellsOf (record { end = end; unsynced = unsynced; stale = count_of ended.stale; follower = 1 - ended.side }) old y
+run_told end unsynced middle ended was now given old x y same le h t is =
+    let all : TellsChanges h.first now old y = subst (λ (o : Option (List MirrorEvent)). TellsChanges h.first now o y) same
+    (tells_then h.first was now given x y h.tells t) in
+    let then : TellsChanges h.first (standing_of ended) old y = subst (λ (s : Standing). TellsChanges h.first s old y) is all in
+    let back : 1 - (1 - ended.side) ≡ ended.side = omega (arith, le) in
+    record { first = h.first; whole = h.whole; tells = rw back then }
 
 -- Sides that are equal where nothing is stale.
 

@@ -12,7 +12,10 @@ use Rattle.aoe_mirror.specs.Covering.{IsRunning, is_covered, stored}
 use Rattle.aoe_mirror.specs.Marks.{count_of}
 use Rattle.aoe_mirror.specs.Mirror.{Mirrored, Mounts, Refuses}
 use Rattle.aoe_mirror.specs.Sides.{IsMirror, Pair, Survives, both, pair_of, shown, side_of}
+use Rattle.aoe_mirror.specs.Watching.{TellsChanges}
 use Rattle.aoe_mirror.specs.declared.sides.Sides.{Sides}
+use Rattle.aoe_mirror.specs.declared.watch.MirrorEvent.{MirrorEvent}
+use Rattle.aoe_mirror.specs.declared.watch.Standing.{Standing}
 use Rattle.aoe_serve.specs.Arrivals.{at_slot}
 use Rattle.aoe_serve.specs.Ending.{EndsAfter}
 use Rattle.aoe_serve.specs.Exporting.{HasRunAndSynced, Outside, Tells, arrivals_in}
@@ -123,6 +126,12 @@ pub record RanMirror {D S K L : Type 0} (state : D → DiskState) (name : ℕ �
   pub run : HasRunAndSynced t p (exported_of e) a b (first ∷ []) (last ∷ [])
   pub covered : is_covered faults whole ended ≡ true
       → (count_failed store_failed (at_slot 0 (arrivals_in t p e.end a b (first ∷ []) run.middle run.ran)) ≡ 0) × (e.unsynced ≡ None)
+
+-- what a watch has been told of a run that ended so: how the mirror stands, by just the changes since it had nothing stale
+pub record TellsOf (e : MirrorEnd) (old new : Option (List MirrorEvent)) : Type 0 where
+  pub first : Standing
+  pub whole : first.is_whole ≡ true
+  pub tells : TellsChanges first (record { lead = 1 - e.follower; is_whole = e.stale == 0 }) old new
 
 -- two sides with equal sectors where nothing is stale, which no crash changes
 pub record AreEqualBut (stale : List Bool) (sides : Contents × Contents) : Type 0 where

@@ -10,7 +10,8 @@
 //! - [`run_slots`] is the middle of `export`: it runs a plan over the slots of a shelf that is there,
 //!   whatever their stores are, and syncs each store.
 //! - [`export_mirror`] is as `export` for one slot over two files, a mark disk and a keep
-//!   (`aoe_mirror`): the sides are made equal before the run, and after one that ended well.
+//!   (`aoe_mirror`): the sides are made equal before the run, and after one that ended well. A
+//!   [`MirrorWatch`](aoe_mirror::MirrorWatch) is told when a side fails, leads in the place of the other, or is whole again.
 //! - [`ShelfLink`] is a link to a shelf in the same process, for a host that needs no network.
 //!
 //! A loop serves one source or one link, one frame after the other. It ends with the first fault of

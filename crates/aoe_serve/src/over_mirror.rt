@@ -7,7 +7,8 @@ ghost use Rattle.aoe_mirror.specs.Mirror.{pair, state_of};
 ghost use Rattle.aoe_mirror.specs.Sides.{IsMirror};
 ghost use Rattle.aoe_serve.specs.Exporting.{AtFirst, CanExport, is_served};
 ghost use Rattle.aoe_serve.specs.Files.{named};
-ghost use Rattle.aoe_serve.specs.Mirroring.{EndedAs, EndsMirror, IsBegun, IsMirrored, LeavesAlone, RanMirror, Stops, faults_of, has_ended};
+ghost use Rattle.aoe_mirror.specs.Watching.{HasTold};
+ghost use Rattle.aoe_serve.specs.Mirroring.{EndedAs, EndsMirror, IsBegun, IsMirrored, LeavesAlone, RanMirror, Stops, TellsOf, faults_of, has_ended};
 
 use crate::run::run;
 use crate::{AnswerEnd, ExportOptions, Plan, RunEnd, ServeEnd};
@@ -15,7 +16,7 @@ use aoe_base::{Failed, NoMemory, copy_of};
 use aoe_disk::Disk;
 use aoe_io::{Link, Sink, Source};
 use aoe_keep::{Keep, MountRefusal};
-use aoe_mirror::{Mirror, MirrorRefusal};
+use aoe_mirror::{Mirror, MirrorRefusal, MirrorWatch, Standing, note};
 use aoe_shelf::Shelf;
 use aoe_store::Store;
 use std::alloc::Global;
@@ -64,63 +65,85 @@ pub enum MirrorStop {
     Mirror(MirrorRefusal),
 }
 
-/// How a run over a mirror began: the counts of faults of its disks when they were handed in, and
-/// whether no sector was stale.
+/// How a run over a mirror began: the counts of faults of its disks when they were handed in, whether no
+/// sector was stale, and what its watch had been told.
 pub(crate) trait Given {
-    ghost use Rattle.std.specs.Prelude.{Bool};
+    ghost use Rattle.std.specs.Prelude.{Bool, List, Option};
+    ghost use Rattle.aoe_mirror.specs.declared.watch.MirrorEvent.{MirrorEvent};
 
     ghost faults: { ℕ → ℕ };
 
     ghost whole: { Bool };
+
+    ghost told: { Option (List MirrorEvent) };
 }
 
 impl Given for Brand {
-    ghost use Rattle.std.specs.Prelude.{false};
+    ghost use Rattle.std.specs.Prelude.{None, false};
 
     ghost faults = { λ disk. 0 };
 
     ghost whole = { false };
+
+    ghost told = { None };
 }
 
 /// A mirror in a run that began as `G` says. Its count of faults, as contracts see it, stays as long as
-/// one side covers what the other one fails in.
+/// one side covers what the other one fails in. What becomes of it its watch is told.
 #[derive(Drop)]
-pub(crate) struct Counted<D: Disk, G: Given> {
+pub(crate) struct Counted<D: Disk, G: Given, W: MirrorWatch> {
     mirror: Mirror<D>,
+    watch: W,
+
+    // How the mirror stands, as the watch was told.
+    standing: Standing,
+
     given: PhantomData<G>,
 }
 
-impl<D: Disk, G: Given> Model for Counted<D, G> {
+impl<D: Disk, G: Given, W: MirrorWatch> Model for Counted<D, G, W> {
     ghost use Rattle.aoe_mirror.specs.Mirror.{Mirrored, pair};
     ghost use Rattle.aoe_mirror.specs.Covering.{IsRunning};
+    ghost use Rattle.aoe_mirror.specs.Watching.{HasTold};
 
     ghost Value = { Mirrored D };
 
     ghost view = { λ c. c.mirror };
 
-    ghost invariant = { λ c. IsRunning G.faults G.whole (pair D.state c.mirror) };
+    ghost invariant = { λ c. IsRunning G.faults G.whole (pair D.state c.mirror)
+        × HasTold (pair D.state c.mirror) c.standing G.told (W.told c.watch) };
 }
 
-impl<D: Disk, G: Given> Counted<D, G> {
-    fn new(mirror: Mirror<D>) -> Self
-        requires { IsRunning G.faults G.whole (pair D.state mirror) }
+impl<D: Disk, G: Given, W: MirrorWatch> Counted<D, G, W> {
+    fn new(mirror: Mirror<D>, watch: W) -> Self
+        requires running { IsRunning G.faults G.whole (pair D.state mirror) }
+        requires told { G.told ≡ W.told watch }
         ensures { result ≡ mirror }
     {
+        let mut watch = watch;
+        let mut standing = Standing {
+            lead: mirror.lead(),
+            is_whole: true,
+        };
+        note(&mirror, &mut watch, &mut standing);
         Counted {
             mirror,
+            watch,
+            standing,
             given: PhantomData,
         }
     }
 
-    fn close(self) -> Mirror<D>
-        ensures mirror { result ≡ self }
-        ensures running { IsRunning G.faults G.whole (pair D.state result) }
+    fn close(self) -> (Mirror<D>, W, Standing)
+        ensures mirror { result.0 ≡ self }
+        ensures running { IsRunning G.faults G.whole (pair D.state result.0) }
+        ensures told { HasTold (pair D.state result.0) result.2 G.told (W.told result.1) }
     {
-        self.mirror
+        (self.mirror, self.watch, self.standing)
     }
 }
 
-impl<D: Disk, G: Given> Store for Counted<D, G> {
+impl<D: Disk, G: Given, W: MirrorWatch> Store for Counted<D, G, W> {
     ghost use Rattle.std.specs.Prelude.{None, false};
     ghost use Rattle.aoe_mirror.specs.Mirror.{pair};
     ghost use Rattle.aoe_mirror.specs.Covering.{stored};
@@ -140,11 +163,15 @@ impl<D: Disk, G: Given> Store for Counted<D, G> {
     }
 
     fn write(&mut self, at: u64, piece: &[u8]) -> Result<(), Failed> {
-        self.mirror.write(at, piece)
+        let written = self.mirror.write(at, piece);
+        note(&self.mirror, &mut self.watch, &mut self.standing);
+        written
     }
 
     fn sync(&mut self) -> Result<(), Failed> {
-        self.mirror.sync()
+        let synced = self.mirror.sync();
+        note(&self.mirror, &mut self.watch, &mut self.standing);
+        synced
     }
 }
 
@@ -241,15 +268,17 @@ fn told<D: Disk>(mirror: &Mirror<D>, end: RunEnd, unsynced: Option<u8>) -> Mirro
 }
 
 /// Adds a mirror and its keep as the only slot of a shelf.
-fn seat<D: Disk + Drop, G: Given>(
-    shelf: &mut Shelf<Counted<D, G>, D>,
+fn seat<D: Disk + Drop, G: Given, W: MirrorWatch + Drop>(
+    shelf: &mut Shelf<Counted<D, G, W>, D>,
     minor: u8,
     mirror: Mirror<D>,
+    watch: W,
     keep: Keep<D>,
 )
     requires empty { shelf.old.targets ≡ [] }
     requires minor { minor < 255 }
     requires running { IsRunning G.faults G.whole (pair D.state mirror) }
+    requires told { G.told ≡ W.told watch }
     ensures targets { shelf.new.targets ≡ record {
       station = named shelf.old.major shelf.old.ports shelf.old.mtu minor (state_of D.state mirror).sectors;
       keep = keep;
@@ -257,27 +286,32 @@ fn seat<D: Disk + Drop, G: Given>(
     } ∷ [] }
     ensures rest { shelf.new ≡ record shelf.old { targets = shelf.new.targets } }
 {
-    match shelf.add(minor, Counted::new(mirror), keep) {
+    match shelf.add(minor, Counted::new(mirror, watch), keep) {
         Ok(()) => {}
         Err(_) => unreachable!(),
     }
 }
 
-/// Takes the only slot of a shelf, and gives its mirror and its keep.
-fn leave<D: Disk + Drop, G: Given>(shelf: &mut Shelf<Counted<D, G>, D>) -> (Mirror<D>, Keep<D>)
+/// Takes the only slot of a shelf, and gives its mirror, its watch with what that was told, and its keep.
+fn leave<D: Disk + Drop, G: Given, W: MirrorWatch + Drop>(
+    shelf: &mut Shelf<Counted<D, G, W>, D>,
+) -> (Mirror<D>, W, Standing, Keep<D>)
     requires { length shelf.old.targets ≡ 1 }
-    ensures leaves { LeavesAlone result.0 result.1 shelf.old.targets }
+    ensures leaves { LeavesAlone result.0 result.3 shelf.old.targets }
     ensures running { IsRunning G.faults G.whole (pair D.state result.0) }
+    ensures told { HasTold (pair D.state result.0) result.2 G.told (W.told result.1) }
 {
     let Some((store, keep)) = shelf.take_last() else {
         unreachable!()
     };
-    (store.close(), keep)
+    let (mirror, watch, standing) = store.close();
+    (mirror, watch, standing, keep)
 }
 
-/// Runs the plan over a mirror and its keep as the only slot of a shelf, and gives their disks.
-fn run_over<D: Disk + Drop, G: Given, S: Source, K: Sink, L: Link>(
-    shelf: &mut Shelf<Counted<D, G>, D>,
+/// Runs the plan over a mirror and its keep as the only slot of a shelf, and gives their disks and the
+/// watch.
+fn run_over<D: Disk + Drop, G: Given, S: Source, K: Sink, L: Link, W: MirrorWatch + Drop>(
+    shelf: &mut Shelf<Counted<D, G, W>, D>,
     minor: u8,
     plan: Plan,
     source: &mut S,
@@ -285,11 +319,14 @@ fn run_over<D: Disk + Drop, G: Given, S: Source, K: Sink, L: Link>(
     mirror: Mirror<D>,
     keep: Keep<D>,
     links: &mut [L],
-) -> (MirrorEnd, MirrorDisks<D>)
+    watch: W,
+) -> (MirrorEnd, MirrorDisks<D>, W)
     requires empty { shelf.old.targets ≡ [] }
     requires minor { minor < 255 }
     requires link { is_served plan ≡ true → 0 < length links.old }
     requires running { IsRunning G.faults G.whole (pair D.state mirror) }
+    requires told { G.told ≡ W.told watch }
+    ensures told { TellsOf result.0 (W.told watch) (W.told result.2) }
     ensures ran { RanMirror D.state (named shelf.old.major shelf.old.ports shelf.old.mtu minor) G.faults G.whole
         record { left = S.left; held = K.held; turns = L.turns; given = L.given; taken = L.taken } plan result.0
         record { source = source.old; sink = sink.old; links = links.old } record { source = source.new; sink = sink.new; links = links.new }
@@ -304,10 +341,11 @@ fn run_over<D: Disk + Drop, G: Given, S: Source, K: Sink, L: Link>(
     ensures link_blame { AtFirst (λ a b. Blamed (result.0.end ≡ RunEnd.Served ServeEnd.LinkFault)
         (L.faults a) (L.faults b)) links.old links.new }
 {
-    seat(shelf, minor, mirror, keep);
+    seat(shelf, minor, mirror, watch, keep);
     let end = run(shelf, plan, source, sink, links);
-    let (mut mirror, keep) = leave(shelf);
+    let (mut mirror, mut watch, mut standing, keep) = leave(shelf);
     let unsynced = finish(&mut mirror, has_ended(end));
+    note(&mirror, &mut watch, &mut standing);
     let ended = told(&mirror, end, unsynced);
     let (one, two, mark) = mirror.close();
     let disks = MirrorDisks {
@@ -316,7 +354,7 @@ fn run_over<D: Disk + Drop, G: Given, S: Source, K: Sink, L: Link>(
         mark,
         keep: keep.close(),
     };
-    (ended, disks)
+    (ended, disks, watch)
 }
 
 /// Exports a mirror of two disks as the only slot of a shelf, for one run.
@@ -327,9 +365,12 @@ fn run_over<D: Disk + Drop, G: Given, S: Source, K: Sink, L: Link>(
 /// that and the run went well, what is stale then is copied, too; what stays stale is told. Each disk is
 /// given back, also where nothing was run.
 ///
+/// The watch is told when a side fails, when the other leads in its place, and when it has all sectors
+/// again: of the first copying what it couldn't copy, and of the run each change as it comes.
+///
 /// A mirror holds nothing back and syncs for a flush alone, so `options.cache` is 0 and `options.durable`
 /// isn't set.
-pub fn export_mirror<D: Disk + Drop, S: Source, K: Sink, L: Link>(
+pub fn export_mirror<D: Disk + Drop, S: Source, K: Sink, L: Link, W: MirrorWatch + Drop>(
     alloc: Global,
     options: ExportOptions,
     plan: Plan,
@@ -337,7 +378,8 @@ pub fn export_mirror<D: Disk + Drop, S: Source, K: Sink, L: Link>(
     sink: &mut K,
     disks: MirrorDisks<D>,
     links: &mut [L],
-) -> (Result<MirrorEnd, MirrorStop>, MirrorDisks<D>)
+    watch: W,
+) -> (Result<MirrorEnd, MirrorStop>, MirrorDisks<D>, W)
     requires possible { CanExport options plan 2 (length links.old) }
     requires through { options.cache ≡ 0 }
     requires plain { options.durable ≡ false }
@@ -346,6 +388,8 @@ pub fn export_mirror<D: Disk + Drop, S: Source, K: Sink, L: Link>(
         record { source = source.old; sink = sink.old; links = links.old } record { source = source.new; sink = sink.new; links = links.new }
         disks result.1) }
     ensures stopped { IfErr result.0 (λ why. Stops D.state why disks result.1) }
+    ensures told { IfOk result.0 (λ e. TellsOf e (W.told watch) (W.told result.2)) }
+    ensures untold { OnErr result.0 (result.2 ≡ watch) }
     ensures source { OnErr result.0 (source.new ≡ source.old) }
     ensures sink { OnErr result.0 (sink.new ≡ sink.old) }
     ensures links { OnErr result.0 (links.new ≡ links.old) }
@@ -359,13 +403,23 @@ pub fn export_mirror<D: Disk + Drop, S: Source, K: Sink, L: Link>(
     ensures link_blame { AtFirst (λ a b. Blamed (EndedAs result.0 (RunEnd.Served ServeEnd.LinkFault))
         (L.faults a) (L.faults b)) links.old links.new }
 {
-    mirror_at::<Brand, Brand, D, S, K, L>(alloc, options, plan, source, sink, disks, links)
+    mirror_at::<Brand, Brand, D, S, K, L, W>(
+        alloc, options, plan, source, sink, disks, links, watch,
+    )
 }
 
-/// The same, where `W` and `B` say how many faults the disks had. Only after the first copying it is
+/// The same, where `A` and `B` say how many faults the disks had. Only after the first copying it is
 /// known whether a sector is stale, and no memory is taken then: so there is a shelf for a mirror that is
 /// whole when its run begins, and one for a mirror that isn't.
-fn mirror_at<W: Given, B: Given, D: Disk + Drop, S: Source, K: Sink, L: Link>(
+fn mirror_at<
+    A: Given,
+    B: Given,
+    D: Disk + Drop,
+    S: Source,
+    K: Sink,
+    L: Link,
+    W: MirrorWatch + Drop,
+>(
     alloc: Global,
     options: ExportOptions,
     plan: Plan,
@@ -373,15 +427,18 @@ fn mirror_at<W: Given, B: Given, D: Disk + Drop, S: Source, K: Sink, L: Link>(
     sink: &mut K,
     disks: MirrorDisks<D>,
     links: &mut [L],
-) -> (Result<MirrorEnd, MirrorStop>, MirrorDisks<D>)
-    requires whole { (W.faults ≡ faults_of D.state disks) × (W.whole ≡ true) }
-    requires behind { (B.faults ≡ faults_of D.state disks) × (B.whole ≡ false) }
+    watch: W,
+) -> (Result<MirrorEnd, MirrorStop>, MirrorDisks<D>, W)
+    requires whole { (A.faults ≡ faults_of D.state disks) × (A.whole ≡ true) × (A.told ≡ W.told watch) }
+    requires behind { (B.faults ≡ faults_of D.state disks) × (B.whole ≡ false) × (B.told ≡ W.told watch) }
     requires possible { CanExport options plan 2 (length links.old) }
     ensures ran { IfOk result.0 (λ e. IsMirrored D.state (named options.first.major options.ports.items options.mtu options.first.minor)
         record { left = S.left; held = K.held; turns = L.turns; given = L.given; taken = L.taken } plan e
         record { source = source.old; sink = sink.old; links = links.old } record { source = source.new; sink = sink.new; links = links.new }
         disks result.1) }
     ensures stopped { IfErr result.0 (λ why. Stops D.state why disks result.1) }
+    ensures told { IfOk result.0 (λ e. TellsOf e (W.told watch) (W.told result.2)) }
+    ensures untold { OnErr result.0 (result.2 ≡ watch) }
     ensures source { OnErr result.0 (source.new ≡ source.old) }
     ensures sink { OnErr result.0 (sink.new ≡ sink.old) }
     ensures links { OnErr result.0 (links.new ≡ links.old) }
@@ -402,28 +459,40 @@ fn mirror_at<W: Given, B: Given, D: Disk + Drop, S: Source, K: Sink, L: Link>(
         cache: _,
         durable: _,
     } = options;
-    let mut whole: Shelf<Counted<D, W>, D> = match Shelf::new(
+    let mut whole: Shelf<Counted<D, A, W>, D> = match Shelf::new(
         alloc,
         first.major,
         copy_of(&ports),
         mtu,
     ) {
         Ok(shelf) => shelf,
-        Err(NoMemory) => return (Err(MirrorStop::NoMemory), disks),
+        Err(NoMemory) => return (Err(MirrorStop::NoMemory), disks, watch),
     };
-    let mut behind: Shelf<Counted<D, B>, D> = match Shelf::new(alloc, first.major, ports, mtu) {
+    let mut behind: Shelf<Counted<D, B, W>, D> = match Shelf::new(alloc, first.major, ports, mtu) {
         Ok(shelf) => shelf,
-        Err(NoMemory) => return (Err(MirrorStop::NoMemory), disks),
+        Err(NoMemory) => return (Err(MirrorStop::NoMemory), disks, watch),
     };
     let (mirror, keep) = match mount(alloc, disks) {
         Ok(mounted) => mounted,
-        Err((why, disks)) => return (Err(why), disks),
+        Err((why, disks)) => return (Err(why), disks, watch),
     };
     let minor = first.minor;
     if mirror.stale() == 0 {
-        let (end, disks) = run_over(&mut whole, minor, plan, source, sink, mirror, keep, links);
-        return (Ok(end), disks);
+        let (end, disks, watch) = run_over(
+            &mut whole, minor, plan, source, sink, mirror, keep, links, watch,
+        );
+        return (Ok(end), disks, watch);
     }
-    let (end, disks) = run_over(&mut behind, minor, plan, source, sink, mirror, keep, links);
-    (Ok(end), disks)
+    let (end, disks, watch) = run_over(
+        &mut behind,
+        minor,
+        plan,
+        source,
+        sink,
+        mirror,
+        keep,
+        links,
+        watch,
+    );
+    (Ok(end), disks, watch)
 }

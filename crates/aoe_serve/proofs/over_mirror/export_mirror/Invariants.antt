@@ -2,8 +2,8 @@ use Rattle.std.proofs.Common.{false, true}
 use Rattle.aoe_serve.specs.Mirroring.{faults_of}
 use Rattle.aoe_serve.proofs.over_mirror.export_mirror.Given as goal
 
-abbrev pub ghosts-mirror_at-W-Given : goal.ghosts-mirror_at-W-Given
-ghosts-mirror_at-W-Given g a = record { faults = faults_of g.D.Disk.state a.disks; whole = true }
+abbrev pub ghosts-mirror_at-A-Given : goal.ghosts-mirror_at-A-Given
+ghosts-mirror_at-A-Given g a = record { faults = faults_of g.D.Disk.state a.disks; whole = true; told = g.W.MirrorWatch.told a.watch }
 
 abbrev pub ghosts-mirror_at-B-Given : goal.ghosts-mirror_at-B-Given
-ghosts-mirror_at-B-Given g a = record { faults = faults_of g.D.Disk.state a.disks; whole = false }
+ghosts-mirror_at-B-Given g a = record { faults = faults_of g.D.Disk.state a.disks; whole = false; told = g.W.MirrorWatch.told a.watch }

@@ -21,12 +21,12 @@ returns-in-Err-mount-clause-link_blame g c =
 
 pub run_over-disks-requires-clause-running : goal.run_over-disks-requires-clause-running
 run_over-disks-requires-clause-running g c =
-    run_begun g.W.Given.faults (faults_of g.D.Disk.state c.args.disks) g.W.Given.whole (pair g.D.Disk.state c.in-Ok-mount.mounted.0) c.requires.whole.0
+    run_begun g.A.Given.faults (faults_of g.D.Disk.state c.args.disks) g.A.Given.whole (pair g.D.Disk.state c.in-Ok-mount.mounted.0) c.requires.whole.0
     (λ _. sym c.stale.ensures ∙ c.if-stale-eq0.true) c.in-Ok-mount.ensures.since
 
 pub returns-then-stale-eq0-clause-ran : goal.returns-then-stale-eq0-clause-ran
 returns-then-stale-eq0-clause-ran g c =
-    mirrored g.D.Disk.state _ g.W.Given.faults g.W.Given.whole _ c.args.plan c.run_over-disks.result.0 _ _ c.args.disks c.run_over-disks.result.1
+    mirrored g.D.Disk.state _ g.A.Given.faults g.A.Given.whole _ c.args.plan c.run_over-disks.result.0 _ _ c.args.disks c.run_over-disks.result.1
     (pair g.D.Disk.state c.in-Ok-mount.mounted.0) c.in-Ok-mount.mounted.1 c.requires.whole.0
     (c.requires.whole.1 ∙ sym (eq-eqb (count_of c.in-Ok-mount.mounted.0.sides.stale) 0 (sym c.stale.ensures ∙ c.if-stale-eq0.true)))
     c.in-Ok-mount.ensures.begun (rw (c.in-Ok.ensures, c.copy_of.ensures) at c.run_over-disks.ensures.ran)

@@ -1,14 +1,25 @@
 use Rattle.aoe_mirror.specs.Mirror.{pair}
 use Rattle.aoe_mirror.proofs.Covering.{run_then, stored_syncs}
+use Rattle.aoe_mirror.proofs.Telling.{told_on, told_side}
 use Rattle.aoe_serve.proofs.over_mirror.CountedStore.sync.Goals as goal
 
+pub note-requires : goal.note-requires
+note-requires g c = told_side (pair g.D.Disk.state c.self.inside.mirror) c.self.inside.standing g.G.Given.told (g.W.MirrorWatch.told c.self.inside.watch)
+    c.self.invariant.1 c.self.invariant.0.since.mirror.mark.side
+
 pub invariant_of-self : goal.invariant_of-self
-invariant_of-self g c = run_then g.G.Given.faults g.G.Given.whole (pair g.D.Disk.state c.self.inside.mirror) (pair g.D.Disk.state c.sync.new.self)
-    c.sync.ensures.mirror.mirror c.sync.ensures.mirror.counts c.sync.ensures.mirror.keeps c.self.invariant
+invariant_of-self g c =
+    let old = pair g.D.Disk.state c.self.inside.mirror in
+    let new = pair g.D.Disk.state c.sync-synced.new.self in
+    let m = c.sync-synced.ensures.mirror in (
+      run_then g.G.Given.faults g.G.Given.whole old new m.mirror m.counts m.keeps c.self.invariant.0,
+      told_on old new c.self.inside.standing c.note.new.standing g.G.Given.told (g.W.MirrorWatch.told c.self.inside.watch)
+          (g.W.MirrorWatch.told c.note.new.watch) c.self.invariant.1 c.note.ensures.tells c.note.ensures.standing,
+    )
 
 pub returns-clause-syncs : goal.returns-clause-syncs
 returns-clause-syncs g c =
     let old = pair g.D.Disk.state c.self.inside.mirror in
-    let new = pair g.D.Disk.state c.sync.new.self in
-    let m = c.sync.ensures.mirror in
-    rw (← c.self.view_is) (stored_syncs g.G.Given.faults g.G.Given.whole old new c.self.invariant m.counts c.sync.result m.cause m.syncs)
+    let new = pair g.D.Disk.state c.sync-synced.new.self in
+    let m = c.sync-synced.ensures.mirror in
+    rw (← c.self.view_is) (stored_syncs g.G.Given.faults g.G.Given.whole old new c.self.invariant.0 m.counts c.sync-synced.result m.cause m.syncs)
