@@ -1,7 +1,7 @@
 -- A run of `audit`, by its status.
-use Rattle.std.proofs.Common.{◌≡◌, ◌≢◌, ◌≤◌, ◌+◌, ℕ, List, [], ◌∷◌, Option, Some, None, IfSome, Result, Ok, Err, refl, sym, ap, ◌∙◌, arith, inl, inr}
-use Rattle.std.specs.Prelude.{◌↔◌, ◌⊎◌, IfErr}
-use Rattle.aoe_base.specs.Faults.{Blamed, Rose}
+use Rattle.std.proofs.Common.{◌≡◌, ◌≢◌, ◌≤◌, ℕ, List, Option, Some, None, IfSome, Result, Ok, Err, refl, sym, ap, ◌∙◌, arith, inl, inr}
+use Rattle.std.specs.Prelude.{◌↔◌, IfErr}
+use Rattle.aoe_base.specs.Faults.{Blamed}
 use Rattle.aoe_disk.specs.State.{Contents, DiskState}
 use Rattle.aoe_keep.specs.Found.{AlwaysFinds, found}
 use Rattle.aoe_keep.proofs.MountLemmas.{room-for-slots, told-found}

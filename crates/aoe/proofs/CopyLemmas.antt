@@ -1,9 +1,8 @@
 -- Which statuses a copy has, and what they tell of its link and its source.
-use Rattle.std.proofs.Common.{◌≡◌, ◌∙◌, Result, Ok, Err, true, ap, refl, sym}
+use Rattle.std.proofs.Common.{◌≡◌, ◌∙◌, Result, Err, true, ap, refl, sym}
 use Rattle.std.specs.Prelude.{◌↔◌}
 use Rattle.aoe_copy.specs.declared.end.CopyRefusal.{CopyRefusal}
 use Rattle.aoe_copy.specs.declared.end.CopyRefusal.TheVariants as copy
-use Rattle.aoe_tools.specs.declared.end.ToolRefusal.{ToolRefusal}
 use Rattle.aoe_tools.specs.declared.end.ToolRefusal.TheVariants as tool
 use Rattle.aoe.specs.Tools.{copied, copy_status, is_copy_status}
 use Rattle.aoe.specs.declared.status.Status.{Status}

@@ -9,7 +9,7 @@ use aoe_io::{InputRefusal, Source, read_up_to};
 use aoe_tools::ToolRefusal;
 use std::alloc::Global;
 
-/// The most bytes of an input, 16 MiB: a limit of this program.
+/// The bytes of an input that are read before anything is sent, 16 MiB at most.
 const LONGEST_INPUT: usize = 16_777_216;
 
 /// What a source gave.

@@ -1,11 +1,9 @@
 -- What a watch is told of a mirror.
-use Rattle.std.proofs.Common.{◌≡◌, ◌≤◌, ◌-◌, ◌==◌, ◌&&◌, ℕ, zero, suc, Bool, true, false, List, [], ◌∷◌, ◌++◌, Option, Some, None, refl, sym, ap, subst, ◌∙◌, inl, inr, arith, eq-eqb, ne_eqb, option_to_list, append_assoc}
-use Rattle.std.proofs.lemmas.Bool.{cases_Bool, cases_eq}
-use Rattle.aoe_disk.specs.State.{BothTell}
+use Rattle.std.proofs.Common.{◌≡◌, ◌≤◌, ◌-◌, ◌==◌, ◌&&◌, ℕ, Bool, true, false, List, [], ◌∷◌, ◌++◌, Option, Some, None, refl, sym, ap, ◌∙◌, inl, inr, arith, eq-eqb, ne_eqb, option_to_list, append_assoc}
+use Rattle.std.proofs.lemmas.Bool.{cases_eq}
 use Rattle.aoe_mirror.specs.Sides.{Pair}
-use Rattle.aoe_mirror.specs.Watching.{AreChanges, HasTold, Hears, IsChange, TellsChanges, new_lead, new_state, standing_of, state_event}
+use Rattle.aoe_mirror.specs.Watching.{AreChanges, HasTold, Hears, TellsChanges, new_lead, new_state, standing_of, state_event}
 use Rattle.aoe_mirror.specs.declared.watch.MirrorEvent.{MirrorEvent}
-use Rattle.aoe_mirror.specs.declared.watch.MirrorEvent.TheVariants.{Behind, Leads, Whole}
 use Rattle.aoe_mirror.specs.declared.watch.Standing.{Standing}
 
 changes_then : (xs ys : List MirrorEvent) (a b c : Standing) → AreChanges xs a b → AreChanges ys b c → AreChanges (ys ++ xs) a c

@@ -14,8 +14,8 @@
 //!    `write` and `sync` do both sides. Where the follower fails, what it missed is stale. Where
 //!    the lead fails and nothing is stale, the other side leads from then on, as soon as the mark
 //!    disk says so. A `sync` that is Ok ends with one `resync`.
-//! 4. [`note`] tells a [`MirrorWatch`] which side leads and whether the other has all sectors, where
-//!    that isn't as it was told.
+//! 4. [`note`] tells a [`MirrorWatch`] which side leads and whether the other has all sectors,
+//!    where that isn't as it was told: just what changed (`TellsChanges`).
 //! 5. [`Mirror::close`] returns the disks. Sync before.
 //!
 //! A bit for each sector is held, so a disk of 1 TB takes 244 MB, and one of 2^40 sectors 128 GB,

@@ -50,7 +50,7 @@ impl Standing {
     }
 }
 
-// Whether the lead changed, and then which side leads.
+/// Whether the lead changed, and then which side leads.
 fn new_lead(before: Standing, after: Standing) -> Option<MirrorEvent>
     ensures { result ≡ new_lead before after }
 {
@@ -60,8 +60,8 @@ fn new_lead(before: Standing, after: Standing) -> Option<MirrorEvent>
     Some(MirrorEvent::Leads(after.lead))
 }
 
-// Whether the side that follows has old sectors now and had none, or has all of them again. It has old
-// ones where the lead changed.
+/// Whether the side that follows has old sectors now and had none, or has all of them again. It has
+/// old ones where the lead changed.
 fn new_state(before: Standing, after: Standing) -> Option<MirrorEvent>
     requires { after.lead ≤ 1 }
     ensures { result ≡ new_state before after }
@@ -74,7 +74,7 @@ fn new_state(before: Standing, after: Standing) -> Option<MirrorEvent>
     }
 }
 
-// TellsChanges what there is to tell.
+/// Tells what there is to tell.
 fn tell_some<W: MirrorWatch>(watch: &mut W, event: Option<MirrorEvent>)
     ensures { Hears (option_to_list event) (W.told watch.old) (W.told watch.new) }
 {
@@ -83,7 +83,7 @@ fn tell_some<W: MirrorWatch>(watch: &mut W, event: Option<MirrorEvent>)
     }
 }
 
-// TellsChanges what led from one standing to another.
+/// Tells what led from one standing to another.
 fn tell_change<W: MirrorWatch>(watch: &mut W, before: Standing, after: Standing)
     requires sides { (before.lead ≤ 1) × (after.lead ≤ 1) }
     ensures { TellsChanges before after (W.told watch.old) (W.told watch.new) }
@@ -92,7 +92,7 @@ fn tell_change<W: MirrorWatch>(watch: &mut W, before: Standing, after: Standing)
     tell_some(watch, new_state(before, after));
 }
 
-/// TellsChanges the watch how a mirror stands, where that isn't as it was told.
+/// Tells the watch how a mirror stands, where that isn't as it was told.
 pub fn note<D: Disk, W: MirrorWatch>(mirror: &Mirror<D>, watch: &mut W, standing: &mut Standing)
     requires { standing.old.lead ≤ 1 }
     ensures tells { TellsChanges standing.old standing.new (W.told watch.old) (W.told watch.new) }
