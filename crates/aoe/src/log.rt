@@ -1,4 +1,4 @@
-//! What a service's log gets on standard error, where the environment asks for it.
+//! What a service's log gets on standard error, where the environment asks for it or that is a terminal.
 use aoe_args::{PortWords, Serve};
 use aoe_base::put_macs;
 use aoe_disk::Disk;
@@ -7,8 +7,9 @@ use aoe_system::{FileDisk, FileLog, Until, Wire, say};
 use aoe_wire::WireLink;
 use std::alloc::AllocError;
 use std::env;
+use std::io::IsTerminal;
 
-/// The variable of the environment that asks for it by the value 1.
+/// The variable of the environment that asks for it by the value 1, and by another has none.
 const ASKED: &str = "AOE_LOG";
 
 /// The log of a run. Its first line is gathered while files and links are opened. What it has no memory for
@@ -20,10 +21,13 @@ pub struct Log {
 }
 
 impl Log {
-    /// None where none is asked for.
-    pub fn asked(rt: &HostRuntime) -> Option<Log> {
-        let value = env::var(rt, ASKED).ok()?;
-        if value.as_str() != "1" {
+    /// None where none is asked for. Of a shelf that is served a terminal asks, too.
+    pub fn asked(rt: &HostRuntime, is_served: bool) -> Option<Log> {
+        let is_asked = match env::var(rt, ASKED) {
+            Ok(value) => value.as_str() == "1",
+            Err(_) => is_served && rt.stderr().is_terminal(),
+        };
+        if !is_asked {
             return None;
         }
         Some(Log {

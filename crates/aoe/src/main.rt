@@ -178,6 +178,34 @@ fn is_keep(command: &Command, number: usize) -> bool {
     }
 }
 
+/// Whether the sectors of the file with this number are served.
+fn is_served(command: &Command, number: usize) -> bool {
+    match command {
+        Command::Answer(_) | Command::Serve(_) => number % 2 == 0,
+        Command::Mirror(_) => number < 2,
+        _ => false,
+    }
+}
+
+/// Says what of a file that is served may not be as whoever named it thinks.
+fn tell_odd(rt: &HostRuntime, name: &str, disk: &FileDisk) {
+    if let Some(form) = disk.image_form()
+        && let Ok(text) = format!(in rt.alloc();
+            "aoe: {name} begins as a {form} image, and is served as it stands\n"
+        )
+    {
+        say(rt, text.as_bytes());
+    }
+    let rest = disk.rest();
+    if rest > 0
+        && let Ok(text) = format!(in rt.alloc();
+            "aoe: {name}: the last {rest} bytes are no whole sector, and aren't served\n"
+        )
+    {
+        say(rt, text.as_bytes());
+    }
+}
+
 /// Opens the file with this number; the exit status where it can't be opened, which is said. The copying
 /// to a mirror's first two files is shown, and where there is a log it gets what fails.
 fn open_file(
@@ -191,6 +219,12 @@ fn open_file(
         Ok(disk) => disk,
         Err(refusal) => return Err(tell_refused(rt, name.as_bytes(), refusal)),
     };
+    if is_served(command, number) {
+        if disk.sectors() == 0 {
+            return Err(tell_name(rt, b"no sectors: ", name.as_bytes(), 5));
+        }
+        tell_odd(rt, name, &disk);
+    }
     if matches!(command, Command::Mirror(_)) && number < 2 {
         disk.show_copying(rt);
     }
@@ -487,7 +521,7 @@ fn run_line(rt: &HostRuntime, line: CommandLine) -> u8
     {
         return tell_stopped(rt, name.as_bytes());
     }
-    let mut log = Log::asked(rt);
+    let mut log = Log::asked(rt, matches!(&command, Command::Serve(_)));
     let mut disks = match open_all(rt, &command, files.as_slice(), &mut log) {
         Ok(disks) => disks,
         Err(code) => return code,

@@ -113,9 +113,9 @@ live_app = with_rule (with_rule (with_rule live_ends (optional (codes "one-tap")
 abbrev pub switch_app : App
 switch_app = with_rule (bare (codes "switch")) (several (codes "ports"))
 
--- keep KEEP ACTION
+-- keep KEEP ACTION [LIST]
 abbrev pub keep_app : App
-keep_app = with_rule (with_rule (bare (codes "keep")) (needed (codes "keep"))) (needed (codes "action"))
+keep_app = with_rule (with_rule (with_rule (bare (codes "keep")) (needed (codes "keep"))) (needed (codes "action"))) (allowed (codes "list"))
 
 -- with the options of a tool
 abbrev pub with_tool_options : App → App

@@ -34,6 +34,7 @@ follower command count word =
     else if bytes_eq command (codes "cfg") then (if count == 2 && is_some (ccmd_with_text word) then Some (codes "text") else None)
     else if bytes_eq command (codes "mask") then (if count == 2 && bytes_eq word (codes "edit") then Some (codes "dirs") else None)
     else if bytes_eq command (codes "reserve") then (if count == 2 && is_some (rcmd_with_list word) then Some (codes "macs") else None)
+    else if bytes_eq command (codes "keep") then (if count == 2 && bytes_eq word (codes "clear") then Some (codes "list") else None)
     else None
 
 -- the most words that a command takes by their place, where that isn't one for each argument: a number and two FILEs for each of 16 slots, 16 ports, a device with an action and 64 addresses

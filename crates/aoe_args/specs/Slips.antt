@@ -29,6 +29,11 @@ is_action for.Reserve text =
     bytes_eq text (codes "read") || bytes_eq text (codes "set") || bytes_eq text (codes "force") || bytes_eq text (codes "release")
 is_action for.Keep text =
     bytes_eq text (codes "show") || bytes_eq text (codes "upgrade") || bytes_eq text (codes "lock") || bytes_eq text (codes "unlock")
+    || bytes_eq text (codes "clear")
+
+-- a text names what of a keep can be emptied
+abbrev pub is_list : Text → Bool
+is_list text = bytes_eq text (codes "config") || bytes_eq text (codes "masks") || bytes_eq text (codes "reserves")
 
 -- a text isn't what this says it has to be
 abbrev pub IsMisfit : Wanted → Text → Type 0
@@ -40,6 +45,7 @@ IsMisfit want.Device text = device_of text ≡ None
 IsMisfit want.Address text = mac_of text ≡ None
 IsMisfit want.Directive text = dir_of text ≡ None
 IsMisfit (want.Action actions) text = is_action actions text ≡ false
+IsMisfit want.List text = is_list text ≡ false
 
 -- the names of the commands
 abbrev pub command_names : List Text
@@ -90,6 +96,7 @@ wanted command name =
     else if bytes_eq name (codes "dirs") then Some want.Directive
     else if bytes_eq name (codes "macs") then Some want.Address
     else if bytes_eq name (codes "action") then Some (want.Action (actions_of command))
+    else if bytes_eq name (codes "list") then Some want.List
     else number_wanted command name
 
 -- a text is what an argument of this name has to be

@@ -28,7 +28,7 @@ use Rattle.aoe_args.specs.declared.command.Soak.{Soak as Soaks}
 use Rattle.aoe_args.specs.declared.command.Live.{Live as Lives}
 use Rattle.aoe_args.specs.declared.command.Switch.{Switch as Switches}
 use Rattle.aoe_args.specs.declared.command.KeepAction.{KeepAction}
-use Rattle.aoe_args.specs.declared.command.KeepAction.TheVariants.{Show, Upgrade, Lock, Unlock}
+use Rattle.aoe_args.specs.declared.command.KeepAction.TheVariants.{Show, Upgrade, Lock, Unlock, ClearConfig, ClearMasks, ClearReserves}
 use Rattle.aoe_args.specs.declared.command.PortWords.{PortWords}
 use Rattle.aoe_args.specs.declared.command.Command.{Command}
 use Rattle.aoe_args.specs.declared.command.Command.TheVariants.{Answer, Serve, Mirror, Audit, Replay, Soak, Live, Switch, Ask, Get, Put, Keep}
@@ -104,9 +104,9 @@ has_slots rows = length (files rows) % 2 == 0 && nat_le 2 (length (files rows)) 
 abbrev pub frames_of : List Row → Option (Option ℕ)
 frames_of = given_or (codes "frames") (λ text. option_map Some (number_within 1 4294967295 text)) None
 
--- how many quiet turns end the run: 3000 where nothing is said of it; where 0 is said none do
+-- how many quiet turns end the run; none do where nothing is said of it, or 0 is
 abbrev pub idle_of : List Row → Option (Option ℕ)
-idle_of rows = option_map (λ turns. if turns == 0 then None else Some turns) (given_or (codes "idle") (number_within 0 1000000) 3000 rows)
+idle_of rows = option_map (λ turns. if turns == 0 then None else Some turns) (given_or (codes "idle") (number_within 0 1000000) 0 rows)
 
 -- the shelf of serve with its addresses, of so many slots
 unfoldable pub serve_with : ℕ → List Row → Option Serves
@@ -129,7 +129,7 @@ mirror_of rows =
     record { id = record { major = major; minor = minor }; port = port; mtu = mtu })
     (mtu_of rows)) (given_or (codes "port") port_of default_port rows)) (slot_of rows)) (shelf_of rows)
 
--- keep KEEP ACTION and audit SHELF SLOT SECTORS KEEP: the file of the keep
+-- keep KEEP ACTION [LIST] and audit SHELF SLOT SECTORS KEEP: the file of the keep
 abbrev pub keep_name : List Row → Option Text
 keep_name = first_of (codes "keep")
 
@@ -163,17 +163,30 @@ unfoldable pub switch_of : List Row → Option Switches
 switch_of rows =
     option_and_then (λ words. option_map (λ kinds. record { ports = record { items = kinds } }) (kinds_of words)) (all_of (codes "ports") rows)
 
+-- keep KEEP clear LIST: what of it is to be emptied
+abbrev pub clear_action : Text → Option KeepAction
+clear_action list =
+    if bytes_eq list (codes "config") then Some ClearConfig
+    else if bytes_eq list (codes "masks") then Some ClearMasks
+    else if bytes_eq list (codes "reserves") then Some ClearReserves
+    else None
+
 -- keep KEEP ACTION: what is to be done with it
-abbrev pub keep_action : Text → Option KeepAction
-keep_action action =
+abbrev pub plain_action : Text → Option KeepAction
+plain_action action =
     if bytes_eq action (codes "show") then Some Show
     else if bytes_eq action (codes "upgrade") then Some Upgrade
     else if bytes_eq action (codes "lock") then Some Lock
     else if bytes_eq action (codes "unlock") then Some Unlock
     else None
 
+-- of both
+abbrev pub keep_action : Text → Option Text → Option KeepAction
+keep_action action None = plain_action action
+keep_action action (Some list) = if bytes_eq action (codes "clear") then clear_action list else None
+
 unfoldable pub keep_of : List Row → Option KeepAction
-keep_of rows = option_and_then (λ name. given (codes "action") keep_action rows) (keep_name rows)
+keep_of rows = option_and_then (λ name. given (codes "action") (λ action. keep_action action (first_of (codes "list") rows)) rows) (keep_name rows)
 
 -- the tool of this name, of those that read and edit what a device keeps
 unfoldable pub list_tool_of : Text → List Row → Option Tool

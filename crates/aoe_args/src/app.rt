@@ -52,6 +52,9 @@ const DEV: Argument = ("dev", Needed);
 /// What to do with what a device keeps, or with a keep.
 const ACTION: Argument = ("action", Needed);
 
+/// What of a keep is emptied.
+const LIST: Argument = ("list", Allowed);
+
 /// The string that is compared or set.
 const TEXT: Argument = ("text", Allowed);
 
@@ -217,7 +220,7 @@ pub(crate) static FORMS: [Form; 18] = [
             PROGRESS,
         ],
     ),
-    ("keep", &[KEEP, ACTION]),
+    ("keep", &[KEEP, ACTION, LIST]),
 ];
 
 /// Words by their place.

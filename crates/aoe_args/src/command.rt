@@ -122,7 +122,7 @@ pub struct Switch {
     pub ports: PortKinds,
 }
 
-/// What `keep KEEP ACTION` asks for, of the keep of a slot that no shelf serves.
+/// What `keep KEEP ACTION [LIST]` asks for, of the keep of a slot that no shelf serves.
 #[derive(Clone, Copy, PartialEq, Eq)]
 pub enum KeepAction {
     /// To write what it holds as a line.
@@ -136,6 +136,15 @@ pub enum KeepAction {
 
     /// To clear that mark.
     Unlock,
+
+    /// To empty the config string.
+    ClearConfig,
+
+    /// To empty the mask list, so that every station is answered.
+    ClearMasks,
+
+    /// To empty the reserve list, so that every station's ATA commands are done.
+    ClearReserves,
 }
 
 /// Who asks, and how long it listens: what every tool is told.

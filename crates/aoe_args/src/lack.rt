@@ -57,6 +57,7 @@ fn follower(command: &str, count: usize, word: &str) -> Option<&'static str>
         ("cfg", 2) if ccmd_with_text(word).is_some() => Some("text"),
         ("mask", 2) if word == "edit" => Some("dirs"),
         ("reserve", 2) if rcmd_with_list(word).is_some() => Some("macs"),
+        ("keep", 2) if word == "clear" => Some("list"),
         _ => None,
     }
 }

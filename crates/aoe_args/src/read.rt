@@ -3,7 +3,7 @@ ghost use Rattle.std.specs.Prelude.{◌≡◌, ◌≢◌, ◌≤◌, length, fal
 ghost use Rattle.std.specs.List.{list_all};
 ghost use Rattle.clap.specs.Values.{kind_of};
 ghost use Rattle.clap.specs.Words.{found_of, rows_of};
-ghost use Rattle.aoe_args.specs.Words.{CanRun, CanServe, Fits, IsFoundIn, IsInRange, answer_of, asked_of, audit_of, command, command_of, file_count, file_names, files_of, holds_back_durably, idle_of, is_durable, is_told, is_told_in, is_word, keep_action, keep_name, keep_of, link_count, links_of, list_tool_of, live_of, mirror_of, parsed, port_words, serve_of, serve_with, soak_of, stop_in, stop_name, switch_of, tool_of};
+ghost use Rattle.aoe_args.specs.Words.{CanRun, CanServe, Fits, IsFoundIn, IsInRange, answer_of, asked_of, audit_of, command, command_of, file_count, file_names, files_of, holds_back_durably, idle_of, is_durable, is_told, is_told_in, is_word, clear_action, plain_action, keep_name, keep_of, link_count, links_of, list_tool_of, live_of, mirror_of, parsed, port_words, serve_of, serve_with, soak_of, stop_in, stop_name, switch_of, tool_of};
 ghost use Rattle.aoe_args.specs.Values.{link};
 
 use crate::app::matches;
@@ -43,8 +43,8 @@ const DEFAULT_MTU: u32 = 1500;
 /// How many sectors a slot buffers where nothing is said of it.
 const DEFAULT_CACHE: u32 = 0;
 
-/// How many turns without a frame end `serve` where nothing is said of it.
-const DEFAULT_IDLE: u32 = 3000;
+/// How many turns without a frame end `serve` where nothing is said of it: none do.
+const DEFAULT_IDLE: u32 = 0;
 
 /// How many turns that end no command end `live` where nothing is said of it.
 const LIVE_TURNS: u32 = 5000;
@@ -261,9 +261,21 @@ fn live_of(found: &ArgMatches) -> Option<Command>
     }))
 }
 
-/// What is to be done with a keep.
-fn keep_action(action: &str) -> Option<KeepAction>
-    ensures { result ≡ keep_action action.now }
+/// What of a keep is to be emptied.
+fn clear_action(list: &str) -> Option<KeepAction>
+    ensures { result ≡ clear_action list.now }
+{
+    match list {
+        "config" => Some(KeepAction::ClearConfig),
+        "masks" => Some(KeepAction::ClearMasks),
+        "reserves" => Some(KeepAction::ClearReserves),
+        _ => None,
+    }
+}
+
+/// What is to be done with a keep by an action that stands alone.
+fn plain_action(action: &str) -> Option<KeepAction>
+    ensures { result ≡ plain_action action.now }
 {
     match action {
         "show" => Some(KeepAction::Show),
@@ -281,7 +293,13 @@ fn keep_of(found: &ArgMatches) -> Option<Command>
     ensures fits { IfSome result (Fits (rows_of (found_of found.now))) }
 {
     let _name = keep_name(found)?;
-    Some(Command::Keep(keep_action(text(found, "action")?)?))
+    let action = text(found, "action")?;
+    let asked = match text(found, "list") {
+        None => plain_action(action)?,
+        Some(list) if action == "clear" => clear_action(list)?,
+        Some(_) => return None,
+    };
+    Some(Command::Keep(asked))
 }
 
 /// What the arguments of the tool of this name ask for, of those that read and edit what a device

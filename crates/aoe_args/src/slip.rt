@@ -4,7 +4,7 @@ ghost use Rattle.std.specs.List.{list_all, list_any};
 ghost use Rattle.std.specs.Str.{bytes_eq};
 ghost use Rattle.aoe_args.specs.Apps.{argument as told, form as told_form};
 ghost use Rattle.aoe_args.specs.Places.{argument_at, argument_behind, awaits, form_named, is_flag, is_given, is_option, option_at, option_named, takes_several, word_at};
-ghost use Rattle.aoe_args.specs.Slips.{AreRight, IsFit, IsMisfit, IsRight, IsSlip, IsSlipIn, IsUnusable, actions_of, is_action, is_command_name, number_wanted, text_in, wanted};
+ghost use Rattle.aoe_args.specs.Slips.{AreRight, IsFit, IsMisfit, IsRight, IsSlip, IsSlipIn, IsUnusable, actions_of, is_action, is_command_name, is_list, number_wanted, text_in, wanted};
 ghost use Rattle.aoe_args.specs.Walks.{IsWalked};
 ghost use Rattle.aoe_args.specs.Values.{number_within};
 ghost use Rattle.aoe_args.specs.Words.{attached, command, is_value, is_word};
@@ -40,7 +40,7 @@ pub enum Actions {
     #[error("read, set, force, release")]
     Reserve,
 
-    #[error("show, upgrade, lock, unlock")]
+    #[error("show, upgrade, lock, unlock, clear")]
     Keep,
 }
 
@@ -70,6 +70,9 @@ pub enum Wanted {
 
     #[error("one of {0}")]
     Action(Actions),
+
+    #[error("one of config, masks, reserves")]
+    List,
 }
 
 /// What is wrong with a word, or with all of them. Arguments have the names that clap has them by.
@@ -156,6 +159,7 @@ pub(crate) fn title<'a>(name: &&'a str) -> &'a str {
         "count" => "COUNT",
         "dev" => "DEV",
         "action" => "ACTION",
+        "list" => "LIST",
         "text" => "TEXT",
         "dirs" | "macs" => "MAC",
         "at" => "AT",
@@ -283,8 +287,16 @@ fn is_action(actions: Actions, text: &[u8]) -> bool
                 || text == b"upgrade".as_slice()
                 || text == b"lock".as_slice()
                 || text == b"unlock".as_slice()
+                || text == b"clear".as_slice()
         }
     }
+}
+
+/// Whether a text names what of a keep can be emptied.
+fn is_list(text: &[u8]) -> bool
+    ensures { result ≡ is_list text.now }
+{
+    text == b"config".as_slice() || text == b"masks".as_slice() || text == b"reserves".as_slice()
 }
 
 /// What an argument of this name has to be; `None` where it may be any word.
@@ -300,6 +312,7 @@ fn wanted_by(command: &str, name: &str) -> Option<Wanted>
         "dirs" => Some(Wanted::Directive),
         "macs" => Some(Wanted::Address),
         "action" => Some(Wanted::Action(actions_of(command))),
+        "list" => Some(Wanted::List),
         _ => number_wanted(command, name),
     }
 }
@@ -329,6 +342,7 @@ fn fits(wanted: Wanted, text: &[u8]) -> bool
         Wanted::Directive => read_dir(text).is_some(),
         Wanted::Address => read_mac(text).is_some(),
         Wanted::Action(actions) => is_action(actions, text),
+        Wanted::List => is_list(text),
     }
 }
 

@@ -25,6 +25,9 @@ const MAX_SECTORS: u64 = 1 << 40;
 /// How many bytes the file of a keep has.
 const KEEP_LEN: usize = 8192;
 
+/// How many bytes at the beginning of a file tell whether it is an image of a known form.
+const FRONT_LEN: usize = 68;
+
 /// Why a file can't be a disk.
 #[derive(Drop)]
 pub enum FileRefusal {
@@ -96,6 +99,21 @@ fn doubt_of(image: &[u8; KEEP_LEN], is_file: bool, len: u64) -> Option<KeepDoubt
     }
 }
 
+/// The form of the image that begins with these bytes, of those whose content isn't the disk itself.
+fn form_of(front: &[u8; FRONT_LEN]) -> Option<&'static str> {
+    if front.starts_with(b"QFI\xfb") {
+        Some("qcow2")
+    } else if front.starts_with(b"KDMV") {
+        Some("VMDK")
+    } else if front.starts_with(b"vhdxfile") {
+        Some("VHDX")
+    } else if front[64..] == [0x7f, 0x10, 0xda, 0xbe] {
+        Some("VDI")
+    } else {
+        None
+    }
+}
+
 /// The whole sectors of a file or a block device; a rest at its end is none. Each failure is counted.
 #[derive(Drop)]
 pub struct FileDisk {
@@ -154,6 +172,21 @@ impl FileDisk {
         ensures { result ≡ self.now.faults }
     {
         self.faults
+    }
+
+    /// The form of an image as which it begins, of those whose content isn't the disk itself.
+    pub fn image_form(&self) -> Option<&'static str> {
+        let mut front = [0; FRONT_LEN];
+        self.file.read_exact_at(&mut front, 0).ok()?;
+        form_of(&front)
+    }
+
+    /// How many bytes of a file stand behind its last whole sector.
+    pub fn rest(&self) -> u64 {
+        match self.file.metadata() {
+            Ok(metadata) if metadata.is_file() => metadata.len() % SECTOR_LEN as u64,
+            _ => 0,
+        }
     }
 
     /// Shows how far the copying of a mirror to this disk is, where standard error is a terminal.

@@ -1,8 +1,9 @@
 -- A keep that was mounted, and what is left of it.
-use Rattle.std.proofs.Common.{◌≡◌, ◌⊎◌, ℕ, Bool, true, false, if◌then◌else◌, List, Option, Some, None, IfSome, OnOk, OnErr, Result, Ok, Err, is_err, ap, inl, inr, refl, sym, subst}
+use Rattle.std.proofs.Common.{◌≡◌, ◌⊎◌, ℕ, Bool, true, false, if◌then◌else◌, List, [], ◌∷◌, ◌==◌, length, Option, Some, None, IfSome, OnOk, OnErr, Result, Ok, Err, is_err, ap, inl, inr, refl, sym, subst}
 use Rattle.std.proofs.Math.Bool.{beq}
 use Rattle.aoe_base.specs.Faults.{Rose}
 use Rattle.aoe_base.specs.declared.failure.Failed.{Failed}
+use Rattle.aoe_base.specs.declared.address.Mac.{Mac}
 use Rattle.aoe_base.proofs.CommonLemmas.{rose-later}
 use Rattle.aoe_disk.specs.State.{Contents, DiskState, BothTell}
 use Rattle.aoe_disk.specs.Calls.{IsRun}
@@ -13,7 +14,9 @@ use Rattle.aoe_keep.specs.declared.place.Place.{Place}
 use Rattle.aoe_keep.specs.declared.refusal.MountRefusal.{MountRefusal}
 use Rattle.aoe_keep.proofs.Offers.{finds_offered}
 use Rattle.aoe_lists.specs.Settings.{Settings}
-use Rattle.aoe_upkeep.specs.Upkeep.{Change, Changed, Changes, Holds, IsCaused, Says, Shows, ended_by, is_disk_fault, line, marked, marking}
+use Rattle.aoe_upkeep.specs.Upkeep.{Change, Changed, Changes, Holds, IsCaused, Says, Shows, cleared, clearing, ended_by, is_clear, is_disk_fault, line, marked, marking}
+use Rattle.aoe_upkeep.specs.declared.change.Part.{Part}
+use Rattle.aoe_upkeep.specs.declared.change.Part.TheVariants as part
 use Rattle.aoe_upkeep.specs.declared.stop.UpkeepStop.{UpkeepStop}
 use Rattle.aoe_upkeep.specs.declared.stop.UpkeepStop.TheVariants as stop
 use Rattle.aoe_upkeep.proofs.Causes.{mounted-causes}
@@ -192,3 +195,30 @@ quiet-mark b f l e = (same-lists l b e, same-format l.read_only b f e)
 
 pub apart-mark : (b : Bool) (l : Settings) → (l.read_only ≡ b → ⊥) → marked b l ≡ l → ⊥
 apart-mark b l not e = not (sym (ap (λ s. s.read_only) e))
+
+-- ---- a part that is emptied
+
+pub decide-clear : (a : Bool) → (a ≡ true) ⊎ (a ≡ true → ⊥)
+decide-clear true = inl refl
+decide-clear false = inr (λ e. absurd cc)
+
+pub full-format : (a : Bool) (f : ℕ) → (a ≡ true → ⊥) → (if a then f else 2) ≡ 2
+full-format true f not = absurd (not refl)
+full-format false f not = refl
+
+is-empty : {A : Type 0} (xs : List A) → (length xs == 0) ≡ true → xs ≡ []
+is-empty [] e = refl
+is-empty (x ∷ xs) e = absurd cc
+
+clear-lists : (p : Part) (l : Settings) → is_clear p l ≡ true → cleared p l ≡ l
+clear-lists part.Config l e = subst (λ (x : List ℕ). (let s : Settings = record l { config = x } in s) ≡ l) (is-empty l.config e) refl
+clear-lists part.Masks l e = subst (λ (x : List Mac). (let s : Settings = record l { masks = x } in s) ≡ l) (is-empty l.masks e) refl
+clear-lists part.Reserves l e = subst (λ (x : List Mac). (let s : Settings = record l { reserves = x } in s) ≡ l) (is-empty l.reserves e) refl
+
+pub quiet-clear : (p : Part) (f : ℕ) (l : Settings) → is_clear p l ≡ true → ((clearing p).lists l ≡ l) × ((clearing p).format f l ≡ f)
+quiet-clear p f l e = (clear-lists p l e, rw e refl)
+
+pub apart-clear : (p : Part) (l : Settings) → (is_clear p l ≡ true → ⊥) → cleared p l ≡ l → ⊥
+apart-clear part.Config l not e = not (ap (λ s. length s.config == 0) (sym e))
+apart-clear part.Masks l not e = not (ap (λ s. length s.masks == 0) (sym e))
+apart-clear part.Reserves l not e = not (ap (λ s. length s.reserves == 0) (sym e))

@@ -1,5 +1,5 @@
 -- What is done with a keep while no shelf runs over it, and what that leaves.
-use Rattle.std.specs.Prelude.{ℕ, ◌≡◌, ◌≢◌, ◌≤◌, ◌<◌, ◌⊎◌, ◌↔◌, Bool, true, false, List, ◌∷◌, Option, IfSome, Result, Ok, Err, if◌then◌else◌, codes, decimal}
+use Rattle.std.specs.Prelude.{ℕ, ◌≡◌, ◌≢◌, ◌≤◌, ◌<◌, ◌⊎◌, ◌↔◌, Bool, true, false, List, [], ◌∷◌, ◌==◌, length, Option, IfSome, Result, Ok, Err, if◌then◌else◌, codes, decimal}
 use Rattle.std.proofs.Math.Bool.{beq}
 use Rattle.aoe_base.specs.Faults.{Rose}
 use Rattle.aoe_base.specs.declared.failure.Failed.{Failed}
@@ -10,6 +10,8 @@ use Rattle.aoe_keep.specs.Keep.{IsRefused, KeepsOthers, Mounts}
 use Rattle.aoe_keep.specs.declared.refusal.MountRefusal.TheVariants as refusal
 use Rattle.aoe_lists.specs.Settings.{Settings}
 use Rattle.aoe_script.specs.Print.{line_text, lists_words}
+use Rattle.aoe_upkeep.specs.declared.change.Part.{Part}
+use Rattle.aoe_upkeep.specs.declared.change.Part.TheVariants as part
 use Rattle.aoe_upkeep.specs.declared.stop.UpkeepStop.{UpkeepStop}
 use Rattle.aoe_upkeep.specs.declared.stop.UpkeepStop.TheVariants as stop
 
@@ -69,6 +71,25 @@ abbrev pub marking : Bool → Change
 marking read_only = record {
   lists = marked read_only;
   format = λ format lists. if beq lists.read_only read_only then format else 2;
+}
+
+-- a part of what a device keeps is empty
+abbrev pub is_clear : Part → Settings → Bool
+is_clear part.Config lists = length lists.config == 0
+is_clear part.Masks lists = length lists.masks == 0
+is_clear part.Reserves lists = length lists.reserves == 0
+
+-- the lists with this part empty
+abbrev pub cleared : Part → Settings → Settings
+cleared part.Config lists = record lists { config = [] }
+cleared part.Masks lists = record lists { masks = [] }
+cleared part.Reserves lists = record lists { reserves = [] }
+
+-- the part is emptied; where it is empty nothing is written, and else the lists are, in format 2
+abbrev pub clearing : Part → Change
+clearing part = record {
+  lists = cleared part;
+  format = λ format lists. if is_clear part lists then format else 2;
 }
 
 -- A keep was mounted and changed: every crash finds the lists and the format that the change makes. Where it makes nothing new no device

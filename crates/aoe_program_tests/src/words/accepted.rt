@@ -32,7 +32,7 @@ fn reads_serve(rt: HostRuntime) -> Result<(), Fail> {
     let cases = [
         (
             "serve 1 d0 k0 d1 k1 --local x --peers y",
-            serve(1, 2, &[mac(1)], 1500, 0, None, Some(3000)),
+            serve(1, 2, &[mac(1)], 1500, 0, None, None),
         ),
         (
             "serve 0 d k --local x --peers y,z --idle 1 --frames=4294967295 --ports 02:00:00:00:00:01,02:00:00:00:00:02,02:00:00:00:00:03,02:00:00:00:00:04",

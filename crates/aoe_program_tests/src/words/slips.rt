@@ -265,7 +265,11 @@ fn says_what_is_wrong_with_actions_and_ports(rt: HostRuntime) -> Result<(), Fail
         ),
         (
             "keep lists open",
-            "ACTION: open isn't one of show, upgrade, lock, unlock",
+            "ACTION: open isn't one of show, upgrade, lock, unlock, clear",
+        ),
+        (
+            "keep lists clear mask",
+            "LIST: mask isn't one of config, masks, reserves",
         ),
         (
             "switch access:1 trunk:1,4095",
