@@ -1,5 +1,5 @@
 -- A keep that was mounted, and what is left of it.
-use Rattle.std.proofs.Common.{◌≡◌, ◌⊎◌, ℕ, Bool, true, false, if◌then◌else◌, List, [], ◌∷◌, ◌==◌, length, Option, Some, None, IfSome, OnOk, OnErr, Result, Ok, Err, is_err, ap, inl, inr, refl, sym, subst}
+use Rattle.std.proofs.Common.{◌≡◌, ◌⊎◌, ℕ, Bool, true, false, if◌then◌else◌, List, [], ◌∷◌, ◌==◌, length, Option, Some, None, IfSome, OnOk, OnErr, Result, Ok, Err, is_err, ap, inl, inr, refl, sym, subst, ◌∙◌, arith, ne_eqb}
 use Rattle.std.proofs.Math.Bool.{beq}
 use Rattle.aoe_base.specs.Faults.{Rose}
 use Rattle.aoe_base.specs.declared.failure.Failed.{Failed}
@@ -208,7 +208,7 @@ full-format false f not = refl
 
 is-empty : {A : Type 0} (xs : List A) → (length xs == 0) ≡ true → xs ≡ []
 is-empty [] e = refl
-is-empty (x ∷ xs) e = absurd cc
+is-empty (x ∷ xs) e = absurd (let no : true ≡ false = sym e ∙ ne_eqb (length (x ∷ xs)) 0 (λ z. omega (arith, z)) in cc)
 
 clear-lists : (p : Part) (l : Settings) → is_clear p l ≡ true → cleared p l ≡ l
 clear-lists part.Config l e = subst (λ (x : List ℕ). (let s : Settings = record l { config = x } in s) ≡ l) (is-empty l.config e) refl
