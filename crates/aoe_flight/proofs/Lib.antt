@@ -2,7 +2,7 @@
 -- rest. A table forgets only what changes no answer: the law speaks of all commands, the code asks
 -- the table, and the `*-recalled` lemmas say that both answer alike. Each order of the table is
 -- tied to it by counts (`IsOrderOf`, in `IsIndexed`).
--- Read `EntryLemmas`, `IndexLemmas`, `ChangeLemmas`, `TableLemmas`, `ValueLemmas`.
+-- Read `EntryLemmas`, `IndexLemmas`, `ChangeLemmas`, `TableLemmas`, `ValueLemmas`, `TimeLemmas`.
 mod ChangeLemmas
 pub mod CountLemmas
 mod EntryLemmas
@@ -16,4 +16,5 @@ mod SlotLemmas
 mod SoundLemmas
 mod TableLemmas
 mod TagLemmas
+pub mod TimeLemmas
 mod ValueLemmas

@@ -32,7 +32,7 @@ same-cons x xs ys same test = count-cons test x xs ∙ rw (same test) (sym (coun
 same-permutation : (xs ys : List Outstanding) → IsPermutation xs ys → SameCommands ys xs
 same-permutation xs ys is test = sum_by-IsPermutation (λ (y : Outstanding). cond (test y) 1 0) xs ys is
 
-all-same : (test : Outstanding → Bool) (xs ys : List Outstanding) → SameCommands xs ys → All (λ c. test c ≡ false) xs → All (λ c. test c ≡ false) ys
+pub all-same : (test : Outstanding → Bool) (xs ys : List Outstanding) → SameCommands xs ys → All (λ c. test c ≡ false) xs → All (λ c. test c ≡ false) ys
 all-same test xs ys same all = none-all test ys (sym (same test) ∙ all-none test xs all)
 
 -- a test that one command alone passes
@@ -57,7 +57,7 @@ Contains-live_all rest latest sent c there = All-contains (Contains sent) (live 
     (All-filter (λ d. not (is_over rest latest d)) (Contains sent) sent (All-contains_itself sent)) there
 
 -- a test of flying commands that none of the live ones passes
-all-live : (test : Outstanding → Bool) (rest latest : ℕ) → ((c : Outstanding) → c.finished ≡ true → test c ≡ false) → (sent : List Outstanding)
+pub all-live : (test : Outstanding → Bool) (rest latest : ℕ) → ((c : Outstanding) → c.finished ≡ true → test c ≡ false) → (sent : List Outstanding)
     → All (λ c. test c ≡ false) (live rest latest sent) → All (λ c. test c ≡ false) sent
 all-live test rest latest flying sent none = λ k d below.
     let c = get_or sent k d in

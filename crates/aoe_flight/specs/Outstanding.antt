@@ -44,6 +44,14 @@ precedes a b = nat_lt (deadline a) (deadline b) || (nat_eq (deadline a) (deadlin
 abbrev pub is_older : Outstanding → Outstanding → Bool
 is_older a b = nat_lt a.flying.first.0 b.flying.first.0
 
+-- a command was sent for the last time before another
+abbrev pub is_earlier : Outstanding → Outstanding → Bool
+is_earlier a b = nat_lt a.flying.last.0 b.flying.last.0
+
+-- a command flies and has a ticket above a number
+abbrev pub flies_above : ℕ → Outstanding → Bool
+flies_above n c = not c.finished && nat_lt n c.ticket.0
+
 -- a command that was sent for the first time
 abbrev pub launched : Ticket → ℕ → Millis → PathNo → Millis → Outstanding
 launched ticket tag now path wait = record {

@@ -1,20 +1,34 @@
 //! The commands of a host that fly or rest.
-ghost use Rattle.std.specs.Prelude.{◌≡◌, ◌+◌, ◌↔◌, ◌<◌, ◌≤◌, ◌∷◌, length, map, ℕ, List, [], false, true, All, Contains, IsTrue, IsSome, IfNone, IfOk, IfSome, OnSome, Some, option_map};
-ghost use Rattle.std.specs.List.{find};
+ghost use Rattle.std.specs.Prelude.{◌≡◌, ◌+◌, ◌↔◌, ◌^◌, ◌<◌, ◌≤◌, ◌∷◌, length, map, nat_le, nat_lt, ℕ, List, [], false, true, All, Contains, IsTrue, IsSome, IfNone, IfOk, IfSome, OnSome, Some, option_map};
+ghost use Rattle.std.specs.List.{find, list_any};
 ghost use Rattle.std.specs.List.Sorted.{IsPermutation};
 ghost use Rattle.aoe_base.specs.Sizes.{longest_lifetime, most_room};
 ghost use Rattle.aoe_flight.specs.declared.outstanding.Outstanding.{Outstanding};
 ghost use Rattle.aoe_flight.specs.FlightTable.{after_change, at_time, live_at, no_commands, Recalls};
-ghost use Rattle.aoe_flight.specs.Outstanding.{after_finish, after_repeat, change_of, flies_as, flies_with, is_due, is_expired, is_taken, launched, live, lower, precedes, tag_count, IsFirst, IsNextTag};
+ghost use Rattle.aoe_flight.specs.Outstanding.{after_finish, after_repeat, change_of, flies_above, flies_as, flies_with, is_due, is_expired, is_taken, launched, live, lower, precedes, tag_count, IsFirst, IsNextTag};
 
 use crate::counted::{find_tag, find_ticket, is_any_over};
 use crate::outstanding::Flying;
-use crate::search::{first_due, first_expired};
+use crate::search::{due_from, expired_from, first_due, first_expired, over_from};
 use crate::table::Table;
 use aoe_base::{Lifetimes, Millis, NoMemory, PathNo, Steps, Ticket};
 use std::alloc::Global;
 use std::marker::Model;
 use std::sync::ledger::Ledger;
+
+/// From when on there is something to do with the commands of a host, where nothing else happens
+/// before. A time that no clock of 64 bits reaches stands for never.
+#[derive(Clone, Copy)]
+pub struct Times {
+    /// A command is due to be sent again.
+    pub due: u128,
+
+    /// A command has to be given up.
+    pub expired: u128,
+
+    /// There is room for one more.
+    pub room: u128,
+}
 
 /// The commands of a host that fly or rest.
 ///
@@ -42,7 +56,7 @@ pub struct Flight {
 }
 
 impl Model for Flight {
-    ghost use Rattle.std.specs.Prelude.{◌≤◌, All};
+    ghost use Rattle.std.specs.Prelude.{◌<◌, ◌≤◌, All};
     ghost use Rattle.slab.specs.Slab.{values};
     ghost use Rattle.aoe_flight.specs.FlightTable.{FlightTable, FitsRoom};
     ghost use Rattle.aoe_flight.specs.Outstanding.{live};
@@ -60,7 +74,8 @@ impl Model for Flight {
 
     ghost invariant = { λ flight.
         FitsRoom flight.room flight.commands.capacity (values flight.commands)
-        × All (λ c. c.flying.last.0 ≤ flight.latest.0) (values flight.commands) };
+        × All (λ c. c.flying.last.0 ≤ flight.latest.0) (values flight.commands)
+        × (0 < flight.dead.0) };
 }
 
 impl Flight {
@@ -212,6 +227,52 @@ impl Flight {
         ensures bound { steps.new ≤ steps.old + 1 + self.now.room }
     {
         first_expired(&self.commands, self.dead, now, steps).map(|command| command.ticket)
+    }
+
+    /// The time from which on there is room for one more command.
+    fn room_from<L: Ledger>(&self, steps: &mut Steps<L>) -> u128
+        ensures room { (now : ℕ) → self.now.latest ≤ now → now < 2 ^ 64
+            → nat_lt (length (live_at self.now now)) self.now.room ≡ nat_le result now }
+        ensures bound { steps.new ≤ steps.old + 1 }
+    {
+        if self.commands.len() < self.room as usize {
+            return 0;
+        }
+        over_from(&self.commands, self.rest, steps)
+    }
+
+    /// From when on a command is due, one has to be given up, and there is room for one more.
+    pub fn times<L: Ledger>(&self, steps: &mut Steps<L>) -> Times
+        ensures due { (sent : List Outstanding) → Recalls self.now sent
+            → (now : ℕ) → self.now.latest ≤ now → now < 2 ^ 64
+            → list_any (is_due now) sent ≡ nat_le result.due now }
+        ensures expired { (sent : List Outstanding) → Recalls self.now sent
+            → (now : ℕ) → self.now.latest ≤ now → now < 2 ^ 64
+            → list_any (is_expired self.now.dead now) sent ≡ nat_le result.expired now }
+        ensures room { (sent : List Outstanding) → Recalls self.now sent
+            → (now : ℕ) → self.now.latest ≤ now → now < 2 ^ 64
+            → nat_lt (length (live self.now.rest now sent)) self.now.room ≡ nat_le result.room now }
+        ensures bound { steps.new ≤ steps.old + 3 }
+    {
+        let due = due_from(&self.commands, steps);
+        let expired = expired_from(&self.commands, self.dead, steps);
+        let room = self.room_from(steps);
+        Times { due, expired, room }
+    }
+
+    /// The flying command with the lowest ticket above another: a walk from ticket 0 on gives each
+    /// that flies.
+    pub fn next_flying<L: Ledger>(&self, above: Ticket, steps: &mut Steps<L>) -> Option<Ticket>
+        ensures above { IfSome result (λ ticket. above.0 < ticket.0) }
+        ensures first_sent { IfSome result (λ ticket.
+            (sent : List Outstanding) → Recalls self.now sent
+            → (c : Outstanding) × (c.ticket ≡ ticket) × IsFirst (flies_above above.0) lower sent c) }
+        ensures none_sent { IfNone result ((sent : List Outstanding) → Recalls self.now sent
+            → All (λ c. flies_above above.0 c ≡ false) sent) }
+        ensures step { steps.new ≡ steps.old + 1 }
+    {
+        let command = self.commands.look_above(above, steps)?;
+        Some(command.ticket)
     }
 
     /// Drops the commands that rested out.

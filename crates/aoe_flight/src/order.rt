@@ -37,7 +37,7 @@ impl Ranked for Entry {
 pub type Order = Sorted<Entry>;
 
 /// The first entry that doesn't stand before another.
-fn first_from(order: &Order, from: Entry) -> Option<Entry>
+pub fn first_from(order: &Order, from: Entry) -> Option<Entry>
     ensures there { IfSome result (λ e. Contains order.now.items e) }
     ensures from { IfSome result (λ e. before (rank_of e) (rank_of from) ≡ false) }
     ensures first { IfSome result (λ e. All (λ other. before (rank_of other) (rank_of from) ≡ false

@@ -1,6 +1,6 @@
 //! One command that was sent.
-ghost use Rattle.std.specs.Prelude.{◌≡◌};
-ghost use Rattle.aoe_flight.specs.Outstanding.{after_repeat, is_due, is_expired, is_over, launched};
+ghost use Rattle.std.specs.Prelude.{◌≡◌, ◌+◌};
+ghost use Rattle.aoe_flight.specs.Outstanding.{after_repeat, deadline, is_due, is_expired, is_over, launched};
 ghost use Rattle.aoe_flight.specs.Table.{by_due, by_first, by_last, by_tag, by_ticket};
 
 use crate::order::Entry;
@@ -88,6 +88,27 @@ impl Outstanding {
         !self.finished && now.0.saturating_sub(self.flying.last.0) >= self.wait.0
     }
 
+    /// The time from which on the command is due. A sum of times needs more than 64 bits.
+    pub fn due_from(&self) -> u128
+        ensures { result ≡ deadline self.now }
+    {
+        u128::from(self.flying.last.0) + u128::from(self.wait.0)
+    }
+
+    /// The time from which on the command, where it flies, is to be given up.
+    pub fn expired_from(&self, dead: Millis) -> u128
+        ensures { result ≡ self.now.flying.first.0 + dead.0 }
+    {
+        u128::from(self.flying.first.0) + u128::from(dead.0)
+    }
+
+    /// The time from which on the command, where it rests, rested for longer than `rest`.
+    pub fn over_from(&self, rest: Millis) -> u128
+        ensures { result ≡ self.now.flying.last.0 + rest.0 + 1 }
+    {
+        u128::from(self.flying.last.0) + u128::from(rest.0) + 1
+    }
+
     /// Its place by tags: the flying command with a tag ahead of those that rest.
     pub fn by_tag(&self, slot: usize) -> Entry
         ensures { result ≡ by_tag slot self.now }
@@ -114,7 +135,7 @@ impl Outstanding {
         ensures { result ≡ by_due slot self.now }
     {
         Entry {
-            at: u128::from(self.flying.last.0) + u128::from(self.wait.0),
+            at: self.due_from(),
             tie: self.ticket.0,
             slot,
         }

@@ -1,8 +1,9 @@
-//! Which command is due or expired, by counted looks at the commands.
-ghost use Rattle.std.specs.Prelude.{◌≡◌, ◌+◌, ◌≤◌, false, length, None, All, IfNone, IfSome};
+//! Which command is due or expired, and from when on one is, by counted looks at the commands.
+ghost use Rattle.std.specs.Prelude.{◌≡◌, ◌+◌, ◌^◌, ◌<◌, ◌≤◌, ℕ, false, length, nat_le, None, All, IfNone, IfSome};
+ghost use Rattle.std.specs.List.{list_any};
 ghost use Rattle.slab.specs.Slab.{values};
 ghost use Rattle.aoe_flight.specs.declared.outstanding.Outstanding.{Outstanding};
-ghost use Rattle.aoe_flight.specs.Outstanding.{best, is_better, is_due, is_expired, lower, precedes, IsFirst};
+ghost use Rattle.aoe_flight.specs.Outstanding.{best, is_better, is_due, is_expired, is_over, lower, precedes, IsFirst};
 
 use crate::outstanding::Outstanding;
 use crate::table::Table;
@@ -64,5 +65,42 @@ fn is_lower(first: Option<Outstanding>, command: Outstanding) -> bool
     match first {
         Some(first) => command.ticket < first.ticket,
         None => true,
+    }
+}
+
+/// The time from which on a command is due: one step.
+pub fn due_from<L: Ledger>(commands: &Table, steps: &mut Steps<L>) -> u128
+    ensures time { (now : ℕ) → now < 2 ^ 64 → All (λ c. c.flying.last.0 ≤ now) (values commands.now)
+        → list_any (is_due now) (values commands.now) ≡ nat_le result now }
+    ensures step { steps.new ≡ steps.old + 1 }
+{
+    match commands.look_due(steps) {
+        Some(command) => command.due_from(),
+        None => u128::MAX,
+    }
+}
+
+/// The time from which on a command is expired: one step.
+pub fn expired_from<L: Ledger>(commands: &Table, dead: Millis, steps: &mut Steps<L>) -> u128
+    requires { 0 < dead.0 }
+    ensures time { (now : ℕ) → now < 2 ^ 64
+        → list_any (is_expired dead.0 now) (values commands.now) ≡ nat_le result now }
+    ensures step { steps.new ≡ steps.old + 1 }
+{
+    match commands.look_oldest(steps) {
+        Some(command) => command.expired_from(dead),
+        None => u128::MAX,
+    }
+}
+
+/// The time from which on a command has rested out: one step.
+pub fn over_from<L: Ledger>(commands: &Table, rest: Millis, steps: &mut Steps<L>) -> u128
+    ensures time { (now : ℕ) → now < 2 ^ 64
+        → list_any (is_over rest.0 now) (values commands.now) ≡ nat_le result now }
+    ensures step { steps.new ≡ steps.old + 1 }
+{
+    match commands.look_rested(steps) {
+        Some(command) => command.over_from(rest),
+        None => u128::MAX,
     }
 }

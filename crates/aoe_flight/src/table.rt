@@ -8,10 +8,10 @@ ghost use Rattle.std.specs.List.Sorted.{IsPermutation};
 ghost use Rattle.slab.specs.Slab.{get, slab_len, values, with_value};
 ghost use Rattle.aoe_flight.specs.declared.outstanding.Outstanding.{Outstanding};
 ghost use Rattle.aoe_sorted.specs.Order.{nothing};
-ghost use Rattle.aoe_flight.specs.Outstanding.{after_finish, after_repeat, change_of, flies_as, flies_with, is_older, is_over, is_taken, launched, live, precedes, tag_after, IsFirst, IsNextTag};
-ghost use Rattle.aoe_flight.specs.Table.{flies, IsFirstSlot};
+ghost use Rattle.aoe_flight.specs.Outstanding.{after_finish, after_repeat, change_of, flies_above, flies_as, flies_with, is_earlier, is_older, is_over, is_taken, launched, live, lower, precedes, tag_after, IsFirst, IsNextTag};
+ghost use Rattle.aoe_flight.specs.Table.{flies, rests, IsFirstSlot};
 
-use crate::order::{Order, find, has, remove};
+use crate::order::{Entry, Order, find, first_from, has, remove};
 use crate::outstanding::Outstanding;
 use aoe_base::{Millis, NoMemory, PathNo, Steps, Ticket};
 use slab::Slab;
@@ -142,6 +142,35 @@ impl Table {
     {
         steps.tick();
         let first = self.firsts.front()?;
+        let command = self.slots.get(first.slot)?;
+        Some(command)
+    }
+
+    /// Looks at the resting command that was sent longest ago: one step.
+    pub fn look_rested<L: Ledger>(&self, steps: &mut Steps<L>) -> Option<&Outstanding>
+        ensures first { IfSome result (λ c. IsFirst rests is_earlier (values self.now) c.now) }
+        ensures none { IfNone result (All (λ c. rests c ≡ false) (values self.now)) }
+        ensures step { steps.new ≡ steps.old + 1 }
+    {
+        steps.tick();
+        let first = self.rests.front()?;
+        let command = self.slots.get(first.slot)?;
+        Some(command)
+    }
+
+    /// Looks at the flying command with the lowest ticket above another: one step.
+    pub fn look_above<L: Ledger>(&self, above: Ticket, steps: &mut Steps<L>) -> Option<&Outstanding>
+        ensures first { IfSome result (λ c. IsFirst (flies_above above.0) lower (values self.now) c.now) }
+        ensures none { IfNone result (All (λ c. flies_above above.0 c ≡ false) (values self.now)) }
+        ensures step { steps.new ≡ steps.old + 1 }
+    {
+        steps.tick();
+        let from = Entry {
+            at: u128::from(above.0) + 1,
+            tie: 0,
+            slot: 0,
+        };
+        let first = first_from(&self.tickets, from)?;
         let command = self.slots.get(first.slot)?;
         Some(command)
     }

@@ -1,7 +1,7 @@
 -- The queues of a table after each change of its commands.
-use Rattle.std.proofs.Common.{ℕ, ◌≡◌, ◌+◌, ◌-◌, ◌<◌, ◌≤◌, not, true, false, List, [], ◌∷◌, ◌++◌, length, map, Option, inl, inr, refl, ap, ◌∙◌, arith, nat_eq, Bool, ◌&&◌}
+use Rattle.std.proofs.Common.{ℕ, ◌≡◌, ◌+◌, ◌-◌, ◌<◌, ◌≤◌, not, true, false, List, [], ◌∷◌, ◌++◌, length, map, Option, inl, inr, refl, ap, ◌∙◌, arith, nat_eq, nat_le, Bool, ◌&&◌}
 use Rattle.std.specs.Prelude.{All}
-use Rattle.std.specs.List.{filter}
+use Rattle.std.specs.List.{count_by, filter}
 use Rattle.std.specs.Option.{ForSome}
 use Rattle.std.proofs.lemmas.Bool.{cases_Bool}
 use Rattle.std.proofs.lemmas.List.{length-map}
@@ -18,7 +18,7 @@ use Rattle.aoe_hold.proofs.HeldLemmas.{all-sent, free-ended, held-blocked, held-
 use Rattle.aoe_hold.proofs.IndexLemmas.{bit, entered-waits, keeps, knows-entered, knows-live, knows-sent, sent-waits, waiters-few, waiters-free}
 use Rattle.aoe_hold.proofs.ReleaseLemmas.{ends, knows-ended}
 use Rattle.aoe_hold.proofs.StageLemmas.{StandsAt}
-use Rattle.aoe_hold.proofs.WaitLemmas.{ready-is}
+use Rattle.aoe_hold.proofs.WaitLemmas.{clear-length, ready-is}
 
 -- ---- there is no more in the queues than was never sent
 
@@ -175,6 +175,13 @@ pub index-ready : {life now unsent : ℕ} {commands : List Command} {timed ready
     → map ticket_of ready.items ≡ clear_tickets life now commands
 index-ready {life} {now} {unsent} {commands} {timed} {ready} up index late order =
     ready-is life now commands timed.items ready.items up index.same index.knows_timed index.knows_ready late index.past order
+
+pub index-clear : {life latest unsent : ℕ} {commands : List Command} {timed ready : QueueTable} (now : ℕ) → latest ≤ now
+    → IsIndex life latest unsent commands timed ready
+    → length (clear_tickets life now commands) ≡ count_by (λ w. nat_le w.from now) timed.items + length ready.items
+index-clear {life} {latest} {unsent} {commands} {timed} {ready} now later index =
+    clear-length life now commands timed.items ready.items index.same (λ k d below t from. index.knows_timed k d below t (omega (arith, later, from)))
+    (λ k d below t from. index.knows_ready k d below t (omega (arith, later, from))) index.past
 
 pub tickets-filter : (ticket : ℕ) (waiters : List Waiter)
     → map ticket_of (filter (keeps ticket) waiters) ≡ filter (λ other. not (nat_eq other ticket)) (map ticket_of waiters)

@@ -73,7 +73,7 @@ module _ {life latest : ℕ} {greatest : Option ℕ} {held : List Command} {read
   time-recalls now later entered recalls = live-same life latest now held entered (time-of now later) (recalls-of entered recalls)
 
   -- the clear commands of the list that is kept are those of all that were entered
-  clear-recalls : (now : ℕ) → table.latest ≤ now → (entered : List Command) → Recalls table entered
+  pub clear-recalls : (now : ℕ) → table.latest ≤ now → (entered : List Command) → Recalls table entered
       → clear_tickets life now held ≡ clear_tickets table.life now entered
   clear-recalls now later entered recalls =
       let same : life ≡ table.life = ap (λ (t : HoldTable). t.life) is in

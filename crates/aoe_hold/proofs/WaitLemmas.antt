@@ -1,12 +1,12 @@
 -- Which commands wait, and from when on they are clear.
-use Rattle.std.proofs.Common.{ℕ, suc, ◌≡◌, ◌+◌, ◌<◌, ◌≤◌, ◌&&◌, ◌||◌, not, cond, true, false, Bool, List, [], ◌∷◌, map, Option, Some, None, refl, sym, ap, ◌∙◌, arith, get_or, nat_lt}
+use Rattle.std.proofs.Common.{ℕ, suc, ◌≡◌, ◌+◌, ◌<◌, ◌≤◌, ◌^◌, ◌&&◌, ◌||◌, not, cond, true, false, Bool, List, [], ◌∷◌, length, map, Option, Some, None, inl, inr, refl, sym, ap, ◌∙◌, arith, get_or, nat_le, nat_lt}
 use Rattle.std.specs.Prelude.{option_map, slice_get, All, Contains, IfNone, IfSome, ⊤}
 use Rattle.std.specs.List.{count_by, filter, list_any}
-use Rattle.std.proofs.lemmas.Bool.{le-leb, le-ltb, lt-leb, ltb-false}
+use Rattle.std.proofs.lemmas.Bool.{cases_Bool, le-leb, le-ltb, lt-leb, lt-ltb, ltb-false}
 use Rattle.std.proofs.lemmas.Bool.Decides.{nat_tests}
 use Rattle.std.proofs.lemmas.List.Elements.{All-cons, All-map}
 use Rattle.aoe_base.specs.declared.counted.Ticket.{Ticket}
-use Rattle.aoe_base.proofs.CountLemmas.{all-none, count-agree, count-alike, count-all, count-cons, count-filter, count-map, none-all}
+use Rattle.aoe_base.proofs.CountLemmas.{all-none, count-agree, count-alike, count-all, count-cons, count-filter, count-map, count-no, count-yes, none-all}
 use Rattle.aoe_sorted.specs.Order.{before}
 use Rattle.aoe_hold.specs.declared.command.Command.{Command}
 use Rattle.aoe_hold.specs.declared.queue.Waiter.{Waiter}
@@ -27,6 +27,10 @@ kept-is : (life now : ℕ) (commands : List Command) (c : Command)
 kept-is life now commands c =
     any-alike (λ e. keeps_back life now e c) (λ e. blocks c e || lingers life now c e) (λ e. grind arith) commands
     ∙ any-or (blocks c) (λ e. lingers life now c e) commands
+
+twice : (b : Bool) → (not (not b) && true) ≡ b
+twice true = refl
+twice false = refl
 
 module _ (life now : ℕ) (commands : List Command) where
   -- no frame lingers that a command waits for, and its ticket passes
@@ -51,6 +55,56 @@ module _ (life now : ℕ) (commands : List Command) where
       let all = count-agree (λ (w : Waiter). free test w.command) (λ w. test (ticket_of w)) ready (λ k d below.
       rw (knows_ready k d below now (omega arith), le-leb (get_or ready k d).from now (omega (arith, past k d below))) refl) in
       omega (arith, count-map test ticket_of ready, clear-counted test, same (free test), none, all)
+
+  -- as many commands are clear as stand in the second queue or are past their time in the first
+  pub clear-length : (timed ready : List Waiter) → HasWaiters commands timed ready → All (Knows life now commands) timed → All (Knows life now commands) ready
+      → All (λ w. w.from ≡ 0) ready
+      → length (clear_tickets life now commands) ≡ count_by (λ w. nat_le w.from now) timed + length ready
+  clear-length timed ready same knows_timed knows_ready past =
+      let any : ℕ → Bool = λ n. true in
+      let past_time = count-agree (λ (w : Waiter). free any w.command) (λ w. nat_le w.from now) timed (λ k d below.
+      rw (knows_timed k d below now (omega arith)) (twice (nat_le (get_or timed k d).from now))) in
+      let all = count-agree (λ (w : Waiter). free any w.command) (λ w. true) ready (λ k d below.
+      rw (knows_ready k d below now (omega arith), le-leb (get_or ready k d).from now (omega (arith, past k d below))) refl) in
+      omega (
+        arith,
+        count-all (clear_tickets life now commands),
+        clear-counted any,
+        same (free any),
+        past_time,
+        all,
+        count-all ready,
+      )
+
+-- the first of those that wait is past its time where one is
+sooner : (now : ℕ) (v w : Waiter) → before (rank_of v) (rank_of w) ≡ false → nat_le w.from now ≡ false → nat_le v.from now ≡ false
+sooner now v w out late = grind (arith, nat_tests)
+
+pub first-past : (now : ℕ) (timed : List Waiter) (w : Waiter) → IsInOrder timed → slice_get timed 0 ≡ Some w
+    → nat_lt 0 (count_by (λ v. nat_le v.from now) timed) ≡ nat_le w.from now
+first-past now [] w order is = absurd cc
+first-past now (v ∷ timed) w order is =
+    let test : Waiter → Bool = λ x. nat_le x.from now in
+    let same : v ≡ w = cc in
+    elim (cases_Bool (nat_le v.from now)) [
+      | inl past ↦ lt-ltb 0 _ (omega (arith, count-yes test v timed past)) ∙ sym past ∙ ap test same
+      | inr late ↦
+          let none = all-none test timed (λ k d below. sooner now (get_or timed k d) v (order.0 k d below) late) in
+          ap (λ (n : ℕ). nat_lt 0 n) (count-no test v timed late ∙ none) ∙ sym late ∙ ap test same
+    ]
+
+pub none-past : (now : ℕ) (timed : List Waiter) → now < 2 ^ 64 → slice_get timed 0 ≡ None
+    → nat_lt 0 (count_by (λ v. nat_le v.from now) timed) ≡ nat_le 340282366920938463463374607431768211455 now
+none-past now [] small is = sym (lt-leb 340282366920938463463374607431768211455 now (omega (arith, small)))
+none-past now (v ∷ timed) small is = absurd cc
+
+pub some-ready : (n now : ℕ) (ready : List Waiter) (w : Waiter) → Some w ≡ slice_get ready 0 → nat_lt 0 (n + length ready) ≡ nat_le 0 now
+some-ready n now [] w is = absurd cc
+some-ready n now (v ∷ ready) w is = lt-ltb 0 _ (omega arith) ∙ sym (le-leb 0 now (omega arith))
+
+pub none-ready : (n : ℕ) (ready : List Waiter) → None ≡ slice_get ready 0 → n + length ready ≡ n
+none-ready n [] is = omega arith
+none-ready n (v ∷ ready) is = absurd cc
 
 -- numbers that don't fall
 abbrev pub Rises : List ℕ → Type 0

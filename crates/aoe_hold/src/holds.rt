@@ -1,5 +1,5 @@
 //! The commands of one host at one device.
-ghost use Rattle.std.specs.Prelude.{◌≡◌, ◌+◌, ◌*◌, ◌-◌, ◌^◌, ◌<◌, ◌≤◌, ◌&&◌, ℕ, nat_eq, nat_le, not, cond, false, true, List, [], ◌∷◌, ◌++◌, length, All, Contains, IfNone, IfSome, OnErr, OnOk};
+ghost use Rattle.std.specs.Prelude.{◌≡◌, ◌+◌, ◌*◌, ◌-◌, ◌^◌, ◌<◌, ◌≤◌, ◌&&◌, ℕ, nat_eq, nat_le, nat_lt, not, cond, false, true, List, [], ◌∷◌, ◌++◌, length, All, Contains, IfNone, IfSome, OnErr, OnOk};
 ghost use Rattle.std.specs.List.{count_by, filter, list_any};
 ghost use Rattle.std.specs.Option.{ForSome};
 ghost use Rattle.aoe_hold.specs.Commands.{after_stage, clear_tickets, finished, stage_finished, stage_sent, unsent_count};
@@ -214,6 +214,18 @@ fn make_ready<L: Ledger>(timed: &mut Queue, ready: &mut Queue, now: Millis, step
 {
     'past: while let Some(waiter) = timed.pop_past(now, steps) {
         ready.insert(Waiter { from: 0, ..waiter });
+    }
+}
+
+/// The least time of a command that waits: one step.
+fn first_time<L: Ledger>(timed: &Queue, steps: &mut Steps<L>) -> u128
+    ensures time { (now : ℕ) → now < 2 ^ 64
+        → nat_lt 0 (count_by (λ w. nat_le w.from now) timed.now.items) ≡ nat_le result now }
+    ensures step { steps.new ≡ steps.old + 1 }
+{
+    match timed.look(steps) {
+        Some(first) => first.from,
+        None => u128::MAX,
     }
 }
 
@@ -444,6 +456,20 @@ impl Holds {
         make_ready(&mut self.timed, &mut self.ready, now, steps);
         let first = self.ready.look(steps);
         first.map(|waiter| waiter.command.ticket)
+    }
+
+    /// The time from which on a command may be sent for the first time, where nothing else happens
+    /// before. A time that no clock of 64 bits reaches stands for never.
+    pub fn clear_from<L: Ledger>(&self, steps: &mut Steps<L>) -> u128
+        ensures time { (entered : List CommandValue) → Recalls self.now entered
+            → (now : ℕ) → self.now.latest ≤ now → now < 2 ^ 64
+            → nat_lt 0 (length (clear_tickets self.now.life now entered)) ≡ nat_le result now }
+        ensures bound { steps.new ≤ steps.old + 2 }
+    {
+        match self.ready.look(steps) {
+            Some(_) => 0,
+            None => first_time(&self.timed, steps),
+        }
     }
 
     fn sent_counted<L: Ledger>(&mut self, ticket: Ticket, now: Millis, blank: Blank)

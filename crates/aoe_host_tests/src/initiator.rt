@@ -4,7 +4,7 @@ ghost use Rattle.aoe_base.specs.Addresses.{IsDistinct};
 use aoe_base::{DeviceNo, Mac, Millis, PathNo, Ports, Span, TargetId, Ticket};
 use aoe_frame::Frame;
 use aoe_initiator::{
-    AttachRefusal, DEAD, Done, Initiator, LIFETIMES, MAX_HELD, Op, Outcome, ROOM, Sent,
+    AttachRefusal, DEAD, Done, InFlight, Initiator, LIFETIMES, MAX_HELD, Op, Outcome, ROOM, Sent,
     SubmitRefusal, Taken,
 };
 use std::alloc::Global;
@@ -183,5 +183,46 @@ fn a_backlog_is_refused(rt: HostRuntime) -> Result<(), Fail> {
     let refused = host.submit(FIRST_DEVICE, Op::Flush);
     let backlog = SubmitRefusal::Backlog { held: 65_536 };
     assert!(rt; matches!(refused, Err((refusal, Op::Flush)) if refusal == backlog));
+    Ok(())
+}
+
+#[test]
+fn repeats_are_pulled_alone(rt: HostRuntime) -> Result<(), Fail> {
+    let mut host = attached(rt.alloc(), &one(SHELF))?;
+    let filled = fill(&mut host, FIRST_DEVICE, 1);
+    assert!(rt; filled);
+    let read = host.submit(FIRST_DEVICE, Op::Read(Span { at: 4, count: 2 }));
+    assert!(rt; read.is_ok());
+    let started = Sent {
+        ticket: Ticket(2),
+        tag: 2,
+        ..FIRST
+    };
+    let mut out = Frame::new();
+    assert!(rt; host.pull_again(&mut out).is_none());
+    assert!(rt; host.pull(&mut out) == Some(FIRST));
+    host.advance(Millis(1000));
+    assert!(rt; host.pull_again(&mut out) == Some(REPEAT));
+    assert!(rt; host.pull_again(&mut out).is_none());
+    assert!(rt; host.pull(&mut out) == Some(started));
+    let flying = InFlight {
+        commands: 2,
+        sectors: 2,
+    };
+    assert!(rt; host.flying() == flying);
+    Ok(())
+}
+
+#[test]
+fn the_next_time_is_told(rt: HostRuntime) -> Result<(), Fail> {
+    let mut host = attached(rt.alloc(), &one(SHELF))?;
+    assert!(rt; host.next_time().is_none());
+    let submitted = host.submit(FIRST_DEVICE, Op::Flush);
+    assert!(rt; submitted.is_ok());
+    assert!(rt; host.next_time() == Some(Millis(0)));
+    assert!(rt; sends(&mut host, &[(0, Some(FIRST))]));
+    assert!(rt; host.next_time() == Some(Millis(1000)));
+    assert!(rt; host.receive(&FLUSHED) == Taken::Finished(Ticket(1)));
+    assert!(rt; host.next_time().is_none());
     Ok(())
 }

@@ -1,9 +1,10 @@
 -- Which commands are clear, and when nothing may be sent.
-use Rattle.std.proofs.Common.{ℕ, zero, suc, ◌≡◌, ◌≢◌, ◌+◌, ◌-◌, ◌<◌, ◌≤◌, cond, not, Bool, true, false, List, [], ◌∷◌, length, Option, Some, None, inl, inr, refl, sym, ap, ◌∙◌, arith, nat_eq, nat_le}
+use Rattle.std.proofs.Common.{ℕ, zero, suc, ◌≡◌, ◌≢◌, ◌+◌, ◌-◌, ◌<◌, ◌≤◌, cond, not, Bool, true, false, List, [], ◌∷◌, length, Option, Some, None, inl, inr, refl, sym, ap, ◌∙◌, arith, nat_eq, nat_le, nat_lt}
 use Rattle.std.specs.Prelude.{slice_get, All, Contains, IfNone, IfSome, IsSome}
-use Rattle.std.specs.List.{filter, find}
-use Rattle.std.proofs.lemmas.Bool.{false_from_ne_true, and_parts, cases_Bool, eq-eqb, eqb-true, leb-false, leb-true}
+use Rattle.std.specs.List.{filter, find, list_any}
+use Rattle.std.proofs.lemmas.Bool.{false_from_ne_true, and_parts, cases_Bool, eq-eqb, eqb-true, leb-false, leb-true, ltb-false, true≢false}
 use Rattle.std.proofs.lemmas.List.Elements.{All-contains, All-weaker, All-contains_itself, Contains-append_cases, Contains-append_left, Contains-append_right}
+use Rattle.std.proofs.lemmas.List.Folds.{list_any_at, list_any_none}
 use Rattle.aoe_base.specs.declared.counted.Ticket.{Ticket}
 use Rattle.aoe_hold.specs.declared.command.Command.{Command}
 use Rattle.aoe_hold.specs.Commands.{clear_tickets, is_clear, is_unsent}
@@ -11,6 +12,7 @@ use Rattle.aoe_flight.specs.declared.outstanding.Outstanding.{Outstanding}
 use Rattle.aoe_flight.specs.FlightTable.{live_at, FlightTable}
 use Rattle.aoe_flight.specs.Outstanding.{flies_as, is_due, live, precedes, rest_time, IsFirst}
 use Rattle.aoe_flight.proofs.RecallLemmas.{length-recalled}
+use Rattle.aoe_flight.proofs.TimeLemmas.{same-bool}
 use Rattle.aoe_initiator.specs.declared.device.Device.{Device}
 use Rattle.aoe_initiator.specs.declared.pending.Pending.{Pending}
 use Rattle.aoe_initiator.specs.Devices.{all_clear, IsLowest}
@@ -122,6 +124,31 @@ clear-all : (host : Host) (log : List Event) (c : HostCommand) → Matches log h
 clear-all host log c m there is =
     clear-there host.life.requests.0 host.clock (commands log) 0 c.device.0 host.devices c there (omega arith)
     (All-contains (λ x. x.device.0 < length host.devices) (commands log) c m.attached there) is
+
+any-none : {X : Type 0} (test : X → Bool) (xs : List X) → list_any test xs ≡ false → All (λ x. test x ≡ false) xs
+any-none test xs none = λ k d below. false_from_ne_true _ (λ passes. true≢false (sym (list_any_at test xs k d below passes) ∙ none))
+
+no-tickets : (xs : List ℕ) → ((t : ℕ) → ¬ (Contains xs t)) → nat_lt 0 (length xs) ≡ false
+no-tickets [] none = refl
+no-tickets (x ∷ xs) none = absurd (none x (0, omega arith, refl))
+
+-- a command is clear just where the devices have a clear one
+pub any-clear : {host : Host} {log : List Event} → Matches log host → (now : ℕ)
+    → list_any (is_clear_at host.life.requests.0 now (commands log)) (commands log)
+    ≡ nat_lt 0 (length (all_clear host.life.requests.0 now (commands log) 0 host.devices))
+any-clear {host} {log} m now =
+    let life : ℕ = host.life.requests.0 in
+    let cs = commands log in
+    let test : HostCommand → Bool = is_clear_at life now cs in
+    let clear = all_clear life now cs 0 host.devices in
+    same-bool (list_any test cs) (nat_lt 0 (length clear))
+    (λ none. no-tickets clear (λ t there.
+    let found = clear-from life now cs 0 host.devices t there in
+    true≢false (sym found.1.clear ∙ All-contains (λ c. test c ≡ false) cs found.0 (any-none test cs none) found.1.there)))
+    (λ none. list_any_none test cs (All-weaker (Contains cs) (λ c. test c ≡ false) (λ c there. false_from_ne_true _ (λ is.
+    let within = All-contains (λ (x : HostCommand). x.device.0 < length host.devices) cs c m.attached there in
+    let inside = clear-there life now cs 0 c.device.0 host.devices c there (omega arith) within is in
+    omega (arith, inside.1, ltb-false 0 (length clear) none))) cs (All-contains_itself cs)))
 
 -- the clear command with the lowest ticket
 pub record IsLowestClear (host : Host) (log : List Event) (t : Ticket) (c : HostCommand) : Type 0 where

@@ -1,8 +1,10 @@
 -- What the devices of a host recall after each step.
-use Rattle.std.proofs.Common.{ℕ, zero, suc, ◌≡◌, ◌≢◌, ◌+◌, ◌<◌, ◌≤◌, Bool, true, false, List, [], ◌∷◌, ◌++◌, length, map, take, drop, get_or, set, Option, Some, None, refl, sym, ap, subst, ◌∙◌, arith, nat_lt, cond, add-one, zero-add, append-nil, append_assoc}
+use Rattle.std.proofs.Common.{ℕ, zero, suc, ◌≡◌, ◌≢◌, ◌+◌, ◌<◌, ◌≤◌, Bool, true, false, List, [], ◌∷◌, ◌++◌, length, map, take, drop, get_or, set, Option, Some, None, refl, sym, ap, subst, ◌∙◌, arith, min, nat_le, nat_lt, ◌||◌, ◌^◌, cond, add-one, zero-add, append-nil, append_assoc}
 use Rattle.std.specs.Prelude.{slice_get, All, Contains, IfNone, IfSome}
 use Rattle.std.specs.Option.{option_map_or}
-use Rattle.std.proofs.lemmas.Bool.{ltb-false, ltb-true}
+use Rattle.std.proofs.lemmas.Bool.{lt-leb, lt-ltb, ltb-false, ltb-true, or_left}
+use Rattle.std.proofs.lemmas.Bool.Decides.{nat_tests}
+use Rattle.std.proofs.lemmas.List.{take_all}
 use Rattle.std.proofs.lemmas.List.Elements.{All-append, All-cons, All-head, All-tail, All-weaker, Contains-append_left, Contains-append_right}
 use Rattle.aoe_base.specs.declared.counted.DeviceNo.{DeviceNo}
 use Rattle.aoe_base.specs.declared.counted.Millis.{Millis}
@@ -291,3 +293,41 @@ held-recalled life cs n zero (d ∷ devices) recalls inside =
 held-recalled life cs n (suc k) (d ∷ devices) recalls inside =
     let same : n + suc k ≡ n + 1 + k = omega arith in
     rw same (held-recalled life cs (n + 1) k devices recalls.2 (omega (arith, inside)))
+
+-- ---- from when on a command is clear
+
+-- from a time on one of the first devices has a clear command, and not before
+abbrev pub ClearFrom : List Device → List Device → ℕ → Type 0
+ClearFrom devices first from = (life : ℕ) (cs : List HostCommand) → RecallAll life cs 0 devices → (now : ℕ) → All (λ d. d.holds.latest ≤ now) devices
+    → now < 2 ^ 64 → nat_lt 0 (length (all_clear life now cs 0 first)) ≡ nat_le from now
+
+pub clear-none : (devices : List Device) → ClearFrom devices [] 340282366920938463463374607431768211455
+clear-none devices life cs recalls now times small = sym (lt-leb 340282366920938463463374607431768211455 now (omega (arith, small)))
+
+some-append : (xs ys : List ℕ) → nat_lt 0 (length (xs ++ ys)) ≡ (nat_lt 0 (length xs) || nat_lt 0 (length ys))
+some-append [] ys = refl
+some-append (x ∷ xs) ys = lt-ltb 0 _ (omega arith) ∙ sym (or_left _ (nat_lt 0 (length ys)) (lt-ltb 0 _ (omega arith)))
+
+min-le : (a b now : ℕ) → nat_le (min a b) now ≡ (nat_le a now || nat_le b now)
+min-le a b now = grind (arith, nat_tests)
+
+joined : (xs ys : List ℕ) (a b now : ℕ) → nat_lt 0 (length xs) ≡ nat_le a now → nat_lt 0 (length ys) ≡ nat_le b now
+    → nat_lt 0 (length (xs ++ ys)) ≡ nat_le (min a b) now
+joined xs ys a b now one other = some-append xs ys ∙ rw (one, other) (sym (min-le a b now))
+
+pub clear-more-from : (devices : List Device) (i : ℕ) (item : Device) (from here next : ℕ) → i < length devices → item ≡ get_or devices i item
+    → ClearFrom devices (take i devices) from
+    → ((entered : List Command) → Recalls item.holds entered → (now : ℕ) → item.holds.latest ≤ now → now < 2 ^ 64
+    → nat_lt 0 (length (clear_tickets item.holds.life now entered)) ≡ nat_le here now)
+    → next ≡ min from here → ClearFrom devices (take (i + 1) devices) next
+clear-more-from devices i item from here next inside read before here_is is life cs recalls now times small =
+    let known = rw (← read) at (recall-get life 0 cs devices i item inside recalls) in
+    let late : item.holds.latest ≤ now = rw (← read) at (times i item inside) in
+    let entered = entered_at (0 + i) cs in
+    let found : nat_lt 0 (length (clear_tickets life now entered)) ≡ nat_le here now = rw (← known.0) (here_is entered known.1 now late small) in
+    let place : i + 1 ≡ suc i = add-one i in
+    rw (place, is) (rw (clear-more life now 0 cs devices i inside)
+    (joined (all_clear life now cs 0 (take i devices)) (clear_tickets life now entered) from here now (before life cs recalls now times small) found))
+
+pub clear-whole : (devices : List Device) (i from : ℕ) → length devices ≤ i → ClearFrom devices (take i devices) from → ClearFrom devices devices from
+clear-whole devices i from least is = rw (take_all i devices least) at is

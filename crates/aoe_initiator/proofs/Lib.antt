@@ -6,7 +6,7 @@
 -- Read first the lemmas of `aoe_paths`, `aoe_flight` and `aoe_hold`, and then `LogLemmas`,
 -- `DeviceLemmas`, `PathLemmas`, `MatchLemmas` (one `matches-*` for each event: the heart),
 -- `SoundLemmas`, `ClearLemmas`, `StartLemmas`, `RepeatLemmas`, `TakeLemmas`, `AnswerLemmas`,
--- `RequestLemmas`.
+-- `RequestLemmas`, `WorkLemmas`.
 -- An event touches `commands`, `path_log`, a `matches-*` and a `sound-*`. A field of `Host` touches
 -- `Matches` or `IsSound` and each of those. An operation touches `request`, `answer`, `kind_of`,
 -- `span_of`, and in `aoe_history` `asked-as` and `ata-by`.
@@ -25,3 +25,4 @@ mod SoundLemmas
 mod StartLemmas
 mod StepLemmas
 mod TakeLemmas
+mod WorkLemmas

@@ -1,5 +1,5 @@
 -- A frame that is sent again.
-use Rattle.std.proofs.Common.{ℕ, ◌≡◌, ◌+◌, ◌-◌, not, min, true, false, List, ◌∷◌, map, Option, Some, None, refl, sym, ap, subst, ◌∙◌, arith, nat_le}
+use Rattle.std.proofs.Common.{ℕ, ◌≡◌, ◌+◌, ◌-◌, not, min, Bool, true, false, List, ◌∷◌, map, Option, Some, None, refl, sym, ap, subst, ◌∙◌, arith, nat_le}
 use Rattle.std.specs.Prelude.{All, Contains, IfNone, IfSome}
 use Rattle.std.proofs.lemmas.Bool.{and_parts, not-true}
 use Rattle.aoe_base.specs.declared.counted.DeviceNo.{DeviceNo}
@@ -12,9 +12,8 @@ use Rattle.aoe_flight.specs.FlightTable.{after_change, Recalls as RecallsSent}
 use Rattle.aoe_flight.specs.Outstanding.{after_repeat, change_of, is_due, precedes, IsFirst}
 use Rattle.aoe_flight.proofs.RecallLemmas.{recalls-change}
 use Rattle.aoe_initiator.specs.declared.step.Sent.{Sent}
-use Rattle.aoe_initiator.specs.Devices.{change_at, device_sent}
 use Rattle.aoe_initiator.specs.Host.{HasPaths, Host, Matches}
-use Rattle.aoe_initiator.specs.HostLaw.{IsFrameOf, IsNext, IsOnNextPath, IsQuiet, IsRepeat}
+use Rattle.aoe_initiator.specs.HostLaw.{IsFrameOf, IsNext, IsNextBy, IsOnNextPath, IsQuiet, IsRepeat}
 use Rattle.aoe_initiator.specs.HostLog.{commands, outstanding, path_log, sent_of, wait_of, Event, HostCommand, Sending}
 use Rattle.aoe_initiator.specs.HostLog.Event.{Sends}
 use Rattle.aoe_initiator.specs.Steps.{place, GivesTag, InTime, Repeats}
@@ -66,7 +65,7 @@ module _ {host new : Host} {log : List Event} {t : Ticket} {sent : Sent} {frame 
   has : HasPaths host.ports (path_log log repeats.command.device.0) repeats.device
   has = has-paths host log repeats.command.device.0 repeats.device m repeats.held
 
-  pub repeat-next : ((o : Outstanding) × (o.ticket ≡ t) × IsFirst (is_due host.clock) precedes (sent_of (commands log)) o) → IsNext host (commands log) sent
+  pub repeat-next : ((o : Outstanding) × (o.ticket ≡ t) × IsFirst (is_due host.clock) precedes (sent_of (commands log)) o) → IsRepeat host (commands log) sent
   repeat-next first =
       let c = repeated in
       let f = c.1.flies in
@@ -152,10 +151,10 @@ abbrev pub IsFirstDue : Host → Ticket → Type 0
 IsFirstDue host t = (sent : List Outstanding) → RecallsSent host.flight sent → (e : Outstanding) × (e.ticket ≡ t) × IsFirst (is_due host.clock) precedes sent e
 
 -- what flies is pending, so a repeat always finds it
-pub repeat-quiet : (o : Option Sent) (host : Host) (t : Ticket) → IfNone o (place t host.pending ≡ None) → IsFirstDue host t
-    → IfNone o ((log : List Event) → Matches log host → IsQuiet host (commands log))
-repeat-quiet (Some sent) host t missing first = tt
-repeat-quiet None host t missing first = λ log m.
+pub repeat-none : (o : Option Sent) (host : Host) (t : Ticket) → IfNone o (place t host.pending ≡ None) → IsFirstDue host t
+    → IfNone o ((log : List Event) → Matches log host → All (λ e. is_due host.clock e ≡ false) (sent_of (commands log)))
+repeat-none (Some sent) host t missing first = tt
+repeat-none None host t missing first = λ log m.
     let found = first (sent_of (commands log)) m.sent in
     let o = found.0 in
     let from = sent-from (commands log) o found.2.there in
@@ -169,20 +168,27 @@ repeat-quiet None host t missing first = λ log m.
 abbrev pub IsIdle : Host → Type 0
 IsIdle host = (sent : List Outstanding) → RecallsSent host.flight sent → All (λ e. is_due host.clock e ≡ false) sent
 
-pub idle-quiet : {T : Type 0} (o : Option T) (host : Host) → IsIdle host → IfNone o (IsQuietIdle host)
-    → IfNone o ((log : List Event) → Matches log host → IsQuiet host (commands log))
-idle-quiet (Some x) host idle quiet = tt
-idle-quiet None host idle quiet = λ log m. quiet log m (idle (sent_of (commands log)) m.sent)
+-- nothing is due in any log
+abbrev pub HasNoneDue : Host → Type 0
+HasNoneDue host = (log : List Event) → Matches log host → All (λ e. is_due host.clock e ≡ false) (sent_of (commands log))
 
-pub stays-unchanged : {T : Type 0} (o : Option T) (old new : Host) → IfNone o (new ≡ old) → IfNone o ((log : List Event) → Matches log old → Matches log new)
-stays-unchanged (Some x) old new same = tt
-stays-unchanged None old new same = λ log m. rw same m
+pub idle-none : (host : Host) → IsIdle host → HasNoneDue host
+idle-none host idle log m = idle (sent_of (commands log)) m.sent
+
+pub none-quiet : {T : Type 0} (o : Option T) (host : Host) → HasNoneDue host → IfNone o (IsQuietIdle host)
+    → IfNone o ((log : List Event) → Matches log host → IsQuiet host (commands log))
+none-quiet (Some x) host none quiet = tt
+none-quiet None host none quiet = λ log m. quiet log m (none log m)
 
 -- a repeat gives no tag
-pub repeat-tag : {old new : Host} {t : Ticket} {sent : Sent} {frame : List ℕ} → Repeats old t sent frame new
-    → GivesTag sent.again old.flight old.clock sent.tag new.flight
-repeat-tag repeats = rw repeats.is (ap (λ (h : Host). h.flight.last_tag) repeats.after)
+pub repeat-tag : (o : Option Sent) (old new : Host) (t : Ticket) (frame : List ℕ) → IfSome o (λ sent. Repeats old t sent frame new) → IfNone o (new ≡ old)
+    → new.flight.last_tag ≡ old.flight.last_tag
+repeat-tag None old new t frame some none = ap (λ (h : Host). h.flight.last_tag) none
+repeat-tag (Some sent) old new t frame some none = ap (λ (h : Host). h.flight.last_tag) some.after
 
-pub same-tag : (o : Option Sent) (old new : Host) → IfNone o (new ≡ old) → IfNone o (new.flight.last_tag ≡ old.flight.last_tag)
-same-tag None old new is = ap (λ (h : Host). h.flight.last_tag) is
-same-tag (Some sent) old new is = tt
+pub again-tag : (sent : Sent) (old new : Host) → sent.again ≡ true → new.flight.last_tag ≡ old.flight.last_tag
+    → GivesTag sent.again old.flight old.clock sent.tag new.flight
+again-tag sent old new again same = let P : Bool → Type 0 = λ b. GivesTag b old.flight old.clock sent.tag new.flight in subst P (sym again) same
+
+pub again-next : {host : Host} {cs : List HostCommand} {sent : Sent} → sent.again ≡ true → IsRepeat host cs sent → IsNext host cs sent
+again-next {host} {cs} {sent} again repeat = let P : Bool → Type 0 = λ b. IsNextBy b host cs sent in subst P (sym again) repeat

@@ -19,7 +19,7 @@ use Rattle.aoe_initiator.specs.declared.step.Sent.{Sent}
 use Rattle.aoe_initiator.specs.Devices.{all_clear, change_at, device_at, device_sent, IsLowest}
 use Rattle.aoe_initiator.specs.Host.{HasPaths, Host, IsSame, Matches, RecallAll}
 use Rattle.aoe_initiator.specs.HostLaw.{paths_to, spelled_for, IsFrameOf, IsNext, IsOnNextPath, IsStart}
-use Rattle.aoe_initiator.specs.HostLog.{after_send, at_ticket, commands, path_log, sent_of, wait_of, Event, HostCommand, Sending}
+use Rattle.aoe_initiator.specs.HostLog.{after_send, at_ticket, commands, path_log, sent_of, wait_of, Event, HostCommand}
 use Rattle.aoe_initiator.specs.HostLog.Event.{Sends}
 use Rattle.aoe_initiator.specs.Request.{request}
 use Rattle.aoe_initiator.specs.Steps.{is_full, place, InTime, Launches}

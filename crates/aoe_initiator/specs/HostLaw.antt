@@ -1,10 +1,11 @@
 -- The host law: what may be sent next, and which response ends a command.
-use Rattle.std.specs.Prelude.{ℕ, ◌≡◌, ◌+◌, ◌*◌, ◌<◌, ◌≤◌, ◌⊎◌, Bool, true, false, not, ◌&&◌, ◌==◌, nat_eq, nat_lt, nat_le, List, [], ◌∷◌, ◌++◌, length, drop, Option, Some, None, option_map, slice_get, if◌then◌else◌, All, Contains}
-use Rattle.std.specs.List.{list_any}
+use Rattle.std.specs.Prelude.{ℕ, ◌≡◌, ◌+◌, ◌-◌, ◌*◌, ◌^◌, ◌<◌, ◌≤◌, ◌⊎◌, Bool, true, false, is_some, min, not, ◌&&◌, ◌||◌, ◌==◌, nat_eq, nat_lt, nat_le, List, [], ◌∷◌, ◌++◌, length, drop, Option, Some, None, option_map, slice_get, if◌then◌else◌, All, Contains}
+use Rattle.std.specs.List.{count_by, list_any, sum_by}
 use Rattle.std.specs.Option.{option_and_then, option_map_or}
 use Rattle.aoe_base.specs.declared.address.Mac.{Mac}
 use Rattle.aoe_base.specs.declared.address.TargetId.{TargetId}
 use Rattle.aoe_base.specs.declared.counted.DeviceNo.{DeviceNo}
+use Rattle.aoe_base.specs.declared.counted.Millis.{Millis}
 use Rattle.aoe_base.specs.declared.counted.PathNo.{PathNo}
 use Rattle.aoe_base.specs.Addresses.{holds}
 use Rattle.aoe_frame.specs.declared.header.Header.{Header}
@@ -25,6 +26,7 @@ use Rattle.aoe_initiator.specs.declared.refusal.AttachRefusal.TheVariants.{Alrea
 use Rattle.aoe_initiator.specs.declared.refusal.SubmitRefusal.{SubmitRefusal}
 use Rattle.aoe_initiator.specs.declared.refusal.SubmitRefusal.TheVariants.{OutOfRange, TooLong, Backlog, Empty}
 use Rattle.aoe_initiator.specs.declared.response.Answer.{Answer}
+use Rattle.aoe_initiator.specs.declared.step.InFlight.{InFlight}
 use Rattle.aoe_initiator.specs.declared.step.Sent.{Sent}
 use Rattle.aoe_initiator.specs.declared.step.Taken.{Taken}
 use Rattle.aoe_initiator.specs.declared.step.Taken.TheVariants.{Finished, Stale}
@@ -91,6 +93,30 @@ IsNext host cs sent = IsNextBy sent.again host cs sent
 pub record IsQuiet (host : Host) (cs : List HostCommand) : Type 0 where
   pub nothing_due : All (λ o. is_due host.clock o ≡ false) (sent_of cs)
   pub nothing_clear : (host.room ≤ length (live (rest_time host.life) host.clock (sent_of cs))) ⊎ All (λ c. is_clear_at host.life.requests.0 host.clock cs c ≡ false) cs
+
+-- at a time there is something to do: a command is due or expired, or one may be sent for the first time
+abbrev pub has_work : Host → List HostCommand → ℕ → Bool
+has_work host cs now =
+    list_any (is_due now) (sent_of cs) || list_any (is_expired host.dead now) (sent_of cs)
+    || (nat_lt (length (live (rest_time host.life) now (sent_of cs))) host.room && list_any (is_clear_at host.life.requests.0 now cs) cs)
+
+-- the first time from the clock on at which there is something to do, if a clock of 64 bits comes to one
+abbrev pub IsNextTime : Host → List HostCommand → Option Millis → Type 0
+IsNextTime host cs (Some time) =
+    (host.clock ≤ time.0) × (has_work host cs time.0 ≡ true) × ((now : ℕ) → host.clock ≤ now → now < time.0 → has_work host cs now ≡ false)
+IsNextTime host cs None = (now : ℕ) → host.clock ≤ now → now < 2 ^ 64 → has_work host cs now ≡ false
+
+-- a command flies: it was sent and has no outcome
+abbrev pub is_flying : HostCommand → Bool
+is_flying c = is_some c.sends && not c.done
+
+-- the sectors of a command that flies
+abbrev pub flying_sectors : HostCommand → ℕ
+flying_sectors c = if is_flying c then (span_of c.op).count else 0
+
+-- how many commands fly, and their sectors
+abbrev pub flying_of : List HostCommand → InFlight
+flying_of cs = record { commands = count_by is_flying cs; sectors = min (sum_by flying_sectors cs) (2 ^ 64 - 1) }
 
 -- how many commands a device holds unsent
 abbrev pub held_at : Host → ℕ → ℕ

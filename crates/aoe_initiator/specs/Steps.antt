@@ -1,5 +1,5 @@
 -- What the parts of a step make of what a host keeps.
-use Rattle.std.specs.Prelude.{ℕ, ◌≡◌, ◌+◌, ◌≤◌, Bool, true, false, List, ◌∷◌, length, min, nat_le, nat_eq, Option, Some, None, option_map, position, slice_get, All}
+use Rattle.std.specs.Prelude.{ℕ, ◌≡◌, ◌+◌, ◌^◌, ◌<◌, ◌≤◌, ◌&&◌, Bool, true, false, List, ◌∷◌, length, min, nat_le, nat_lt, nat_eq, Option, Some, None, option_map, position, slice_get, All, Contains}
 use Rattle.std.specs.List.{find}
 use Rattle.aoe_base.specs.declared.counted.Ticket.{Ticket}
 use Rattle.aoe_flight.specs.declared.outstanding.Flying.{Flying}
@@ -12,7 +12,9 @@ use Rattle.aoe_initiator.specs.declared.pending.Pending.{Pending}
 use Rattle.aoe_initiator.specs.declared.step.Sent.{Sent}
 use Rattle.aoe_initiator.specs.Devices.{change_at, device_sent, IsRoute}
 use Rattle.aoe_initiator.specs.Host.{Host}
-use Rattle.aoe_initiator.specs.HostLog.{wait_of}
+use Rattle.aoe_initiator.specs.HostLaw.{has_work, is_flying}
+use Rattle.aoe_initiator.specs.HostLog.{wait_of, HostCommand}
+use Rattle.aoe_initiator.specs.Op.{span_of}
 use Rattle.aoe_initiator.specs.Request.{request}
 
 -- as many commands fly or rest as may
@@ -70,3 +72,20 @@ pub record Launches (old : Host) (ticket : Ticket) (at : ℕ) (sent : Sent) (fra
   }
   pub flight : new.flight ≡ record old.flight { latest = old.clock; last_tag = sent.tag; commands = new.flight.commands }
   pub room : is_full old ≡ false
+
+-- a command flies and has a ticket above a number
+abbrev pub is_flying_above : ℕ → HostCommand → Bool
+is_flying_above n c = is_flying c && nat_lt n c.ticket.0
+
+-- of the flying commands with a ticket above a number, the one with the lowest has this ticket and so many sectors
+pub record IsNextAbove (n : ℕ) (cs : List HostCommand) (ticket count : ℕ) : Type 0 where
+  pub command : HostCommand
+  pub there : Contains cs command
+  pub flies : is_flying_above n command ≡ true
+  pub ticket_is : command.ticket.0 ≡ ticket
+  pub count_is : (span_of command.op).count ≡ count
+  pub lowest : All (λ other. is_flying_above n other ≡ true → ticket ≤ other.ticket.0) cs
+
+-- from a time on there is something to do, and not before
+abbrev pub HasWorkFrom : Host → List HostCommand → ℕ → Type 0
+HasWorkFrom host cs from = (now : ℕ) → host.clock ≤ now → now < 2 ^ 64 → has_work host cs now ≡ nat_le from now

@@ -1,5 +1,5 @@
 //! Devices that a host is attached to, with the order of the commands there and the paths to them.
-ghost use Rattle.std.specs.Prelude.{◌≡◌, ◌≢◌, ◌<◌, ◌≤◌, ℕ, List, [], length, map, slice_get, All, IfOk, IfSome};
+ghost use Rattle.std.specs.Prelude.{◌≡◌, ◌≢◌, ◌^◌, ◌<◌, ◌≤◌, ℕ, List, [], length, map, nat_le, nat_lt, slice_get, All, IfOk, IfSome};
 ghost use Rattle.aoe_base.specs.Addresses.{IsDistinct};
 ghost use Rattle.aoe_hold.specs.HoldTable.{no_commands};
 ghost use Rattle.aoe_paths.specs.PathTable.{new_paths};
@@ -7,7 +7,7 @@ ghost use Rattle.aoe_initiator.specs.Devices.{after_arrival, after_choice, all_c
 ghost use Rattle.aoe_initiator.specs.Host.{RecallAll};
 ghost use Rattle.aoe_initiator.specs.HostLog.{HostCommand};
 
-use crate::counted::first_clear;
+use crate::counted::{clear_from, first_clear};
 use aoe_base::{DeviceNo, Mac, Millis, NoMemory, PathNo, Ports, TargetId, Ticket};
 use aoe_hold::Holds;
 use aoe_paths::Paths;
@@ -133,6 +133,19 @@ pub(crate) fn next_clear(devices: &mut Vec<Device>, now: Millis) -> Option<Ticke
         lowest = lower(lowest, first_clear(&mut device.holds, now));
     }
     lowest
+}
+
+/// The time from which on a command at one of the devices may be sent for the first time.
+pub(crate) fn any_clear_from(devices: &[Device]) -> u128
+    ensures { (life : ℕ) (cs : List HostCommand) → RecallAll life cs 0 devices.now
+        → (now : ℕ) → All (λ d. d.holds.latest ≤ now) devices.now → now < 2 ^ 64
+        → nat_lt 0 (length (all_clear life now cs 0 devices.now)) ≡ nat_le result now }
+{
+    let mut from = u128::MAX;
+    'devices: for device in devices {
+        from = from.min(clear_from(&device.holds));
+    }
+    from
 }
 
 /// Takes note that a frame of a command is sent, and chooses its path. A repeat comes with the path

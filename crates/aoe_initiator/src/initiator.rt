@@ -16,23 +16,25 @@ ghost use Rattle.aoe_initiator.specs.declared.outcome.Done.{Done};
 ghost use Rattle.aoe_initiator.specs.declared.pending.Pending.{Pending};
 ghost use Rattle.aoe_initiator.specs.Devices.{all_clear, change_at, device_at, device_finished, trip_from, IsLowest};
 ghost use Rattle.aoe_initiator.specs.Host.{new_device, new_host, with_device, Closes, IsSame, Matches, RecallAll};
-ghost use Rattle.aoe_initiator.specs.HostLaw.{answer_to, attach_refusal, ended, has_id, held_at, is_from, is_response_to, most_held, submit_refusal, CameOn, GaveUpInTurn, IsFrameOf, IsNext, IsOnNextPath, IsQuiet, Takes};
+ghost use Rattle.aoe_initiator.specs.HostLaw.{answer_to, attach_refusal, ended, flying_of, has_id, held_at, is_from, is_response_to, most_held, submit_refusal, CameOn, GaveUpInTurn, IsFrameOf, IsNext, IsNextTime, IsOnNextPath, IsQuiet, IsRepeat, Takes};
 ghost use Rattle.aoe_initiator.specs.HostLog.{clock, commands, sent_of, Event, HostCommand};
 ghost use Rattle.aoe_initiator.specs.HostLog.Event.{Advances, Ends, Sends, Submits};
 ghost use Rattle.aoe_initiator.specs.Op.{data_len, CanSubmit};
 ghost use Rattle.aoe_initiator.specs.Request.{CanSpell};
 ghost use Rattle.aoe_initiator.specs.Response.{outcome_of, CanFill};
-ghost use Rattle.aoe_initiator.specs.Steps.{is_full, place, GivesTag, InTime, Launches, Repeats};
+ghost use Rattle.aoe_initiator.specs.Steps.{is_flying_above, is_full, place, GivesTag, HasWorkFrom, InTime, IsNextAbove, Launches, Repeats};
 
-use crate::counted::{first_due, first_expired};
-use crate::device::{Arrival, Attached, Device, next_clear, note_finished, note_sent};
+use crate::counted::{first_due, first_expired, flight_times, next_flying};
+use crate::device::{
+    Arrival, Attached, Device, any_clear_from, next_clear, note_finished, note_sent,
+};
 use crate::op::{Op, op_refusal};
 use crate::outcome::{Done, Outcome};
 use crate::pending::{Pending, place_of};
 use crate::refusal::{AttachRefusal, SubmitRefusal};
 use crate::request::write_request;
 use crate::response::{Answer, read_answer};
-use crate::step::{Sent, Taken};
+use crate::step::{InFlight, Sent, Taken};
 use crate::wait::{trip_at, wait_after};
 use aoe_base::{
     Blob, DeviceNo, Lifetimes, Mac, Millis, NoMemory, PathNo, Ports, TargetId, Ticket, copy_of,
@@ -466,6 +468,30 @@ impl Initiator {
         self.launch(ticket, at, out)
     }
 
+    /// The frame of a due command that is to be repeated, in `out`: the one that `pull` would give.
+    /// It starts no command, so a user that limits what flies repeats while nothing may be started.
+    pub fn pull_again(&mut self, out: &mut Frame) -> Option<Sent>
+        ensures repeat { IfSome result (λ sent. (log : List Event) → Matches log self.old
+            → IsRepeat self.old (commands log) sent) }
+        ensures again { IfSome result (λ sent. sent.again ≡ true) }
+        ensures frame { IfSome result (λ sent. (log : List Event) → Matches log self.old
+            → IsFrameOf self.old (commands log) sent out.new.items) }
+        ensures path { IfSome result (λ sent. (log : List Event) → Matches log self.old
+            → IsOnNextPath self.old log sent) }
+        ensures sends { IfSome result (λ sent. (log : List Event) → Matches log self.old
+            → Matches (Sends sent.ticket sent.tag sent.path ∷ log) self.new) }
+        ensures none { IfNone result ((log : List Event) → Matches log self.old
+            → All (λ o. is_due self.old.clock o ≡ false) (sent_of (commands log))) }
+        ensures unchanged { IfNone result (self.new ≡ self.old) }
+        ensures same { IsSame self.old self.new × (self.new.clock ≡ self.old.clock)
+            × (self.new.last_ticket ≡ self.old.last_ticket)
+            × (self.new.waiting ≡ self.old.waiting) }
+        ensures no_tag { self.new.flight.last_tag ≡ self.old.flight.last_tag }
+    {
+        let ticket = first_due(&self.flight, self.clock)?;
+        self.repeat(ticket, out)
+    }
+
     /// The frame that is to be sent next, in `out`: a due command is repeated, else the clear
     /// command with the lowest ticket is sent for the first time.
     pub fn pull(&mut self, out: &mut Frame) -> Option<Sent>
@@ -488,8 +514,8 @@ impl Initiator {
             (λ sent. GivesTag sent.again self.old.flight self.old.clock sent.tag self.new.flight) }
         ensures no_tag { IfNone result (self.new.flight.last_tag ≡ self.old.flight.last_tag) }
     {
-        match first_due(&self.flight, self.clock) {
-            Some(ticket) => self.repeat(ticket, out),
+        match self.pull_again(out) {
+            Some(sent) => Some(sent),
             None => self.start(out),
         }
     }
@@ -605,6 +631,59 @@ impl Initiator {
             Some(heard) => Taken::Finished(self.finish(heard, &frame[HEADER_LEN..])),
             None => Taken::Stale,
         }
+    }
+
+    /// The time from which on there is something to do, where nothing else happens before.
+    fn work_from(&self) -> u128
+        ensures work { (log : List Event) → Matches log self.now
+            → HasWorkFrom self.now (commands log) result }
+    {
+        let times = flight_times(&self.flight);
+        let start = times.room.max(any_clear_from(&self.devices));
+        times.due.min(times.expired).min(start)
+    }
+
+    /// The first time, from the clock on, at which a command is due or has to be given up, or one
+    /// may be sent for the first time, where neither a frame nor a submission comes before. None
+    /// where there is no such time.
+    pub fn next_time(&self) -> Option<Millis>
+        ensures next { (log : List Event) → Matches log self.now
+            → IsNextTime self.now (commands log) result }
+    {
+        let from = self.work_from();
+        if from > u128::from(u64::MAX) {
+            return None;
+        }
+        Some(Millis((from as u64).max(self.clock.0)))
+    }
+
+    /// The flying command with the lowest ticket above another, and its sectors.
+    fn next_sectors(&self, above: Ticket) -> Option<(Ticket, u32)>
+        ensures above { IfSome result (λ found. above.0 < found.0.0) }
+        ensures given { IfSome result (λ found. found.0.0 ≤ self.now.last_ticket) }
+        ensures some { IfSome result (λ found. (log : List Event) → Matches log self.now
+            → IsNextAbove above.0 (commands log) found.0.0 found.1) }
+        ensures none { IfNone result ((log : List Event) → Matches log self.now
+            → All (λ c. is_flying_above above.0 c ≡ false) (commands log)) }
+    {
+        let ticket = next_flying(&self.flight, above)?;
+        let at = place_of(&self.pending, ticket)?;
+        Some((ticket, self.pending[at].op.span().count))
+    }
+
+    /// How much flies, by a walk over just that.
+    pub fn flying(&self) -> InFlight
+        ensures count { (log : List Event) → Matches log self.now → result ≡ flying_of (commands log) }
+    {
+        let mut commands = 0;
+        let mut sectors = 0u64;
+        let mut last = Ticket(0);
+        'flying: while let Some((ticket, count)) = self.next_sectors(last) {
+            commands += 1;
+            sectors = sectors.saturating_add(u64::from(count));
+            last = ticket;
+        }
+        InFlight { commands, sectors }
     }
 
     /// How many commands have no outcome yet: those that wait, and those under way.

@@ -11,6 +11,10 @@
 //! 4. `receive` with each frame that comes.
 //! 5. `take_done` until it gives nothing: the commands that ended, each with its outcome.
 //!
+//! A user that limits what flies asks `flying` how much it is, and calls `pull_again` in the place
+//! of `pull` while it wants no command started: repeats aren't held up then. One that sleeps asks
+//! `next_time` until when it may.
+//!
 //! Only `new`, `attach` and `submit` take memory. Commands at one device that conflict keep their
 //! order (`aoe_hold`), frames that aren't answered are repeated (`aoe_flight`), and each goes on
 //! the next path that answers (`aoe_paths`).
@@ -23,7 +27,9 @@
 //!
 //! Promised: the host law, for every log that a host matches (`Matches`). `pull` returns what may
 //! be sent next (`IsNext`), with the bytes of its operation (`IsFrameOf`), on the next path
-//! (`IsOnNextPath`), and nothing only where nothing may be sent (`IsQuiet`). `receive` ends a
+//! (`IsOnNextPath`), and nothing only where nothing may be sent (`IsQuiet`). `pull_again` returns
+//! the repeats among these (`IsRepeat`). `next_time` is the first time at which something is due,
+//! expired or may be started (`IsNextTime`), `flying` what flies (`flying_of`). `receive` ends a
 //! command exactly where the frame is a well-formed response to one that flies, with the outcome
 //! that it says (`Takes`). `advance` gives up just the commands that flew for too long
 //! (`GaveUpInTurn`). `submit` and `attach` refuse only for `submit_refusal`, `attach_refusal` or
@@ -57,4 +63,4 @@ pub use outcome::{Done, Outcome};
 pub use refusal::{AttachRefusal, SubmitRefusal};
 pub use request::{append_config_args, append_mask_args, append_reserve_args, write_request};
 pub use response::{Answer, config_args_len, mask_args_len, read_answer, reserve_args_len};
-pub use step::{Sent, Taken};
+pub use step::{InFlight, Sent, Taken};

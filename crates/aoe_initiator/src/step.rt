@@ -21,3 +21,12 @@ pub enum Taken {
     /// It is no response to a command that waits for one.
     Stale,
 }
+
+/// How much flies: what was sent and has no outcome.
+#[derive(Clone, Copy, PartialEq, Eq)]
+pub struct InFlight {
+    pub commands: u64,
+
+    /// The sectors that these read and write. The count stays at its end where there are more.
+    pub sectors: u64,
+}

@@ -10,6 +10,7 @@ pub invariant_of-self : goal.invariant_of-self
 invariant_of-self c = (
   sound-changed c.args.ticket.0 after_finish (λ d. refl) c.finish.ensures.values c.finish.ensures.capacity c.self.invariant.0,
   past-finished c.self.inside.latest.0 c.args.ticket.0 (values c.self.inside.commands) _ c.finish.ensures.values c.self.invariant.1,
+  c.self.invariant.2,
 )
 
 pub returns-clause-value : goal.returns-clause-value

@@ -9,6 +9,7 @@ invariant_of-self c =
     let later = time-of (values c.self.inside.commands) c.self.view_is c.args.now.0 c.requires in (
       sound-live c.self.inside.rest.0 c.args.now.0 c.forget.ensures.values c.forget.ensures.capacity c.self.invariant.0,
       past-live c.self.inside.latest.0 c.self.inside.rest.0 c.args.now.0 (values c.self.inside.commands) _ c.forget.ensures.values later c.self.invariant.1,
+      c.self.invariant.2,
     )
 
 pub returns-clause-value : goal.returns-clause-value

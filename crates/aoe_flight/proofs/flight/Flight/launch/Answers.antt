@@ -13,6 +13,7 @@ invariant_of-self c = (
   sound-live c.self.inside.rest.0 c.args.now.0 c.forget.ensures.values c.forget.ensures.capacity c.self.invariant.0,
   past-live c.self.inside.latest.0 c.self.inside.rest.0 c.args.now.0 (values c.self.inside.commands) _ c.forget.ensures.values
       (time-of (values c.self.inside.commands) c.self.view_is c.args.now.0 c.requires) c.self.invariant.1,
+  c.self.invariant.2,
 )
 
 pub returns-then-len-self-clause-full : goal.returns-then-len-self-clause-full
@@ -50,6 +51,7 @@ invariant_of-self-2 c =
       sound-new new (values c.launch-tag.new.self) c.launch-tag.ensures.values c.launch-tag.ensures.tag.free
           c.launch-tag.ensures.capacity (omega (arith, c.len.ensures, c.if-len-self.false)) sound,
       past-launched c.args.now.0 new kept (values c.launch-tag.new.self) (omega arith) c.launch-tag.ensures.values past,
+      c.self.invariant.2,
     )
 
 pub returns-clause-room : goal.returns-clause-room

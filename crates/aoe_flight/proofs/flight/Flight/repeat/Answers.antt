@@ -13,6 +13,7 @@ invariant_of-self c =
           (λ d. refl) c.repeat.ensures.values c.repeat.ensures.capacity c.self.invariant.0,
       past-repeated c.self.inside.latest.0 c.args.ticket.0 c.args.now c.args.path c.args.wait
           (values c.self.inside.commands) _ later c.repeat.ensures.values c.self.invariant.1,
+      c.self.invariant.2,
     )
 
 pub returns-clause-value : goal.returns-clause-value
