@@ -4,11 +4,11 @@
 //! They stand beside the crates, since a crate with tests inside it is proved once more with them.
 //!
 //! Promised: nothing of its own. It tries `aoe_base`, `aoe_ata`, `aoe_io`, `aoe_udp` with
-//! `aoe_wire`, `aoe_pcap`, `aoe_vlan`, `aoe_nbd` and `aoe_args`.
+//! `aoe_wire`, `aoe_pcap`, `aoe_vlan`, `aoe_nbd`, `aoe_clients` and `aoe_args`.
 //!
 //! Only tested: worked registers, answers and pages, streams and capture files that break off,
 //! joined links, datagrams over the loopback, frames through a switch, a conversation with a client of
-//! NBD, lines that spell a command or none, and what is said of those that spell none.
+//! NBD, clients in memory, lines that spell a command or none, and what is said of those that spell none.
 #![tactic(auto)]
 
 #[cfg(test)]
@@ -17,6 +17,8 @@ mod ata;
 mod base;
 #[cfg(test)]
 mod checks;
+#[cfg(test)]
+mod clients;
 #[cfg(test)]
 mod nbd;
 #[cfg(test)]

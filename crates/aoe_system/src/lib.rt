@@ -1,20 +1,25 @@
 //! What the system has, as the program uses it: the arguments that it is run with, files as disks, the standard
-//! streams as a source and a sink, a link's socket or tap file, a file that ends a link, a clock, and a text on
-//! standard error. Clauses say which calls failed, how often, and which are made again; none tells what a file
-//! holds, or what comes over a link, from a stream or by the clock. That these do what they stand for is trusted.
+//! streams as a source and a sink, a link's socket or tap file, a file that ends a link, the clients of a Unix
+//! socket, a poll as a bell, a clock, and a text on standard error. Clauses say which calls failed, how often, and
+//! which are made again; none tells what a file holds, or what comes over a link, from a client, from a stream or by
+//! the clock. That these do what they stand for is trusted.
 //!
 //! Promised: a failed call of a file or of a standard stream is counted, and after a failed sync of
 //! a [`FileDisk`] each later call of it fails. [`SystemClock`] never goes back, and goes on by what
 //! the system's clock did, at most a second between two looks. Inside, an interrupted call of a
 //! standard stream is made again (`retried`), and `doubt_of` has the sizes and first bytes by which
-//! a file is refused as a keep.
+//! a file is refused as a keep. [`UnixClients`] counts a failed listener alone as a fault, and a
+//! client that left is there no more.
 //!
 //! Only tested, by `tests/adapters`, `tests/wire`, `tests/datagrams` and `tests/tools`: what a
 //! file, a socket, a stream and the clock do, what the environment adds to the arguments, that a
 //! call that did a part is gone on with, that a file ends a link, and the texts on standard error.
+//! Clients of a Unix socket and waits by a poll are only tried by hand: no command uses them yet.
 #![tactic(auto)]
 
 mod arguments;
+mod bell;
+mod clients;
 mod clock;
 mod files;
 mod flow;
@@ -25,6 +30,8 @@ mod until;
 mod wire;
 
 pub use arguments::{variable_of, words};
+pub use bell::PollBell;
+pub use clients::{SocketRefusal, UnixClients};
 pub use clock::SystemClock;
 pub use files::{FileDisk, FileRefusal, KeepDoubt};
 pub use flow::{Flow, input_sectors};

@@ -15,7 +15,7 @@ use std::io::{BufRead, BufReader, ErrorKind, Read, Write};
 const TRIES: u64 = u64::MAX;
 
 /// Reads as the reader does, and again where a signal interrupts it.
-fn read_through<R: Read>(reader: &mut R, buf: &mut [u8]) -> io::Result<usize>
+pub(crate) fn read_through<R: Read>(reader: &mut R, buf: &mut [u8]) -> io::Result<usize>
     ensures bound { ReadsAtMost result buf.new }
     ensures len { length buf.new ≡ length buf.old }
     ensures retried { IfErr result (λ e. error_kind e ≢ ErrorKind.Interrupted) }
@@ -31,7 +31,7 @@ fn read_through<R: Read>(reader: &mut R, buf: &mut [u8]) -> io::Result<usize>
 
 /// Writes as the writer does, and again where a signal interrupts it.
 #[tactic(auto, using(crate::proofs::StreamLemmas::keeps_on, crate::proofs::StreamLemmas::writes_on))]
-fn write_through<W: Write>(writer: &mut W, piece: &[u8]) -> io::Result<usize>
+pub(crate) fn write_through<W: Write>(writer: &mut W, piece: &[u8]) -> io::Result<usize>
     ensures bound { WritesAtMost result piece.now }
     ensures bytes { WriteAppends (W.contents writer.old) (W.contents writer.new) result piece.now }
     ensures retried { IfErr result (λ e. error_kind e ≢ ErrorKind.Interrupted) }

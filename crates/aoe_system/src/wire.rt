@@ -5,6 +5,8 @@ use aoe_frame::Frame;
 use aoe_tap::TapMedium;
 use aoe_udp::UdpMedium;
 use aoe_wire::{Given, Medium, Taken};
+use std::io;
+use std::os::fd::{AsRawFd, RawFd};
 
 /// What carries the frames of a link.
 #[derive(Drop)]
@@ -19,6 +21,26 @@ impl Wire {
         match self {
             Wire::Udp(_) => 0,
             Wire::Tap(tap) => tap.offloaded(),
+        }
+    }
+
+    /// From now on a call that takes a frame waits for nothing.
+    pub fn make_nonblocking(&mut self) -> io::Result<()> {
+        match self {
+            Wire::Udp(udp) => udp.make_nonblocking(),
+            Wire::Tap(tap) => {
+                tap.make_nonblocking();
+                Ok(())
+            }
+        }
+    }
+}
+
+impl AsRawFd for Wire {
+    fn as_raw_fd(&self) -> RawFd {
+        match self {
+            Wire::Udp(udp) => udp.as_raw_fd(),
+            Wire::Tap(tap) => tap.as_raw_fd(),
         }
     }
 }

@@ -9,7 +9,9 @@
 //! another. Those of what is written are zeros. A frame with others is dropped, and
 //! [`TapMedium::offloaded`] counts it. What isn't a frame of AoE is dropped.
 //!
-//! Under load a frame costs one call of the system; a wait comes only where nothing is there.
+//! Under load a frame costs one call of the system; a wait comes only where nothing is there, and
+//! behind [`TapMedium::make_nonblocking`] not even there: a program waits by the descriptor
+//! (`AsRawFd`) once a turn was quiet.
 //! Nothing tells contracts which bytes came.
 //!
 //! Promised: little, since a tap file shows contracts nothing. A medium that was opened has counted
@@ -19,7 +21,8 @@
 //!
 //! Only tested: all that the file and the system do: opening and its refusals, locking, reading and
 //! writing whole frames, and what is dropped (tests/wire, as root). No test tries that a call waits
-//! 10 ms, and no clause says how many calls of the system a frame costs.
+//! 10 ms, or that a non-blocking one waits for nothing, and no clause says how many calls of the
+//! system a frame costs.
 #![tactic(auto)]
 
 mod errors;

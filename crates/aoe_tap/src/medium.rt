@@ -1,5 +1,6 @@
 //! A tap file as a medium. It tells nothing of what it gives and takes.
-ghost use Rattle.std.specs.Prelude.{◌≡◌, ◌≢◌, ◌≤◌, ◌^◌, ◌+◌, ◌-◌, None, IfOk, length, min};
+ghost use Rattle.std.specs.Prelude.{◌≡◌, ◌≢◌, ◌≤◌, ◌^◌, ◌+◌, ◌-◌, None, Some, true, false, IfOk, length, min};
+ghost use Rattle.std.specs.Fd.{file_raw_fd};
 
 use crate::errors::{OpenRefusal, Trouble, given_of, trouble_of};
 use crate::read::{HEAD_LEN, PLAIN, Read, hand_over};
@@ -11,7 +12,7 @@ use std::alloc::Global;
 use std::fs::{File, OpenFile, OpenOptions};
 use std::io;
 use std::io::{ErrorKind, IoSlice, Read as _};
-use std::os::fd::AsRawFd;
+use std::os::fd::{AsRawFd, RawFd};
 use std::os::unix::fs::FileTypeExt;
 use std::time::Duration;
 
@@ -33,6 +34,10 @@ pub struct TapMedium {
     poll: Poll,
     events: Events,
     coming: Vec<u8>,
+
+    /// Whether a call that takes waits for a frame.
+    waits: bool,
+
     offloaded: u64,
 }
 
@@ -49,7 +54,8 @@ fn read(file: &mut File, coming: &mut [u8]) -> Result<usize, Trouble>
 impl TapMedium {
     /// Opens the file of this name, and locks it until it is dropped.
     pub fn open(rt: &HostRuntime, alloc: Global, name: &str) -> Result<TapMedium, OpenRefusal>
-        ensures { IfOk result (λ medium. medium.offloaded ≡ 0) }
+        ensures offloaded { IfOk result (λ medium. medium.offloaded ≡ 0) }
+        ensures waits { IfOk result (λ medium. medium.waits ≡ true) }
     {
         let file = OpenOptions::new().read(true).write(true).open(rt, name)?;
         if !file.metadata()?.file_type().is_char_device() {
@@ -69,8 +75,18 @@ impl TapMedium {
             poll,
             events: Events::with_capacity(alloc, 1)?,
             coming: vec![in alloc; 0u8; ROOM]?,
+            waits: true,
             offloaded: 0,
         })
+    }
+
+    /// From now on a call that takes a frame waits for nothing, for a program that waits by the
+    /// descriptor. A call that gives one still waits 10 milliseconds for room; then the frame is lost.
+    pub fn make_nonblocking(&mut self)
+        ensures waits { self.new.waits ≡ false }
+        ensures offloaded { self.new.offloaded ≡ self.old.offloaded }
+    {
+        self.waits = false;
     }
 
     /// How many frames of AoE were dropped because something of them is left to another, up to the
@@ -92,13 +108,13 @@ impl TapMedium {
         }
     }
 
-    /// Reads what is there, or waits for it.
+    /// Reads what is there, or waits for it, where a call waits.
     fn read_or_wait(&mut self) -> Result<usize, Trouble>
         ensures count { IfOk result (λ count. count ≤ length self.new.coming.items) }
         ensures offloaded { self.new.offloaded ≡ self.old.offloaded }
     {
         match read(&mut self.file, self.coming.as_mut_slice()) {
-            Err(Trouble::Empty) => {}
+            Err(Trouble::Empty) if self.waits => {}
             answer => return answer,
         }
         let wait = Some(Duration::from_millis(SILENCE));
@@ -134,6 +150,14 @@ impl TapMedium {
     /// That something was dropped now.
     fn dropped(&self) -> Taken {
         Taken::Dropped(time_of(&self.rt))
+    }
+}
+
+impl AsRawFd for TapMedium {
+    ghost raw_fd = { λ medium. Some (file_raw_fd medium.file) };
+
+    fn as_raw_fd(&self) -> RawFd {
+        self.file.as_raw_fd()
     }
 }
 

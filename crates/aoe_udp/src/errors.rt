@@ -43,8 +43,8 @@ pub(crate) fn trouble_of(kind: ErrorKind) -> Trouble
 }
 
 /// What an error of a call that sends to one peer means. Where the machine keeps a frame from a
-/// peer (EPERM, EACCES), can't send to its address (EINVAL) or has no room for it, that frame is
-/// lost.
+/// peer (EPERM, EACCES), can't send to its address (EINVAL) or has no room for it (EAGAIN, ENOMEM,
+/// ENOBUFS), or the interface is down (ENETDOWN), that frame is lost.
 pub(crate) fn given_of(error: &io::Error) -> Given
     ensures sent { result ≢ Given.Sent }
     ensures interrupted { result ≡ Given.Interrupted
@@ -53,7 +53,11 @@ pub(crate) fn given_of(error: &io::Error) -> Given
         ↔ IsTrue (is_lost_sending (error_kind error.now) (raw_os_error error.now)) }
 {
     match error.kind() {
-        ErrorKind::PermissionDenied | ErrorKind::InvalidInput => Given::Lost,
+        ErrorKind::PermissionDenied
+        | ErrorKind::InvalidInput
+        | ErrorKind::WouldBlock
+        | ErrorKind::OutOfMemory
+        | ErrorKind::NetworkDown => Given::Lost,
         ErrorKind::Uncategorized if error.raw_os_error() == Some(NO_BUFFERS) => Given::Lost,
         kind => match trouble_of(kind) {
             Trouble::Interrupted => Given::Interrupted,

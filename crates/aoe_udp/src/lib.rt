@@ -2,7 +2,9 @@
 //!
 //! [`UdpMedium::open`] binds the local address, and reads those of the peers, which take each frame
 //! that is sent. Over it `aoe_wire` makes a `Link` of as many peers as [`UdpMedium::peers`] says:
-//! its `recv` waits 10 milliseconds for a frame, and its `send` gives one to every peer.
+//! its `recv` waits 10 milliseconds for a frame, and its `send` gives one to every peer. Behind
+//! [`UdpMedium::make_nonblocking`] `recv` waits for nothing: a program waits by the descriptor
+//! (`AsRawFd`) once a turn was quiet.
 //!
 //! With the number of a network each datagram is eight bytes of VXLAN (RFC 7348) and one frame, so
 //! that a machine with a VXLAN device of that number is on the wire. Nothing is encrypted.
@@ -20,8 +22,9 @@
 //! `is_silence` and `is_lost_sending`.
 //!
 //! Only tested: that the socket takes and sends just these datagrams, and binds the address
-//! (`aoe_program_tests`, udp; tests/datagrams, tests/wire, tests/adapters), and the texts of
-//! refusals. No clause says that a call waits 10 ms.
+//! (`aoe_program_tests`, udp; tests/datagrams, tests/wire, tests/adapters), that a non-blocking one
+//! waits for nothing, and the texts of refusals. No clause says that a call waits 10 ms, and nothing
+//! tries that a send waits for room.
 #![tactic(auto)]
 
 mod address;

@@ -3,6 +3,7 @@ ghost use Rattle.std.specs.Prelude.{◌≡◌, ◌==◌, ◌≤◌, ◌<◌, ℤ
 ghost use Rattle.std.proofs.Props.{props};
 ghost use Rattle.std.specs.List.{slice_split};
 ghost use Rattle.std.specs.declared.net.socket_addr.SocketAddr.{SocketAddr};
+ghost use Rattle.std.specs.Net.Udp.{udp_raw_fd};
 ghost use Rattle.aoe_udp.specs.Addresses.{AreEnds, ArePeers, IsAddress, all_different, are_of_family};
 ghost use Rattle.aoe_udp.specs.Vxlan.{frame_of};
 
@@ -14,10 +15,12 @@ use aoe_frame::{Frame, MAX_FRAME, refill};
 use aoe_wire::{Given, Medium, Taken, time_of};
 use std::alloc::Global;
 use std::io;
+use std::io::ErrorKind;
 use std::net::{SocketAddr, UdpSocket};
+use std::os::fd::{AsRawFd, RawFd};
 use std::time::Duration;
 
-/// How long a call waits for a frame, in milliseconds.
+/// How long a call waits for a frame, or for room for one, in milliseconds.
 const SILENCE: u64 = 10;
 
 /// The room for a datagram: one byte more than the longest frame behind a header, so that a longer
@@ -34,6 +37,9 @@ pub struct UdpMedium {
 
     /// The number of the network, where frames stand behind the header of VXLAN.
     vxlan: Option<u32>,
+
+    /// Whether a call that takes waits for a frame. Else the socket is non-blocking.
+    waits: bool,
 
     coming: Vec<u8>,
     going: Vec<u8>,
@@ -128,9 +134,25 @@ impl UdpMedium {
             socket,
             peers,
             vxlan,
+            waits: true,
             coming,
             going,
         })
+    }
+
+    /// From now on a call that takes a frame waits for nothing, for a program that waits by the
+    /// descriptor. A call that gives one still waits 10 milliseconds for room; then the frame is lost.
+    pub fn make_nonblocking(&mut self) -> io::Result<()>
+        ensures waits { OnOk result (self.new.waits ≡ false) }
+        ensures err { OnErr result (self.new.waits ≡ self.old.waits) }
+        ensures peers { self.new.peers.items ≡ self.old.peers.items }
+        ensures vxlan { self.new.vxlan ≡ self.old.vxlan }
+    {
+        let wait = Some(Duration::from_millis(SILENCE));
+        self.socket.set_write_timeout(wait)?;
+        self.socket.set_nonblocking(true)?;
+        self.waits = false;
+        Ok(())
     }
 
     /// How many peers there are.
@@ -149,8 +171,36 @@ impl UdpMedium {
     fn send(&self, datagram: &[u8], address: SocketAddr) -> Given {
         match self.socket.send_to(datagram, address) {
             Ok(_) => Given::Sent,
+            Err(error) if !self.waits && error.kind() == ErrorKind::WouldBlock => {
+                self.send_once_room(datagram, address)
+            }
             Err(error) => given_of(&error),
         }
+    }
+
+    /// Sends a datagram for which a non-blocking socket has no room: it blocks meanwhile, as long as a
+    /// call waits.
+    #[cold]
+    fn send_once_room(&self, datagram: &[u8], address: SocketAddr) -> Given {
+        if self.socket.set_nonblocking(false).is_err() {
+            return Given::Fault;
+        }
+        let given = match self.socket.send_to(datagram, address) {
+            Ok(_) => Given::Sent,
+            Err(error) => given_of(&error),
+        };
+        if self.socket.set_nonblocking(true).is_err() {
+            return Given::Fault;
+        }
+        given
+    }
+}
+
+impl AsRawFd for UdpMedium {
+    ghost raw_fd = { λ medium. Some (udp_raw_fd medium.socket) };
+
+    fn as_raw_fd(&self) -> RawFd {
+        self.socket.as_raw_fd()
     }
 }
 

@@ -1,0 +1,4 @@
+pub mod ClientMemory
+pub mod Clients
+pub mod Transcripts
+pub mod Waits
