@@ -1,6 +1,6 @@
 -- An audit hears one record more, or lets a request go that the law doesn't answer.
 use Rattle.std.proofs.Common.{◌≡◌, ◌+◌, ◌-◌, ◌^◌, ◌++◌, ℕ, min, List, [], ◌∷◌, Bool, true, false, length, reverse, None, refl, sym, ap, subst, ◌∙◌, arith, append-nil, inl, inr}
-use Rattle.std.specs.Prelude.{OnOk, Result, Ok, Err}
+use Rattle.std.specs.Prelude.{IfErr, OnOk, Result, Ok, Err}
 use Rattle.std.proofs.lemmas.List.{reverse-append}
 use Rattle.aoe_lists.specs.Settings.{Settings}
 use Rattle.aoe_target.specs.Device.{State}
@@ -11,11 +11,13 @@ use Rattle.aoe_target.specs.declared.heard.Effect.{Effect}
 use Rattle.aoe_target.specs.declared.station.Station.{Station}
 use Rattle.aoe_audit.specs.Captured.{AreWhole, Packet, class_of, replies, requests, with_reply, with_request}
 use Rattle.aoe_audit.specs.Judged.{Explains, IsJudged, IsJudgedSoFar, IsMissing, answers, start}
-use Rattle.aoe_audit.specs.Known.{IsKnown, IsTold, Knowing, value_of}
+use Rattle.aoe_audit.specs.Known.{IsAllowed, IsKnown, IsTold, Knowing, value_of}
 use Rattle.aoe_audit.specs.Auditing.{Auditing, Counts, HasHeard, IsYes}
 use Rattle.aoe_audit.specs.declared.class.Class.TheVariants as class
 use Rattle.aoe_audit.specs.declared.judge.Told.{Told}
 use Rattle.aoe_audit.specs.declared.judge.Told.TheVariants.{Nothing, Wrong, By}
+use Rattle.aoe_audit.specs.declared.refusal.AuditRefusal.{AuditRefusal}
+use Rattle.aoe_audit.specs.declared.refusal.AuditRefusal.TheVariants.{NoMemory}
 use Rattle.aoe_audit.specs.declared.refusal.Verdict.{Verdict}
 use Rattle.aoe_audit.proofs.Fates.{quiet-allowed, quiet-leaves, quiet-reply, quiet-uncut, quiet_fate}
 use Rattle.aoe_audit.proofs.Fronts.{not-judged, stuck}
@@ -55,6 +57,9 @@ module _ (lists : Settings) (c : List Packet) (a : Auditing) (heard : HasHeard l
         counts = subst (λ (s : Station). Counts s (p ∷ c) h b.tally) (sym station)
             (counts-request a.station c h a.tally heard.counts p b.tally is asks tells fails);
       }
+
+  pub asked-so-far : (p : Packet) → class_of a.station p ≡ class.Request → IsJudgedSoFar a.station lists (p ∷ c)
+  asked-so-far p is = (p ∷ reverse a.waiting, heard.history, explains-request a.station lists c p (reverse a.waiting) heard.history is heard.explains)
 
   -- the first request that waits
   module _ (w : Packet) (rest : List Packet) (waits : a.waiting ≡ w ∷ rest) where
@@ -111,6 +116,15 @@ module _ (lists : Settings) (c : List Packet) (a : Auditing) (heard : HasHeard l
           counts = subst (λ (s : Station). Counts s (p ∷ c) (m ∷ h) b.tally) (sym station)
               (counts-reply a.station c h a.tally heard.counts p b.tally w.frame e is asks tells fails);
         }
+
+    -- the law allows this answer
+    pub heard-allowed : (p : Packet) → class_of a.station p ≡ class.Reply → IsAllowed a.station (state lists a heard.history) w.frame p.frame
+        → IsJudgedSoFar a.station lists (p ∷ c)
+    heard-allowed p is allowed = (
+      reverse rest,
+      (record { frame = w.frame; fate = replied allowed.0 p.frame }) ∷ heard.history,
+      explains-reply a.station lists c p (reverse rest) w heard.history allowed.0 is first-waits allowed.1,
+    )
 
     -- the law answers it, and otherwise
     pub heard-wrong : (p : Packet) (old new : Knowing) → class_of a.station p ≡ class.Reply
@@ -230,6 +244,13 @@ module _ (lists : Settings) (c : List Packet) (old popped : Auditing) (heard : H
       subst (λ (r : List ℕ). IsTold old.station At w.frame r old.knowing new.knowing Wrong) (sym frame) told in
       heard-wrong lists c old heard w popped.waiting waits p old.knowing new.knowing is mine
 
+  pub next-allowed : (reply : List ℕ) (p : Packet) → ((k : State) → IsKnown popped.knowing k → IsAllowed popped.station k w.frame reply)
+      → class_of old.station p ≡ class.Reply → p.frame ≡ reply → IsJudgedSoFar old.station lists (p ∷ c)
+  next-allowed reply p allowed is frame =
+      let known : IsKnown popped.knowing At = subst (λ (k : Knowing). IsKnown k At) (sym knowing-same) heard.known in
+      let here : IsAllowed old.station At w.frame reply = subst (λ (s : Station). IsAllowed s At w.frame reply) station-same (allowed At known) in
+      heard-allowed lists c old heard w popped.waiting waits p is (subst (λ (r : List ℕ). IsAllowed old.station At w.frame r) (sym frame) here)
+
   pub next-taken : (reply : List ℕ) (told counted : Auditing) (p : Packet) (e : Effect) → told ≡ record popped { knowing = told.knowing }
       → counted ≡ record told { tally = counted.tally }
       → ((k : State) → IsKnown popped.knowing k → IsTold popped.station k w.frame reply popped.knowing told.knowing (By e))
@@ -267,3 +288,7 @@ module _ (lists : Settings) (c : List Packet) (old popped : Auditing) (heard : H
 pub on-ok : {T E P Q : Type 0} (r : Result T E) → (P → Q) → OnOk r P → OnOk r Q
 on-ok (Ok x) more p = more p
 on-ok (Err e) more p = tt
+
+pub by-memory : {T : Type 0} (P : AuditRefusal → Type 0) (r : Result T AuditRefusal) → IfErr r (λ e. e ≡ NoMemory) → P NoMemory → IfErr r P
+by-memory P (Ok x) is p = tt
+by-memory P (Err e) is p = subst P (sym is) p

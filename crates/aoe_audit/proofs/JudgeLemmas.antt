@@ -1,6 +1,6 @@
 -- What a reply tells of a request, by each verdict.
 use Rattle.std.proofs.Common.{◌≡◌, ◌≢◌, ◌≤◌, ◌+◌, ◌*◌, ◌-◌, ◌++◌, ℕ, zero, suc, List, [], ◌∷◌, true, cond, length, length-append, take, drop, replicate, Option, Some, None, refl, sym, ap, subst, ◌∙◌, arith, append_assoc, append-nil, inl, inr}
-use Rattle.std.specs.Prelude.{IfOk, IfSome, Result, Ok, Err, slice_range}
+use Rattle.std.specs.Prelude.{IfOk, IfSome, OnErr, Result, Ok, Err, slice_range}
 use Rattle.std.specs.Option.{option_map, option_or}
 use Rattle.std.proofs.Math.Seq.{take-append_seam}
 use Rattle.std.proofs.lemmas.List.{length-drop, take-append-drop, take_all}
@@ -12,21 +12,23 @@ use Rattle.aoe_ata.specs.Decision.{written}
 use Rattle.aoe_ata.specs.Reply.{reply_of}
 use Rattle.aoe_ata.specs.declared.args.AtaArgs.{AtaArgs}
 use Rattle.aoe_ata.specs.declared.decision.AtaAnswer.TheVariants.{Give, Put}
+use Rattle.aoe_ata.specs.declared.decision.AtaDecision.{AtaDecision}
 use Rattle.aoe_ata.specs.declared.reply.AtaOutcome.TheVariants.{Done, Uncorrectable}
 use Rattle.aoe_disk.specs.State.{sector}
 use Rattle.aoe_lists.specs.Settings.{Settings}
 use Rattle.aoe_target.specs.Device.{State}
 use Rattle.aoe_target.specs.Front.{data_front}
-use Rattle.aoe_target.specs.Law.{Allows, after, after_ata, replied}
+use Rattle.aoe_target.specs.Law.{Allows, AllowsAta, after, after_ata, replied}
 use Rattle.aoe_target.specs.Reply.{ata_reply, data_of, data_reply, reply_head, spelled}
 use Rattle.aoe_target.specs.Sectors.{Sectors, Tells, in_span, learns, puts, value_in}
 use Rattle.aoe_target.specs.Verdict.{verdict}
 use Rattle.aoe_target.specs.declared.heard.Effect.TheVariants as effect
 use Rattle.aoe_target.specs.declared.station.Station.{Station}
 use Rattle.aoe_target.specs.declared.verdict.Verdict.{Verdict}
+use Rattle.aoe_target.specs.declared.verdict.Verdict.TheVariants.{Ata}
 use Rattle.aoe_target.proofs.OneReply.{data-apart, gives-is, same-reply}
 use Rattle.aoe_audit.specs.Judged.{answers_by}
-use Rattle.aoe_audit.specs.Known.{AreAsKnown, AreKnown, AreKnownOf, IsKnown, IsTold, IsToldAta, IsToldBy, Knowing, SaysOne, KnownTable, value_of, value_put, value_read}
+use Rattle.aoe_audit.specs.Known.{AreAsKnown, AreKnown, AreKnownOf, IsAllowed, IsAllowedAta, IsKnown, IsTold, IsToldAta, IsToldBy, Knowing, SaysOne, KnownTable, value_of, value_put, value_read}
 use Rattle.aoe_audit.specs.declared.judge.Told.{Told}
 use Rattle.aoe_audit.specs.declared.judge.Told.TheVariants.{By, Wrong}
 
@@ -155,15 +157,19 @@ module _ (station : Station) (f : List ℕ) (args : AtaArgs) (span : Span) (repl
   ToldRead later told = IsToldAta station k f args (Give span) reply (record { lists = lists; known = old }) (record { lists = lists; known = later }) told
 
   module _ (len : length reply ≡ 36 + 512 * span.count) (begins : take 36 reply ≡ data_front station (fields f) args) where
+    pub read-allowed : AreAsKnown span (drop 36 reply) old → AllowsAta station k.sectors (fields f) args (Give span) (replied effect.None reply)
+    read-allowed as-known =
+        let rest : drop 36 reply ≡ data_of span reply = rest-is-data station (fields f) args span reply front some len in (
+          size-of-data station (fields f) args span reply front some len,
+          has-sectors station (fields f) args span reply front some len begins,
+          told-of span (data_of span reply) old k.sectors known.sectors (subst (λ (l : List ℕ). AreAsKnown span l old) rest as-known),
+        )
+
     pub read-told : AreAsKnown span (drop 36 reply) old → ((q : ℕ) → value_of new q ≡ value_read span (drop 36 reply) old q) → ToldRead new (By effect.None)
     read-told as-known reads =
         let rest : drop 36 reply ≡ data_of span reply = rest-is-data station (fields f) args span reply front some len in
         let reads-data : (q : ℕ) → value_of new q ≡ value_read span (data_of span reply) old q = λ q. reads q ∙ (λ i. value_read span (rest i) old q) in (
-          (
-            size-of-data station (fields f) args span reply front some len,
-            has-sectors station (fields f) args span reply front some len begins,
-            told-of span (data_of span reply) old k.sectors known.sectors (subst (λ (l : List ℕ). AreAsKnown span l old) rest as-known),
-          ),
+          read-allowed as-known,
           record {
             lists = known.lists;
             sectors = known-of (after_ata f (Give span) (replied effect.None reply)) old new
@@ -194,7 +200,17 @@ module _ (station : Station) (f : List ℕ) (args : AtaArgs) (span : Span) (repl
     ],
   )
 
+-- a reply that the law allows to an ATA command
+pub allowed-by : (station : Station) (k : State) (f reply : List ℕ) (d : AtaDecision) → Ata d ≡ verdict station k.lists f
+    → IsAllowedAta station k f d.args d.answer reply → IsAllowed station k f reply
+allowed-by station k f reply d is allowed =
+    (allowed.0, subst (λ (v : Verdict). Allows station k f v (replied allowed.0 reply)) is allowed.1)
+
 -- the answer of a call that may lack memory
+pub on-err : {T E P Q : Type 0} (r : Result T E) → (P → Q) → OnErr r P → OnErr r Q
+on-err (Ok x) more p = tt
+on-err (Err e) more p = more p
+
 pub ok-more : {E : Type 0} (P Q : Told → Type 0) → ((t : Told) → P t → Q t) → (r : Result Told E) → IfOk r P → IfOk r Q
 ok-more P Q more (Ok t) p = more t p
 ok-more P Q more (Err e) p = tt

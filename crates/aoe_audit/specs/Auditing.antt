@@ -1,11 +1,12 @@
 -- An audit, as contracts see it.
-use Rattle.std.specs.Prelude.{◌^◌, ◌-◌, ◌≡◌, min, List, [], ◌∷◌, length, reverse, Option, None}
+use Rattle.std.specs.Prelude.{◌^◌, ◌-◌, ◌≡◌, Bool, true, false, min, List, [], ◌∷◌, length, reverse, Option, None}
 use Rattle.aoe_lists.specs.Settings.{Settings}
 use Rattle.aoe_target.specs.History.{Met, left_by}
 use Rattle.aoe_target.specs.declared.station.Station.{Station}
 use Rattle.aoe_audit.specs.Captured.{AreWhole, Packet, class_of, requests, replies}
 use Rattle.aoe_audit.specs.Judged.{Explains, IsJudged, IsJudgedSoFar, IsMissing, faults_in, start}
 use Rattle.aoe_audit.specs.Known.{IsKnown, Knowing}
+use Rattle.aoe_audit.specs.declared.class.Class.{Class}
 use Rattle.aoe_audit.specs.declared.class.Class.TheVariants as class
 use Rattle.aoe_audit.specs.declared.refusal.Kind.{Kind}
 use Rattle.aoe_audit.specs.declared.refusal.Kind.TheVariants.{Short, Reply, Missing}
@@ -44,8 +45,16 @@ IsFinding station lists c p Short = class_of station p ≡ class.Short
 IsFinding station lists c p Reply = (class_of station p ≡ class.Reply) × (IsJudgedSoFar station lists (p ∷ c) → ⊥)
 IsFinding station lists c p Missing = ⊥
 
+-- memory is asked for a record: to keep a request, or what a reply tells
+abbrev pub asks_memory : Class → Bool
+asks_memory class.Other = false
+asks_memory class.Short = false
+asks_memory class.Request = true
+asks_memory class.Reply = true
+
+-- Want of memory is the cause only at a record that is no finding: the capture with it is judged so far.
 abbrev pub IsCause : Station → Settings → List Packet → Packet → AuditRefusal → Type 0
-IsCause station lists c p NoMemory = Unit {0}
+IsCause station lists c p NoMemory = (asks_memory (class_of station p) ≡ true) × IsJudgedSoFar station lists (p ∷ c)
 IsCause station lists c p (Finding number kind) = (number ≡ p.number) × IsFinding station lists c p kind
 
 -- why a capture that ends isn't judged: a request that the law answers has no reply

@@ -59,6 +59,14 @@ IsToldBy answered Allowed next old new Nothing = (answered ≡ false) × (new �
 IsToldBy answered Allowed next old new Wrong = (answered ≡ true) × ((e : Effect) → Allowed e → ⊥)
 IsToldBy answered Allowed next old new (By e) = Allowed e × IsKnown new (next e)
 
+-- the law allows this reply to a request, by some effect
+abbrev pub IsAllowed : Station → State → List ℕ → List ℕ → Type 0
+IsAllowed station k f reply = (e : Effect) × Allows station k f (verdict station k.lists f) (replied e reply)
+
+-- and to an ATA command
+abbrev pub IsAllowedAta : Station → State → List ℕ → AtaArgs → AtaAnswer → List ℕ → Type 0
+IsAllowedAta station k f args answer reply = (e : Effect) × AllowsAta station k.sectors (fields f) args answer (replied e reply)
+
 -- and what it tells of a request to a device in this state
 abbrev pub IsTold : Station → State → List ℕ → List ℕ → Knowing → Knowing → Told → Type 0
 IsTold station k f reply old new told =

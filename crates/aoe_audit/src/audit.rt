@@ -1,12 +1,12 @@
 //! An audit of a capture, record by record.
-ghost use Rattle.std.specs.Prelude.{ℕ, Ok, ◌≡◌, ◌≤◌, ◌<◌, ◌+◌, ◌-◌, ◌^◌, ◌||◌, [], ◌∷◌, ◌++◌, List, IfErr, IfOk, IfNone, IfSome, OnOk, Some, Err, if◌then◌else◌, length, min, option_to_list, true};
+ghost use Rattle.std.specs.Prelude.{ℕ, Ok, ◌≡◌, ◌≤◌, ◌<◌, ◌+◌, ◌-◌, ◌^◌, ◌||◌, [], ◌∷◌, ◌++◌, List, IfErr, IfOk, IfNone, IfSome, OnErr, OnOk, Some, Err, if◌then◌else◌, length, min, option_to_list, true};
 ghost use Rattle.aoe_lists.specs.Settings.{Settings};
 ghost use Rattle.aoe_target.specs.Device.{State};
 ghost use Rattle.aoe_target.specs.Mounted.{station_of};
 ghost use Rattle.aoe_target.specs.Receive.{is_edit_fault, is_fault};
 ghost use Rattle.aoe_audit.specs.Auditing.{Auditing, HasHeard, IsCause, IsLeft, IsYes};
 ghost use Rattle.aoe_audit.specs.Captured.{Packet, class_of};
-ghost use Rattle.aoe_audit.specs.Known.{IsKnown, IsTold};
+ghost use Rattle.aoe_audit.specs.Known.{IsAllowed, IsKnown, IsTold};
 ghost use Rattle.aoe_audit.specs.Judged.{IsJudged, IsJudgedSoFar, IsMissing, answers};
 
 use crate::class::{Class, class_of};
@@ -266,6 +266,9 @@ impl Audit {
             → HasHeard lists self.old c → class_of self.old.station p ≡ Class.Reply
             → p.frame ≡ reply.now → result ≡ Ok Next.Wrong
             → IsJudgedSoFar self.old.station lists (p ∷ c) → ⊥ }
+        ensures memory { (lists : Settings) (c : List Packet) (p : Packet)
+            → HasHeard lists self.old c → class_of self.old.station p ≡ Class.Reply
+            → p.frame ≡ reply.now → OnErr result (IsJudgedSoFar self.old.station lists (p ∷ c)) }
     {
         let Some(request) = self.pop() else {
             return Ok(Next::Wrong);
@@ -296,6 +299,8 @@ impl Audit {
         ensures told { (k : State) → IsKnown self.old.knowing k
             → IfOk result (IsTold self.old.station k request.now.frame reply.now
             self.old.knowing self.new.knowing) }
+        ensures memory { (k : State) → IsKnown self.old.knowing k
+            → OnErr result (IsAllowed self.old.station k request.now.frame reply.now) }
     {
         self.judge.tell(request.frame.bytes(), reply)
     }

@@ -1,5 +1,5 @@
 //! What a reply tells of a request, by the shelf law.
-ghost use Rattle.std.specs.Prelude.{◌≡◌, ◌≢◌, ◌*◌, ◌+◌, ◌≤◌, ◌^◌, IfOk, [], Some, None, true, false, take, drop, length, is_some};
+ghost use Rattle.std.specs.Prelude.{◌≡◌, ◌≢◌, ◌*◌, ◌+◌, ◌≤◌, ◌^◌, IfOk, OnErr, [], Some, None, true, false, take, drop, length, is_some};
 ghost use Rattle.aoe_frame.specs.Header.{fields, head};
 ghost use Rattle.aoe_ata.specs.Decision.{InRange, CanServe};
 ghost use Rattle.aoe_ata.specs.declared.decision.AtaAnswer.{AtaAnswer};
@@ -9,7 +9,7 @@ ghost use Rattle.aoe_target.specs.Front.{data_front};
 ghost use Rattle.aoe_target.specs.Law.{step_of};
 ghost use Rattle.aoe_target.specs.Reply.{ata_reply, repeated, spelled};
 ghost use Rattle.aoe_audit.specs.Judged.{answers};
-ghost use Rattle.aoe_audit.specs.Known.{IsKnown, IsTold, IsToldAta, IsToldStep, Knowing, SaysEither, SaysOne, KnownTable, is_plain};
+ghost use Rattle.aoe_audit.specs.Known.{IsAllowed, IsAllowedAta, IsKnown, IsTold, IsToldAta, IsToldStep, Knowing, SaysEither, SaysOne, KnownTable, is_plain};
 
 use crate::known::Known;
 use aoe_ata::{AtaAnswer, AtaArgs, AtaDecision, AtaOutcome};
@@ -152,9 +152,11 @@ fn tell_read(
     requires station { station.now.sectors ≤ 2 ^ 40 }
     requires max { station.now.max ≤ 17 }
     requires range { InRange station.now.sectors station.now.max span }
-    ensures { (k : State) (lists : Settings) → IsKnown (record { lists = lists; known = known.old }) k
+    ensures told { (k : State) (lists : Settings) → IsKnown (record { lists = lists; known = known.old }) k
         → IfOk result (IsToldAta station.now k request.now args.now (AtaAnswer.Give span) reply.now
         (record { lists = lists; known = known.old }) (record { lists = lists; known = known.new })) }
+    ensures memory { (k : State) (lists : Settings) → IsKnown (record { lists = lists; known = known.old }) k
+        → OnErr result (IsAllowedAta station.now k request.now args.now (AtaAnswer.Give span) reply.now) }
 {
     if has_front(station, request, args, span.count, reply, out) {
         return match known.read(span, &reply[FRONT_LEN..]) {
@@ -185,9 +187,11 @@ fn tell_write(
     requires station { station.now.sectors ≤ 2 ^ 40 }
     requires range { InRange station.now.sectors station.now.max span }
     requires data { 12 + 512 * span.count ≤ length (drop 24 request.now) }
-    ensures { (k : State) (lists : Settings) → IsKnown (record { lists = lists; known = known.old }) k
+    ensures told { (k : State) (lists : Settings) → IsKnown (record { lists = lists; known = known.old }) k
         → IfOk result (IsToldAta station.now k request.now args.now (AtaAnswer.Put span) reply.now
         (record { lists = lists; known = known.old }) (record { lists = lists; known = known.new })) }
+    ensures memory { (k : State) (lists : Settings) → IsKnown (record { lists = lists; known = known.old }) k
+        → OnErr result (IsAllowedAta station.now k request.now args.now (AtaAnswer.Put span) reply.now) }
 {
     put_ata(station, request, args, AtaOutcome::Done, out);
     if reply == out.as_slice() {
@@ -219,9 +223,11 @@ fn tell_ata(
     requires max { station.now.max ≤ 17 }
     requires can { CanServe station.now.sectors station.now.max (drop 24 request.now)
         decision.now.answer }
-    ensures { (k : State) (lists : Settings) → IsKnown (record { lists = lists; known = known.old }) k
+    ensures told { (k : State) (lists : Settings) → IsKnown (record { lists = lists; known = known.old }) k
         → IfOk result (IsToldAta station.now k request.now decision.now.args decision.now.answer reply.now
         (record { lists = lists; known = known.old }) (record { lists = lists; known = known.new })) }
+    ensures memory { (k : State) (lists : Settings) → IsKnown (record { lists = lists; known = known.old }) k
+        → OnErr result (IsAllowedAta station.now k request.now decision.now.args decision.now.answer reply.now) }
 {
     let args = &decision.args;
     match decision.answer {
@@ -388,6 +394,8 @@ impl Judge {
         ensures station { self.new.station ≡ self.old.station }
         ensures told { (k : State) → IsKnown self.old.knowing k → IfOk result
             (IsTold self.old.station k request.now reply.now self.old.knowing self.new.knowing) }
+        ensures memory { (k : State) → IsKnown self.old.knowing k
+            → OnErr result (IsAllowed self.old.station k request.now reply.now) }
     {
         let Judge {
             station,

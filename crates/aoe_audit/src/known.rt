@@ -1,5 +1,5 @@
 //! The sectors whose contents are known.
-ghost use Rattle.std.specs.Prelude.{ℕ, ◌≡◌, ◌*◌, ◌+◌, ◌≤◌, ◌^◌, [], Ok, true, false, Some, None, length, nat_eq, OnOk, IfSome, if◌then◌else◌};
+ghost use Rattle.std.specs.Prelude.{ℕ, ◌≡◌, ◌≢◌, ◌*◌, ◌+◌, ◌≤◌, ◌^◌, [], Ok, true, false, Some, None, length, nat_eq, OnOk, IfSome, if◌then◌else◌};
 ghost use Rattle.std.specs.Option.{option_or};
 ghost use Rattle.aoe_audit.specs.Known.{AreAsKnown, value_lost, value_of, value_put, value_read};
 
@@ -44,19 +44,27 @@ impl Known {
         Ok(())
     }
 
-    /// Whether a sector that was read may have these contents, which are known then.
-    fn read_one(&mut self, sector: u64, bytes: &[u8]) -> Result<bool, NoMemory>
-        requires { length bytes.now ≡ 512 }
-        ensures same { result ≡ Ok true → IfSome (value_of self.old sector) (λ v. bytes.now ≡ v) }
-        ensures other { result ≡ Ok false → IfSome (value_of self.old sector) (λ v. bytes.now ≡ v) → ⊥ }
-        ensures known { result ≡ Ok true → (q : ℕ) → value_of self.new q
-            ≡ option_or (value_of self.old q) (if nat_eq sector q then Some bytes.now else None) }
+    /// Whether a sector may have these contents: where others are known of it, it may not.
+    fn may_have(&self, sector: u64, bytes: &[u8]) -> bool
+        ensures same { result ≡ true → IfSome (value_of self.now sector) (λ v. bytes.now ≡ v) }
+        ensures other { result ≡ false → IfSome (value_of self.now sector) (λ v. bytes.now ≡ v) → ⊥ }
     {
-        if let Some(known) = self.sectors.get(&sector) {
-            return Ok(known.bytes() == bytes);
+        match self.sectors.get(&sector) {
+            Some(known) => known.bytes() == bytes,
+            None => true,
         }
-        self.put_one(sector, bytes)?;
-        Ok(true)
+    }
+
+    /// The contents of a sector become known, if none are.
+    fn learn_one(&mut self, sector: u64, bytes: &[u8]) -> Result<(), NoMemory>
+        requires { length bytes.now ≡ 512 }
+        ensures { OnOk result ((q : ℕ) → value_of self.new q
+            ≡ option_or (value_of self.old q) (if nat_eq sector q then Some bytes.now else None)) }
+    {
+        if self.sectors.get(&sector).is_some() {
+            return Ok(());
+        }
+        self.put_one(sector, bytes)
     }
 
     /// The contents of a sector are known no longer.
@@ -90,22 +98,50 @@ impl Known {
         }
     }
 
-    /// Whether sectors that were read may have these contents, which are known then.
+    /// Whether sectors may have these contents.
+    fn may_all_have(&self, span: Span, bytes: &[u8]) -> bool
+        requires len { length bytes.now ≡ 512 * span.count }
+        requires range { span.at + span.count ≤ 2 ^ 40 }
+        ensures same { result ≡ true → AreAsKnown span bytes.now self.now }
+        ensures other { result ≡ false → AreAsKnown span bytes.now self.now → ⊥ }
+    {
+        'sectors: for i in 0..span.count {
+            let start = SECTOR_LEN * i as usize;
+            if !self.may_have(span.at + i as u64, &bytes[start..start + SECTOR_LEN]) {
+                return false;
+            }
+        }
+        true
+    }
+
+    /// The contents of sectors become known of which none are.
+    fn learn(&mut self, span: Span, bytes: &[u8]) -> Result<(), NoMemory>
+        requires len { length bytes.now ≡ 512 * span.count }
+        requires range { span.at + span.count ≤ 2 ^ 40 }
+        ensures { OnOk result ((q : ℕ) → value_of self.new q ≡ value_read span bytes.now self.old q) }
+    {
+        'sectors: for i in 0..span.count {
+            let start = SECTOR_LEN * i as usize;
+            self.learn_one(span.at + i as u64, &bytes[start..start + SECTOR_LEN])?;
+        }
+        Ok(())
+    }
+
+    /// Whether sectors that were read may have these contents, which are known then. Memory is taken
+    /// only where they may.
     pub(crate) fn read(&mut self, span: Span, bytes: &[u8]) -> Result<bool, NoMemory>
         requires len { length bytes.now ≡ 512 * span.count }
         requires range { span.at + span.count ≤ 2 ^ 40 }
-        ensures same { result ≡ Ok true → AreAsKnown span bytes.now self.old }
+        ensures same { result ≢ Ok false → AreAsKnown span bytes.now self.old }
         ensures other { result ≡ Ok false → AreAsKnown span bytes.now self.old → ⊥ }
         ensures known { result ≡ Ok true
             → (q : ℕ) → value_of self.new q
             ≡ value_read span bytes.now self.old q }
     {
-        'sectors: for i in 0..span.count {
-            let start = SECTOR_LEN * i as usize;
-            if !self.read_one(span.at + i as u64, &bytes[start..start + SECTOR_LEN])? {
-                return Ok(false);
-            }
+        if !self.may_all_have(span, bytes) {
+            return Ok(false);
         }
+        self.learn(span, bytes)?;
         Ok(true)
     }
 }

@@ -12,8 +12,8 @@ pub fn one_history_explains_a_capture()
         → Explains station lists c [] g → Explains station lists c [] h → g ≡ h }
 {}
 
-/// A law: a capture that is judged is judged so far at each of its records, so that one with a finding
-/// isn't judged, whatever came behind it.
+/// A law: a capture that is judged is judged so far at each of its records. So where a reply leaves it
+/// judged no longer, it isn't judged, whatever came behind.
 pub fn a_judged_capture_is_judged_at_each_record()
     ensures { (station : AnyStation) (lists : Settings) (more c : List Packet)
         → IsJudged station lists (more ++ c) → IsJudgedSoFar station lists c }

@@ -13,12 +13,13 @@
 //! capture so far but for the requests that wait (`HasHeard`), and a yes of `finish` says that one
 //! explains all of it, with these counts (`IsYes`). A finding names its record: `Reply` and
 //! `Missing` come only where no history explains the capture, `Short` only for a frame of the
-//! protocol that wasn't captured whole (`IsCause`, `IsLeft`). Laws:
+//! protocol that wasn't captured whole (`IsCause`, `IsLeft`). Want of memory hides no finding: it is told
+//! only at a request or a reply with which the capture is judged so far. Laws:
 //! `one_history_explains_a_capture` at most, and `a_judged_capture_is_judged_at_each_record`.
 //!
 //! Only tested: worked exchanges (`audit` of aoe_shelf_tests), and captures of other programs
-//! (`tests/audit`). Want of memory may hide a finding, and `Short` may come of a capture that has a
-//! history. How much memory is taken neither a clause nor a test says.
+//! (`tests/audit`). `Short` may come of a capture that has a history: what wasn't captured isn't judged.
+//! How much memory is taken neither a clause nor a test says.
 #![tactic(auto)]
 
 mod audit;

@@ -165,7 +165,8 @@ left-refused (audit_refusal.Finding number kind) station lists c left = left
 
 pub stops-refused : (r : AuditRefusal) (station : Station) (lists : Settings) (ps : List Packet) (p : Packet) (q : audit.Packet) → q ≡ fed (length ps + 1) p
     → IsWithin (p ∷ ps) → IsCause station lists (heard ps) q r → StopsOn (refused r) station lists ps p
-stops-refused audit_refusal.NoMemory station lists ps p q same within cause = within
+stops-refused audit_refusal.NoMemory station lists ps p q same within cause =
+    (within, subst (λ (x : audit.Packet). IsCause station lists (heard ps) x audit_refusal.NoMemory) same cause)
 stops-refused (audit_refusal.Finding number kind) station lists ps p q same within cause =
     (within, subst (λ (x : audit.Packet). IsCause station lists (heard ps) x (audit_refusal.Finding number kind)) same cause)
 

@@ -55,12 +55,12 @@ StopsRead Records big ps left left' = ⊥
 StopsRead CaptureBytes big ps left left' = ⊥
 StopsRead (Finding number kind) big ps left left' = ⊥
 
--- Why a record ends an audit behind these: it is one too many, or its bytes are; and where neither is so, there was no memory for it, or it
--- has a finding.
+-- Why a record ends an audit behind these: it is one too many, or its bytes are; and where neither is so, it has a finding, or it has none
+-- and there was no memory for it.
 abbrev pub StopsOn : AuditStop → Station → Settings → List Packet → Packet → Type 0
 StopsOn Records station lists ps p = most_records ≤ length ps
 StopsOn CaptureBytes station lists ps p = (length ps < most_records) × (most_captured < captured_bytes (p ∷ ps))
-StopsOn NoMemory station lists ps p = IsWithin (p ∷ ps)
+StopsOn NoMemory station lists ps p = IsWithin (p ∷ ps) × IsCause station lists (heard ps) (fed (length ps + 1) p) audit_refusal.NoMemory
 StopsOn (Finding number kind) station lists ps p =
     IsWithin (p ∷ ps) × IsCause station lists (heard ps) (fed (length ps + 1) p) (audit_refusal.Finding number kind)
 StopsOn SourceFault station lists ps p = ⊥

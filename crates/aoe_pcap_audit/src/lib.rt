@@ -12,15 +12,15 @@
 //!
 //! Promised: Ok says that the source was read to its end, that its bytes are a capture file within
 //! the limits, and that one history explains it, with these counts (`FilePasses`). Any other end is
-//! one that `Judges` has. `audit_capture` writes `line` where a file passes, a front of it where
+//! one that `Judges` has; want of memory hides no finding. `audit_capture` writes `line` where a file passes, a front of it where
 //! the sink fails, and else nothing (`Audits`). A fault of source or sink is told only if its count
 //! rose. What `capture` wrote over one slot passes, if its run ended well, no frame came from a
 //! port of the shelf, the file is within the limits, and neither memory, source nor sink fails: law
 //! `captures_pass`.
 //!
 //! Only tested: files with bytes changed or cut off (`serve` of aoe_shelf_tests), captures of
-//! tcpdump, tshark and QEMU, the limits, and a file that comes slowly (`tests/audit`). Want of
-//! memory may hide a finding, and no clause says how much memory is taken.
+//! tcpdump, tshark and QEMU, the limits, and a file that comes slowly (`tests/audit`). No clause says
+//! how much memory is taken.
 #![tactic(auto)]
 
 mod judging;

@@ -1,6 +1,6 @@
 use Rattle.std.proofs.Common.{◌++◌, ◌∙◌, ap}
 use Rattle.std.specs.Prelude.{option_to_list}
-use Rattle.aoe_audit.proofs.AuditLemmas.{heard-none, next-passed, next-taken, next-wrong, no-packets}
+use Rattle.aoe_audit.proofs.AuditLemmas.{heard-none, next-allowed, next-passed, next-taken, next-wrong, no-packets}
 use Rattle.aoe_audit.proofs.audit.Audit.next.Goals as goal
 
 pub returns-in_default-clause-wrong : goal.returns-in_default-clause-wrong
@@ -27,3 +27,9 @@ returns-in-Ok-By-clause-taken c = λ lists c' p heard is frame same.
     c.count_reply.new.self p c.in-Ok-By.effect c.tell.ensures.same c.count_reply.ensures.same
     (rw c.in-Ok-By.field-0-is at c.in-Ok-By.ensures.told) is frame c.count_reply.ensures.requests
     c.count_reply.ensures.replies c.count_reply.ensures.faults
+
+pub returns-clause-memory : goal.returns-clause-memory
+returns-clause-memory c = λ lists c' p heard is frame.
+    next-allowed lists c' c.args.self.now c.pop.new.self heard c.in-Some.request
+    (c.pop.ensures.waiting ∙ ap (λ o. option_to_list o ++ c.pop.new.self.waiting) c.in-Some.is) c.pop.ensures.same c.args.reply.now p
+    c.in-Err.ensures.memory is frame

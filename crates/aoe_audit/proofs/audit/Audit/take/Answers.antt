@@ -1,8 +1,8 @@
 use Rattle.std.proofs.Common.{[], ◌∷◌, ◌++◌, ◌≡◌, ◌∙◌, ap, refl, sym, true}
-use Rattle.aoe_audit.specs.Auditing.{Auditing}
+use Rattle.aoe_audit.specs.Auditing.{Auditing, IsCause, asks_memory}
 use Rattle.aoe_audit.specs.Captured.{Packet, class_of}
 use Rattle.aoe_audit.specs.declared.class.Class.TheVariants as class
-use Rattle.aoe_audit.proofs.AuditLemmas.{heard-other, heard-request, on-ok}
+use Rattle.aoe_audit.proofs.AuditLemmas.{asked-so-far, by-memory, heard-other, heard-request, on-ok}
 use Rattle.aoe_audit.proofs.Growing.{whole-request}
 use Rattle.aoe_audit.proofs.audit.Audit.take.Goals as goal
 
@@ -37,3 +37,10 @@ returns-in-Reply-clause-heard c = λ lists c' heard.
 
 pub returns-in-Short-clause-cause : goal.returns-in-Short-clause-cause
 returns-in-Short-clause-cause c = λ lists c' heard. (refl, sym (c.class_of.ensures c.args.number) ∙ c.in-Short.is)
+
+pub returns-in-Request-clause-cause : goal.returns-in-Request-clause-cause
+returns-in-Request-clause-cause c = λ lists c' heard.
+    let p : Packet = record { number = c.args.number; frame = c.args.frame.now; whole = c.args.whole } in
+    let is : class_of c.args.self.now.station p ≡ class.Request = sym (c.class_of.ensures c.args.number) ∙ c.in-Request.is in
+    by-memory (IsCause c.args.self.now.station lists c' p) c.take_request.result c.take_request.ensures.cause
+    (ap asks_memory is, asked-so-far lists c' c.args.self.now heard p is)

@@ -1,5 +1,6 @@
 use Rattle.std.proofs.Common.{◌∷◌, ◌∙◌, ap, subst, sym}
 use Rattle.aoe_target.specs.declared.station.Station.{Station}
+use Rattle.aoe_audit.specs.Auditing.{asks_memory}
 use Rattle.aoe_audit.specs.Captured.{class_of}
 use Rattle.aoe_audit.specs.Judged.{IsJudgedSoFar}
 use Rattle.aoe_audit.proofs.audit.Audit.take_reply.Goals as goal
@@ -29,3 +30,11 @@ returns-in-Ok-Wrong-clause-cause c = λ lists c' p heard is frame number. (
 
 pub returns-in-Err-clause-station : goal.returns-in-Err-clause-station
 returns-in-Err-clause-station c = c.next.ensures.station ∙ c.requests.invariant.station
+
+pub returns-in-Err-clause-cause : goal.returns-in-Err-clause-cause
+returns-in-Err-clause-cause c = λ lists c' p heard is frame number. (
+  ap asks_memory is,
+  subst (λ (s : Station). IsJudgedSoFar s lists (p ∷ c')) c.requests.invariant.station
+      (c.in-Err.ensures.memory lists c' p (c.requests.invariant.heard lists c' heard)
+      (ap (λ (s : Station). class_of s p) c.requests.invariant.station ∙ is) frame),
+)
