@@ -13,14 +13,14 @@ use Rattle.aoe_flight.specs.Outstanding.{after_repeat, change_of, is_due, preced
 use Rattle.aoe_flight.proofs.RecallLemmas.{recalls-change}
 use Rattle.aoe_initiator.specs.declared.step.Sent.{Sent}
 use Rattle.aoe_initiator.specs.Host.{HasPaths, Host, Matches}
-use Rattle.aoe_initiator.specs.HostLaw.{IsFrameOf, IsNext, IsNextBy, IsOnNextPath, IsQuiet, IsRepeat}
+use Rattle.aoe_initiator.specs.HostLaw.{IsFrameOf, IsNext, IsNextBy, IsOnNextPath, IsRepeat}
 use Rattle.aoe_initiator.specs.HostLog.{commands, outstanding, path_log, sent_of, wait_of, Event, HostCommand, Sending}
 use Rattle.aoe_initiator.specs.HostLog.Event.{Sends}
 use Rattle.aoe_initiator.specs.Steps.{place, GivesTag, InTime, Repeats}
 use Rattle.aoe_initiator.proofs.LogLemmas.{only, sent-repeated, wait-capped}
 use Rattle.aoe_initiator.proofs.MatchLemmas.{flying-command, matches-send, one-command, sent-from, IsFlying, IsPending, IsSend}
 use Rattle.aoe_initiator.proofs.PathLemmas.{has-paths, path_before, route-next, route-spelled, route-timeout, timeouts_on}
-use Rattle.aoe_initiator.proofs.ClearLemmas.{is-placed, pending-of, IsQuietIdle}
+use Rattle.aoe_initiator.proofs.ClearLemmas.{is-placed, pending-of}
 use Rattle.aoe_initiator.proofs.StartLemmas.{left-changed, left-same, IsLeft}
 
 -- the commands that were sent have one for each ticket
@@ -174,11 +174,6 @@ HasNoneDue host = (log : List Event) → Matches log host → All (λ e. is_due 
 
 pub idle-none : (host : Host) → IsIdle host → HasNoneDue host
 idle-none host idle log m = idle (sent_of (commands log)) m.sent
-
-pub none-quiet : {T : Type 0} (o : Option T) (host : Host) → HasNoneDue host → IfNone o (IsQuietIdle host)
-    → IfNone o ((log : List Event) → Matches log host → IsQuiet host (commands log))
-none-quiet (Some x) host none quiet = tt
-none-quiet None host none quiet = λ log m. quiet log m (none log m)
 
 -- a repeat gives no tag
 pub repeat-tag : (o : Option Sent) (old new : Host) (t : Ticket) (frame : List ℕ) → IfSome o (λ sent. Repeats old t sent frame new) → IfNone o (new ≡ old)
