@@ -1,5 +1,5 @@
 -- Sectors become known one after the other.
-use Rattle.std.proofs.Common.{◌≡◌, ◌≢◌, ◌+◌, ◌*◌, ◌-◌, ℕ, List, true, false, cond, nat_eq, take, drop, Option, Some, None, refl, ap, subst, ◌∙◌, arith, inl, inr, eq-eqb, ne_eqb}
+use Rattle.std.proofs.Common.{◌≡◌, ◌≢◌, ◌+◌, ◌*◌, ◌-◌, ℕ, List, true, false, cond, nat_eq, take, drop, Option, Some, None, refl, ap, subst, arith, inl, inr, eq-eqb, ne_eqb}
 use Rattle.std.specs.Prelude.{IfSome, slice_range}
 use Rattle.std.specs.Option.{option_or}
 use Rattle.std.proofs.lemmas.Bool.{cases_eq, cases_lt}
@@ -7,7 +7,7 @@ use Rattle.std.proofs.lemmas.Bool.Decides.{nat_tests}
 use Rattle.aoe_base.specs.declared.sectors.Span.{Span}
 use Rattle.aoe_disk.specs.State.{sector}
 use Rattle.aoe_target.specs.Sectors.{in_span, value_in}
-use Rattle.aoe_audit.specs.Known.{AreAsKnown, KnownTable, value_of, value_read}
+use Rattle.aoe_audit.specs.Known.{AreAsKnown, KnownTable, value_of}
 
 -- the first so many sectors of a span
 abbrev pub first : ℕ → ℕ → Span
@@ -69,15 +69,6 @@ lost-more at n q old = elim (cases_eq (at + n) q) [
   | inl same ↦ rw (eq-eqb (at + n) q same, in-same at n q same) refl
   | inr other ↦ rw (ne_eqb (at + n) q other, in-other at n q other) refl
 ]
-
--- what is known of the next sector is what was known of it before
-pub next-known : (at n : ℕ) (bytes : List ℕ) (old now : KnownTable) → ((q : ℕ) → value_of now q ≡ value_read (first at n) bytes old q)
-    → value_of now (at + n) ≡ value_of old (at + n)
-next-known at n bytes old now is = is (at + n) ∙ rw (in-next at n) (none-after (value_of old (at + n)))
-  where
-    none-after : (o : Option (List ℕ)) → option_or o None ≡ o
-    none-after None = refl
-    none-after (Some v) = refl
 
 pub as-known-more : (at n : ℕ) (bytes : List ℕ) (old : KnownTable) → AreAsKnown (first at n) bytes old
     → IfSome (value_of old (at + n)) (λ v. sector bytes n ≡ v) → AreAsKnown (first at (n + 1)) bytes old
