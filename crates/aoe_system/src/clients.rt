@@ -1,5 +1,5 @@
 //! The clients of a Unix socket. It tells nothing of what they say.
-ghost use Rattle.std.specs.Prelude.{◌≡◌, ◌≢◌, ◌↔◌, ◌<◌, ◌≤◌, ◌+◌, ◌×◌, None, Ok, IfOk, IsErrAnd, OnErr, OnOk, false, is_some, length, true};
+ghost use Rattle.std.specs.Prelude.{◌≡◌, ◌≢◌, ◌↔◌, ◌<◌, ◌≤◌, ◌+◌, None, Ok, IfOk, IsErrAnd, OnErr, OnOk, false, is_some, length, true};
 ghost use Rattle.std.specs.IoError.{error_kind};
 ghost use Rattle.aoe_base.specs.Faults.{Rose};
 ghost use Rattle.aoe_clients.specs.Clients.{IfBytes, stays};
@@ -231,27 +231,39 @@ impl Clients for UnixClients {
     }
 
     fn read(&mut self, out: &mut [u8]) -> Moved {
-        let Some(client) = &mut self.client else {
+        let Some(mut client) = self.client.take() else {
             return Moved::Left;
         };
-        let moved = moved_of(read_through(&mut client.stream, out));
-        if moved == Moved::Left {
-            self.client = None;
+        match moved_of(read_through(&mut client.stream, out)) {
+            Moved::Bytes(count) => {
+                self.client = Some(client);
+                Moved::Bytes(count)
+            }
+            Moved::Nothing => {
+                self.client = Some(client);
+                Moved::Nothing
+            }
+            Moved::Left => Moved::Left,
         }
-        moved
     }
 
     fn write(&mut self, piece: &[u8]) -> Moved {
-        let Some(client) = &mut self.client else {
+        let Some(mut client) = self.client.take() else {
             return Moved::Left;
         };
-        let moved = moved_of(write_through(&mut client.stream, piece));
-        if moved == Moved::Left {
-            self.client = None;
-            return moved;
+        match moved_of(write_through(&mut client.stream, piece)) {
+            Moved::Bytes(count) => {
+                client.want_room(&self.registry, false);
+                self.client = Some(client);
+                Moved::Bytes(count)
+            }
+            Moved::Nothing => {
+                client.want_room(&self.registry, true);
+                self.client = Some(client);
+                Moved::Nothing
+            }
+            Moved::Left => Moved::Left,
         }
-        client.want_room(&self.registry, moved == Moved::Nothing);
-        moved
     }
 
     fn close(&mut self) {

@@ -1,5 +1,5 @@
 //! A UDP socket as a medium. It tells nothing of what it gives and takes.
-ghost use Rattle.std.specs.Prelude.{◌≡◌, ◌==◌, ◌≤◌, ◌<◌, ℤ, Option, List, None, Some, Err, true, false, IfOk, IfSome, OnOk, length};
+ghost use Rattle.std.specs.Prelude.{◌≡◌, ◌==◌, ◌≤◌, ◌<◌, ℤ, Option, List, None, Some, Err, true, false, IfOk, IfSome, OnErr, OnOk, length};
 ghost use Rattle.std.proofs.Props.{props};
 ghost use Rattle.std.specs.List.{slice_split};
 ghost use Rattle.std.specs.declared.net.socket_addr.SocketAddr.{SocketAddr};
