@@ -39,6 +39,7 @@ mod upkeep;
 
 use aoe_args::{Command, CommandLine, PortWords, SlipText, is_command, meant, read_words, slip_of};
 use aoe_base::{Blob, NoMemory};
+use aoe_disk::Disk;
 use aoe_system::{
     FileDisk, FileRefusal, Flow, Input, KeepDoubt, Output, SystemClock, Until, Wire, input_sectors,
     say, variable_of, words,
