@@ -7,10 +7,11 @@ use Rattle.aoe_disk.specs.State.{DiskState}
 use Rattle.aoe_keep.specs.declared.refusal.MountRefusal.{MountRefusal}
 use Rattle.aoe_keep.specs.declared.refusal.MountRefusal.TheVariants as refusal
 use Rattle.aoe_mirror.specs.declared.refusal.MirrorRefusal.TheVariants as mirror
+use Rattle.aoe_mirror.specs.Clean.{AreEqual}
 use Rattle.aoe_mirror.specs.Mirror.{ReadsMark}
 use Rattle.aoe_mirror.specs.Sides.{both}
 use Rattle.aoe_serve.specs.Exporting.{HasRun, Outside, Tells}
-use Rattle.aoe_serve.specs.Mirroring.{AreEqual, EndedAs, HasFailed, IsMirrored, SameSides, Stops, has_ended}
+use Rattle.aoe_serve.specs.Mirroring.{EndedAs, HasFailed, IsMirrored, SameSides, Stops, has_ended}
 use Rattle.aoe_serve.specs.Slots.{Slot}
 use Rattle.aoe_serve.specs.declared.over_link.ServeEnd.TheVariants as serve
 use Rattle.aoe_serve.specs.declared.over_mirror.MirrorDisks.{MirrorDisks}

@@ -2,11 +2,12 @@
 use Rattle.std.specs.Prelude.{ℕ, ◌≡◌, ◌≢◌, ◌≤◌, ◌<◌, ◌==◌, ◌⊎◌, ◌↔◌, Bool, true, false, List, [], ◌∷◌, Option, None, Some, IfOk, IfErr, IfSome, Result, if◌then◌else◌}
 use Rattle.aoe_base.specs.Faults.{Rose}
 use Rattle.aoe_disk.specs.State.{Contents, DiskState}
+use Rattle.aoe_mirror.specs.Clean.{AreEqual, SaysTruly, TellAlike}
 use Rattle.aoe_mirror.specs.Marks.{count_of}
 use Rattle.aoe_mirror.specs.Mirror.{ReadsMark}
 use Rattle.aoe_mirror.specs.Sides.{both}
 use Rattle.aoe_serve.specs.Exporting.{Outside, Tells}
-use Rattle.aoe_serve.specs.Mirroring.{AreEqual, AreEqualBut, IsMirrored, SameSides, Stops, faults_of}
+use Rattle.aoe_serve.specs.Mirroring.{AreEqualBut, IsMirrored, SameSides, Stops, faults_of}
 use Rattle.aoe_serve.specs.declared.over_mirror.MirrorDisks.{MirrorDisks}
 use Rattle.aoe_serve.specs.declared.over_mirror.MirrorEnd.{MirrorEnd}
 use Rattle.aoe_serve.specs.declared.over_mirror.MirrorStop.{MirrorStop}
@@ -21,6 +22,12 @@ use Rattle.aoe.specs.declared.status.Status.TheVariants as status
 -- the disks in the order of the files' names
 abbrev pub four_of : {D : Type 0} → MirrorDisks D → List (Option D)
 four_of disks = Some disks.one ∷ Some disks.two ∷ Some disks.mark ∷ Some disks.keep ∷ []
+
+-- The disks of a mirror as they are handed in: the third says that both sides are equal only where they are, as each run leaves it and each
+-- crash of one.
+abbrev pub AreTold : {D : Type 0} → (D → DiskState) → List (Option D) → Type 0
+AreTold {D} state disks = (given : MirrorDisks D) → disks ≡ four_of given
+    → SaysTruly (state given.one) (state given.two) (state given.mark) × TellAlike (state given.one) (state given.two) (state given.mark)
 
 -- the count of faults of the disk with this number
 abbrev pub faults_at : {D : Type 0} → (D → DiskState) → MirrorDisks D → ℕ → ℕ

@@ -3,7 +3,7 @@ ghost use Rattle.std.specs.Prelude.{◌≡◌, [], ◌∷◌, All, IsSome, Some,
 ghost use Rattle.aoe_base.specs.Faults.{Blamed};
 ghost use Rattle.aoe_serve.specs.Exporting.{AtFirst};
 ghost use Rattle.aoe_args.specs.Words.{CanMirror};
-ghost use Rattle.aoe.specs.Mirror.{RunsMirror, four_of, is_mirror_status};
+ghost use Rattle.aoe.specs.Mirror.{AreTold, RunsMirror, four_of, is_mirror_status};
 
 use crate::plan::{mirror_options, mirrored_as};
 use crate::status::Status;
@@ -77,6 +77,7 @@ pub(crate) fn run_mirror<S: Source, K: Sink, D: Disk + Drop, L: Link, M: MirrorW
     requires count { length disks.old ≡ 4 }
     requires there { All IsSome disks.old }
     requires links { length links.old ≡ 0 }
+    requires told { AreTold D.state disks.old }
     ensures runs { RunsMirror D.state asked
         record { left = S.left; held = K.held; turns = L.turns; given = L.given; taken = L.taken } result
         record { source = source.old; sink = sink.old; links = links.old } record { source = source.new; sink = sink.new; links = links.new }

@@ -25,7 +25,7 @@ ghost use Rattle.aoe.specs.Commands.{exports, is_get, is_live, is_mirror, is_ove
 ghost use Rattle.aoe.specs.Keeping.{RunsKeep};
 ghost use Rattle.aoe.specs.Live.{AreBlamed, AtBoth, RunsLive, ends};
 ghost use Rattle.aoe.specs.Ending.{file_at, keep_at, refused_slot};
-ghost use Rattle.aoe.specs.Mirror.{RunsMirror};
+ghost use Rattle.aoe.specs.Mirror.{AreTold, RunsMirror};
 ghost use Rattle.aoe.specs.Run.{Asked, HasLists, HasReplayed, IsBad, IsGot, IsPut, IsSmall, NothingLoose, OnSlot, Ran, RanFiles, RanScript, RanSoak, Refused};
 
 use crate::audit::run_audit;
@@ -141,6 +141,7 @@ fn run_command<
     requires count { length disks.old ≡ file_count command.now }
     requires there { All IsSome disks.old }
     requires links { length links.old ≡ link_count command.now }
+    requires told { is_mirror command.now ≡ true → AreTold D.state disks.old }
     ensures run { refused_slot result ≡ None → result ≢ Status.NoMemory → Ran D.state command.now
         record { left = S.left; held = K.held; turns = L.turns; given = L.given; taken = L.taken } result
         record { source = source.old; sink = sink.old; links = links.old } record { source = source.new; sink = sink.new; links = links.new }
@@ -281,6 +282,7 @@ pub fn aoe<S: Source, K: Sink, D: Disk + Drop, L: Link, C: Clock, W: Watch, M: M
     requires count { length disks.old ≡ file_count command.now }
     requires there { All IsSome disks.old }
     requires links { length links.old ≡ link_count command.now }
+    requires told { is_mirror command.now ≡ true → AreTold D.state disks.old }
     ensures usage { result ≢ Status.Usage }
 
     // A keep is refused, or the run is one of the shelf law, or the history of a script is lawful and read as was written.

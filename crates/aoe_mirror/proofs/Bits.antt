@@ -33,6 +33,18 @@ bits_of_ones words n len e room =
     ∙ eq-eqb _ 1 (bit_at_ones 64 (k % 64) (omega arith))
     ∙ sym (get_or-replicate len k true false within))
 
+-- none set
+
+pub bits_of_zeros : (words : List ℕ) (n len : ℕ) → words ≡ replicate n 0 → len ≤ 64 * n → bits_of words len ≡ replicate len false
+bits_of_zeros words n len e room =
+    ext_get_or false _ _ (length-bits_of words len ∙ sym (length-replicate len false))
+    (λ k h.
+    let within : k < len = omega (arith, h, length-bits_of words len) in
+    let word : get_or words (k / 64) 0 ≡ 0 = rw e (get_or-replicate n (k / 64) 0 0 (omega arith)) in
+    get_or-bits_of words len k within
+    ∙ rw word (rw bit_at-zero refl)
+    ∙ sym (get_or-replicate len k false false within))
+
 pub count_all : (n : ℕ) → count_of (replicate n true) ≡ n
 unfolding count_of
 count_all zero = refl

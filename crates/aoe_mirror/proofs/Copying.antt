@@ -167,6 +167,7 @@ module _ (old : Pair) (m : IsMirror old) (at n : ℕ) (run : AreSet old.stale at
           (told_tells Calms (shown old).contents (shown copied).contents calm) (λ e. (why e).1.0);
       calm = calm;
       side = refl;
+      mark = refl;
       counts = counts_same old copied refl l.later f.later (omega arith);
       settled = refl;
       done = done;

@@ -4,7 +4,10 @@
 -- runs: below a sector at most 64 are stale for each failure so far.
 --
 -- Read `Bits`, `Told`, `Whole`, `Quiet`, `Steps`, then `Reading`, `Writing`, `Syncing`,
--- `Copying`, `Passing`, `Surviving`.
+-- `Copying`, `Passing`, `Surviving`, `Cleaning`.
+--
+-- `IsMarked` is apart from it: the mark disk says that a mirror is clean only while it is, and its second
+-- sector is written only then.
 --
 -- A takeover is a write with the sides in the other order (`turned`).
 pub mod Bits
@@ -18,5 +21,6 @@ pub mod Syncing
 pub mod Copying
 pub mod Passing
 pub mod Surviving
+pub mod Cleaning
 pub mod Covering
 pub mod Telling

@@ -1,5 +1,5 @@
 -- All runs of stale sectors, each copied once.
-use Rattle.std.proofs.Common.{◌≡◌, ◌≤◌, ◌<◌, ◌+◌, ◌*◌, ◌⊎◌, ℕ, suc, Bool, true, false, length, refl, sym, ◌∙◌, inl, inr, arith}
+use Rattle.std.proofs.Common.{◌≡◌, ◌≤◌, ◌<◌, ◌+◌, ◌*◌, ◌⊎◌, ℕ, suc, Bool, true, false, length, refl, sym, ap, ◌∙◌, inl, inr, arith}
 use Rattle.std.proofs.lemmas.Bool.{OnTrue_at, cases_eq}
 use Rattle.aoe_base.specs.Faults.{Rose}
 use Rattle.aoe_base.proofs.CommonLemmas.{rose-later}
@@ -8,7 +8,7 @@ use Rattle.aoe_disk.specs.Sectors.{Calms}
 use Rattle.aoe_mirror.specs.Marks.{IsClear, IsFirstRun, count_of}
 use Rattle.aoe_mirror.specs.Sides.{IsMirror, Pair, disk_of, shown}
 use Rattle.aoe_mirror.specs.Calls.{Copies, CopiesAll, Counts, FollowerFailed, LeadFailed, RoseBy, SideFailed}
-use Rattle.aoe_mirror.proofs.Bits.{below, below_all, below_cleared, below_none, below_stays, clear_rest}
+use Rattle.aoe_mirror.proofs.Bits.{below, below_all, below_cleared, below_none, below_stays, clear_rest, set_some}
 use Rattle.aoe_mirror.proofs.Quiet.{calm_then}
 use Rattle.aoe_mirror.proofs.Steps.{counts_then}
 use Rattle.aoe_mirror.proofs.Syncing.{blame_follower, blame_lead, same_calm}
@@ -55,8 +55,10 @@ pub record Passes (from : ℕ) (old new : Pair) : Type 0 where
   pub calm : BothTell Calms (shown old).contents (shown new).contents
   pub later : (shown old).faults ≤ (shown new).faults
   pub side : new.side ≡ old.side
+  pub mark : new.mark ≡ old.mark
   pub counts : Counts old new
   pub settled : new.settled ≡ old.settled
+  pub still : count_of old.stale ≡ 0 → new ≡ old
   pub fails : ℕ
   pub left : below from new.stale ≤ 64 * fails
   pub rose : RoseBy fails (shown old).faults (shown new).faults
@@ -69,8 +71,10 @@ passes_begun p m = record {
   calm = same_calm (shown p);
   later = omega arith;
   side = refl;
+  mark = refl;
   counts = λ k le. omega arith;
   settled = refl;
+  still = λ _. refl;
   fails = 0;
   left = omega (arith, below_none p.stale);
   rose = λ low. omega arith;
@@ -78,6 +82,12 @@ passes_begun p m = record {
 }
 
 module _ (from at n : ℕ) (old mid new : Pair) (run : IsFirstRun mid.stale from at n) (p : Passes from old mid) where
+  some_stale : count_of old.stale ≡ 0 → ⊥
+  some_stale none =
+      let some : 0 < count_of mid.stale = set_some mid.stale at (run.run.set at (omega arith) (omega (arith, run.run.some))) in
+      let same : count_of mid.stale ≡ count_of old.stale = ap (λ (p : Pair). count_of p.stale) (p.still none) in
+      omega (arith, some, same, none)
+
   passes_by : (failed : Bool) (fails : ℕ) → Copies at n failed mid new → below (at + n) new.stale ≤ 64 * fails
       → RoseBy fails (shown old).faults (shown new).faults → (0 < fails → SideFailed old new) → Passes (at + n) old new
   passes_by failed fails c left rose cause = record {
@@ -86,8 +96,10 @@ module _ (from at n : ℕ) (old mid new : Pair) (run : IsFirstRun mid.stale from
     calm = told_then Calms Calms Calms (shown old).contents (shown mid).contents (shown new).contents p.calm c.calm calm_then;
     later = let before = p.later in let after = c.run.later in omega (arith, before, after);
     side = c.side ∙ p.side;
+    mark = c.mark ∙ p.mark;
     counts = counts_then old mid new p.counts c.counts;
     settled = c.settled ∙ p.settled;
+    still = λ none. absurd (some_stale none);
     fails = fails;
     left = left;
     rose = rose;
@@ -112,8 +124,10 @@ passes_done from old new clear p = record {
   calm = p.calm;
   later = p.later;
   side = p.side;
+  mark = p.mark;
   counts = p.counts;
   settled = p.settled;
+  still = p.still;
   fails = p.fails;
   left = let all : count_of new.stale ≡ below from new.stale = below_all new.stale from (clear_rest new.stale from clear) in omega (arith, all, p.left);
   rose = p.rose;

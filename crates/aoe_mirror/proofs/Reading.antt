@@ -78,6 +78,10 @@ module _ (at n : ℕ) (out : List ℕ) (old : Pair) (m : IsMirror old) where
       counts = counts_same old after refl l.later f.later (omega arith);
       side = refl;
       stale = refl;
+      mark = refl;
+      settled = refl;
+      lead = l.same;
+      follower = f.same;
       cause = λ bad. (why bad).1;
     }
 

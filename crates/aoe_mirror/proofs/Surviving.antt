@@ -91,34 +91,13 @@ named_in bytes k e =
     let by = named_by (list_all (λ b. b == 0) (drop 1 marked)) (get_or marked 0 0 == 0xa7) (get_or marked 0 0 == 0) k e in
     (ap (λ (v : ℕ). if v == 0xa7 then 1 else 0) (first_byte bytes) ∙ by.0, by.1)
 
-mark_is : (bytes : List ℕ) → mark_in bytes ≡ side_in (sector bytes 0)
+pub mark_is : (bytes : List ℕ) → mark_in bytes ≡ side_in (sector bytes 0)
 unfolding mark_in
 mark_is bytes = refl
 
-finds_mark : (c : Contents) → is_loose c.loose 0 ≡ false → (found : Option ℕ) → side_in (sector c.bytes 0) ≡ found → FindsMark found c
-finds_mark c kept None e = mark_is c.bytes ∙ e
-finds_mark c kept (Some k) e = record { kept = kept; side = (named_in c.bytes k e).0; whole = mark_is c.bytes ∙ e }
-
-module _ (a b c : DiskState) (r q : Answer) (out : List ℕ) (sync : SyncsTo r a b) (ok : is_err r ≡ false) (read : Reads 0 512 q out b c) where
-  pub mark_calm : BothTell Calms a.contents c.contents
-  mark_calm = rw read.same (synced_calm r a b sync)
-
-  pub mark_run : IsRun 2 (is_err q) a c
-  mark_run = run_then 1 1 (is_err q) a b c (rw ok at sync.call) read.call
-
-  pub mark_reads : (found : Option ℕ) → is_err q ≡ false → found ≡ side_in out → IfSome found (λ k. k ≤ 1) → ReadsMark found a c
-  mark_reads found done is either = record {
-    run = rw done at mark_run;
-    calm = mark_calm;
-    side = either;
-    names = rw read.same (if_mono (λ (x : Contents). Quiet x × (out ≡ take 512 (drop (512 * 0) x.bytes))) (FindsMark found) b.contents
-        (and_if Quiet (λ (x : Contents). out ≡ take 512 (drop (512 * 0) x.bytes)) b.contents (synced_quiet r a b ok sync) (ok_given q done read.given))
-        (λ x h. finds_mark x (h.0 0) found (sym (is ∙ ap side_in h.1))));
-  }
-
 -- a mark that is written
 
-zeros : (n : ℕ) → list_all (λ b. b == 0) (replicate n 0) ≡ true
+pub zeros : (n : ℕ) → list_all (λ b. b == 0) (replicate n 0) ≡ true
 zeros zero = refl
 zeros (suc n) = zeros n
 

@@ -70,6 +70,10 @@ pub record MirrorReads {T E : Type 0} (at n : ℕ) (result : Result T E) (out : 
   pub counts : Counts old new
   pub side : new.side ≡ old.side
   pub stale : new.stale ≡ old.stale
+  pub mark : new.mark ≡ old.mark
+  pub settled : new.settled ≡ old.settled
+  pub lead : new.lead.contents ≡ old.lead.contents
+  pub follower : new.follower.contents ≡ old.follower.contents
   pub cause : is_err result ≡ true → ReadCause at (n / 512) old new
 
 pub record MirrorWrites {T E : Type 0} (at : ℕ) (piece : List ℕ) (result : Result T E) (old new : Pair) : Type 0 where
@@ -87,6 +91,7 @@ pub record Copies (at n : ℕ) (failed : Bool) (old new : Pair) : Type 0 where
   pub run : IsRun 1 failed (shown old) (shown new)
   pub calm : BothTell Calms (shown old).contents (shown new).contents
   pub side : new.side ≡ old.side
+  pub mark : new.mark ≡ old.mark
   pub counts : Counts old new
   pub settled : new.settled ≡ old.settled
   pub done : failed ≡ false → new.stale ≡ without_marks old.stale at n
@@ -102,15 +107,18 @@ CopiesNext from next failed old new = ((count_of old.stale ≡ 0) × (failed ≡
 abbrev pub RoseBy : ℕ → ℕ → ℕ → Type 0
 RoseBy n before after = after < 2 ^ 64 - 1 → before + n ≤ after
 
--- Each run of stale sectors was copied once, also behind one of which the copy failed: each failure leaves 64 sectors at most.
+-- Each run of stale sectors was copied once, also behind one of which the copy failed: each failure leaves 64 sectors at most. Where nothing
+-- was stale no disk was called.
 pub record CopiesAll (old new : Pair) : Type 0 where
   pub mirror : IsMirror new
   pub sectors : new.lead.sectors ≡ old.lead.sectors
   pub calm : BothTell Calms (shown old).contents (shown new).contents
   pub later : (shown old).faults ≤ (shown new).faults
   pub side : new.side ≡ old.side
+  pub mark : new.mark ≡ old.mark
   pub counts : Counts old new
   pub settled : new.settled ≡ old.settled
+  pub still : count_of old.stale ≡ 0 → new ≡ old
   pub fails : ℕ
   pub left : count_of new.stale ≤ 64 * fails
   pub rose : RoseBy fails (shown old).faults (shown new).faults

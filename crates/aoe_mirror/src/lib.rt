@@ -3,11 +3,13 @@
 //! A [`Mirror`] is two disks, its sides 0 and 1, as a [`Store`](aoe_store::Store). One side leads:
 //! the mirror has its sectors. The other follows, with a mark for each sector that may differ from
 //! the lead's, a *stale* one. A third disk, the mark disk, says by its first sector which side
-//! leads: side 0 by 512 zeros, side 1 by 0xA7 and zeros. The calls come in this order:
+//! leads: side 0 by 512 zeros, side 1 by 0xA7 and zeros. Its second sector says that the mirror is
+//! *clean*, both sides equal and synced, by 0xC3 and zeros; 512 zeros or no second sector, that this
+//! isn't known. The calls come in this order:
 //!
 //! 1. [`Mirror::mount`] takes the three disks and all the memory that the mirror will ever use.
-//!    Every sector of the side that follows is stale then, since nothing tells what it missed.
-//!    Where the mirror can't be mounted it returns the disks.
+//!    Every sector of the side that follows is stale then, since nothing tells what it missed; none
+//!    of a clean mirror. Where the mirror can't be mounted it returns the disks.
 //! 2. [`Mirror::resync_all`] copies each run of stale sectors, also after one of which the copy
 //!    fails; [`Mirror::resync`] copies one, and goes round.
 //! 3. `read` reads the lead, and the other side where that fails and nothing is stale there.
@@ -16,15 +18,23 @@
 //!    disk says so. A `sync` that is Ok ends with one `resync`.
 //! 4. [`note`] tells a [`MirrorWatch`] which side leads and whether the other has all sectors,
 //!    where that isn't as it was told: just what changed (`TellsChanges`).
-//! 5. [`Mirror::close`] returns the disks. Sync before.
+//! 5. [`Mirror::mark_clean`] makes the mark disk say that the mirror is clean, after a sync that
+//!    left nothing stale. The next write takes that back, synced, before it changes a side.
+//! 6. [`Mirror::close`] returns the disks. Sync before.
 //!
 //! A bit for each sector is held, so a disk of 1 TB takes 244 MB, and one of 2^40 sectors 128 GB,
 //! which an allocator may refuse. A copy of 64 sectors goes through 32 kB that are taken at the
 //! mounting.
 //!
-//! It doesn't keep the stale marks on a disk, so every mounting copies all of the lead. It makes a
-//! failed call no second time, doesn't compare the sides, and doesn't tell a side that is wrong
-//! from one that is right where both answer. No two of the three disks may be one.
+//! It doesn't keep the stale marks on a disk, so a mounting copies all of the lead unless the mirror is
+//! clean. It makes a failed call no second time, doesn't compare the sides, and doesn't tell a side that
+//! is wrong from one that is right where both answer. So it can't know of a side that somebody else
+//! changed or replaced between two runs while the mark disk says that the mirror is clean: whoever does
+//! that has to zero the second sector. No two of the three disks may be one.
+//!
+//! Whether the mirror is clean stands in a sector of its own: a takeover writes the first one while the
+//! sides differ, and a crash in that call may leave any bytes there. The second is written only while
+//! they are equal.
 //!
 //! Promised: the calls are those of a store over `shown`: the lead's sectors, each of which is the
 //! same on both sides where it isn't stale (`Agree`). A sector gets stale only where the side failed
@@ -32,7 +42,8 @@
 //! `ReadCause`, a write or a sync only by `Cause`; after Ok the mark disk names the lead. `resync_all` leaves at most 64
 //! stale sectors for each failure (`CopiesAll`), and an Ok sync ends with the copy of a run
 //! (`SyncsAndCopies`). After a crash of all three disks the side that the mark disk names has the
-//! mirror's bytes in each sector that isn't loose (`Survives`). A disk that `failed` names did fail
+//! mirror's bytes in each sector that isn't loose (`Survives`), and a mark disk that says that the mirror
+//! is clean has equal sides (`CrashesTruly`); so `mount` may ask for that (`SaysTruly`). A disk that `failed` names did fail
 //! (`Blames`). A refused mounting names its cause (`Refuses`) and leaves the sides; a mark disk that
 //! holds no mark is refused and stays, and one that was written holds a mark (`Names`).
 //!
@@ -42,6 +53,7 @@
 //! sync of the sides.
 #![tactic(auto)]
 
+mod clean;
 mod marks;
 mod mirror;
 mod refusal;

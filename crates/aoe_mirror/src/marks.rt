@@ -59,6 +59,20 @@ impl Marks {
         })
     }
 
+    /// `len` marks, none of them set.
+    pub(crate) fn none(alloc: Global, len: usize) -> Result<Marks, NoMemory>
+        requires { len ≤ 2 ^ 40 }
+        ensures { IfOk result (λ marks. marks ≡ replicate len false) }
+    {
+        let words = Vec::from_elem(alloc, 0, len / 64 + 1)?;
+        Ok(Marks {
+            words,
+            len,
+            count: 0,
+            lowest: len,
+        })
+    }
+
     /// How many are set.
     pub(crate) fn count(&self) -> usize
         ensures count { result ≡ count_of self.now }

@@ -4,11 +4,13 @@ ghost use Rattle.std.specs.List.{list_all};
 ghost use Rattle.aoe_base.specs.Sizes.{scratch_bytes};
 ghost use Rattle.aoe_disk.specs.State.{IsDisk};
 ghost use Rattle.aoe_disk.specs.Calls.{IsRange, IsRun};
-ghost use Rattle.aoe_mirror.specs.Sides.{IsMark, IsMirror, Names, pair_of, side_in};
+ghost use Rattle.aoe_mirror.specs.Sides.{IsMark, IsMirror, Names, both, pair_of, side_in};
 ghost use Rattle.aoe_mirror.specs.Mirror.{first_of, second_of};
 ghost use Rattle.aoe_mirror.specs.Marks.{AreSet, IsNextRun, count_of};
+ghost use Rattle.aoe_mirror.specs.Clean.{AreAlike, KeepsWord, Says};
 ghost use Rattle.aoe_mirror.specs.Calls.{Blames, Copies, CopiesAll, CopiesNext, CopiesRun, FollowerReads, FollowerSyncs, Follows, Halts, Leads, MirrorReads, MirrorSyncs, MirrorWrites, SettlesLead, StaysLead, StaysWhole, Swaps, TakesLead, WritesCopy, blamed_of, copy_blamed};
 
+use crate::clean::write_clean;
 use crate::marks::Marks;
 use aoe_base::{Failed, SECTOR_LEN};
 use aoe_disk::Disk;
@@ -21,8 +23,8 @@ const SECOND_LEADS: u8 = 0xa7;
 /// The number of the mark disk, behind the two sides.
 pub(crate) const MARK: u8 = 2;
 
-// Whether all bytes are zero.
-fn are_zeros(bytes: &[u8]) -> bool
+/// Whether all bytes are zero.
+pub(crate) fn are_zeros(bytes: &[u8]) -> bool
     ensures { result ≡ list_all (λ b. b == 0) bytes.now }
 {
     bytes.iter().all(|byte| *byte == 0)
@@ -69,10 +71,13 @@ fn write_mark<D: Disk>(disk: &mut D, side: u8) -> Result<(), Failed>
     requires disk { IsDisk (D.state disk.old) }
     ensures run { IsRun 2 (is_err result) (D.state disk.old) (D.state disk.new) }
     ensures named { OnOk result (IfSome (D.state disk.new).contents (Names side)) }
+    ensures word { KeepsWord (D.state disk.old) (D.state disk.new) }
 {
     let marked = mark_of(side);
-    disk.write(0, &marked)?;
-    disk.sync()
+    match disk.write(0, &marked) {
+        Ok(()) => disk.sync(),
+        Err(Failed) => Err(Failed),
+    }
 }
 
 /// The two sides of a mirror and its mark disk.
@@ -95,7 +100,8 @@ pub struct Sides<D: Disk> {
 }
 
 impl<D: Disk> Sides<D> {
-    /// The sides, of which the mark disk names one as the lead. All of the other is stale.
+    /// The sides, of which the mark disk names one as the lead. They are alike where the other isn't
+    /// stale.
     pub(crate) fn new(one: D, two: D, mark: D, side: u8, stale: Marks) -> Self
         requires one { IsDisk (D.state one) }
         requires two { IsDisk (D.state two) }
@@ -104,7 +110,8 @@ impl<D: Disk> Sides<D> {
         requires room { 0 < (D.state mark).sectors }
         requires side { side ≤ 1 }
         requires named { IfSome (D.state mark).contents (Names side) }
-        requires stale { stale ≡ replicate (D.state one).sectors true }
+        requires marks { length stale ≡ (D.state one).sectors }
+        requires alike { AreAlike stale (both (D.state one).contents (D.state two).contents) }
         ensures mirror { IsMirror (pair_of D.state result) }
         ensures one { first_of result ≡ one }
         ensures two { second_of result ≡ two }
@@ -140,8 +147,9 @@ impl<D: Disk> Sides<D> {
     // Makes the mark disk name the lead, where it may not name it yet.
     fn settle(&mut self) -> Result<(), Failed>
         requires { IsMark (pair_of D.state self.old) }
-        ensures { SettlesLead (is_err result)
+        ensures settles { SettlesLead (is_err result)
             (pair_of D.state self.old) (pair_of D.state self.new) }
+        ensures word { KeepsWord (D.state self.old.mark) (D.state self.new.mark) }
     {
         if self.settled {
             return Ok(());
@@ -149,6 +157,19 @@ impl<D: Disk> Sides<D> {
         write_mark(&mut self.mark, self.side)?;
         self.settled = true;
         Ok(())
+    }
+
+    /// Makes the mark disk say whether the mirror is clean, under a lead that is settled.
+    pub(crate) fn say(&mut self, clean: bool) -> Result<(), Failed>
+        requires mark { IsMark (pair_of D.state self.old) }
+        requires settled { self.old.settled ≡ true }
+        requires room { 1 < (D.state self.old.mark).sectors }
+        ensures settles { SettlesLead (is_err result)
+            (pair_of D.state self.old) (pair_of D.state self.new) }
+        ensures says { OnOk result (IfSome (D.state self.new.mark).contents (Says clean)) }
+        ensures is { self.new ≡ record self.old { mark = self.new.mark } }
+    {
+        write_clean(&mut self.mark, clean)
     }
 
     // The follower leads from now on, and the mark disk doesn't say so yet.
@@ -214,10 +235,11 @@ impl<D: Disk> Sides<D> {
         requires disk { IsDisk (D.state self.old.follower) }
         requires marks { length self.old.stale ≡ (D.state self.old.follower).sectors }
         requires mark { IsMark (pair_of D.state self.old) }
-        ensures { Halts at piece.now (is_err result)
+        ensures falls { Halts at piece.now (is_err result)
             (pair_of D.state self.old) (pair_of D.state self.new)
             ⊎ Swaps at piece.now (is_err result)
             (pair_of D.state self.old) (pair_of D.state self.new) }
+        ensures word { KeepsWord (D.state self.old.mark) (D.state self.new.mark) }
     {
         let stale = self.stale.count();
         self.stale
@@ -237,8 +259,9 @@ impl<D: Disk> Sides<D> {
         requires mirror { IsMirror (pair_of D.state self.old) }
         requires range { IsRange at (length piece.now) (D.state self.old.lead).sectors }
         requires settled { self.old.settled ≡ true }
-        ensures { MirrorWrites at piece.now result
+        ensures writes { MirrorWrites at piece.now result
             (pair_of D.state self.old) (pair_of D.state self.new) }
+        ensures word { KeepsWord (D.state self.old.mark) (D.state self.new.mark) }
     {
         match self.lead.write(at, piece) {
             Ok(()) => {
@@ -253,8 +276,9 @@ impl<D: Disk> Sides<D> {
     pub(crate) fn write(&mut self, at: u64, piece: &[u8]) -> Result<(), Failed>
         requires mirror { IsMirror (pair_of D.state self.old) }
         requires range { IsRange at (length piece.now) (D.state self.old.lead).sectors }
-        ensures { MirrorWrites at piece.now result
+        ensures writes { MirrorWrites at piece.now result
             (pair_of D.state self.old) (pair_of D.state self.new) }
+        ensures word { KeepsWord (D.state self.old.mark) (D.state self.new.mark) }
     {
         match self.settle() {
             Ok(()) => self.write_both(at, piece),
@@ -289,8 +313,9 @@ impl<D: Disk> Sides<D> {
     // synced. Where that fails the lowest side that failed is told.
     fn sync_other(&mut self) -> Result<(), u8>
         requires { IsMark (pair_of D.state self.old) }
-        ensures { StaysLead result (pair_of D.state self.old) (pair_of D.state self.new)
+        ensures leads { StaysLead result (pair_of D.state self.old) (pair_of D.state self.new)
             ⊎ TakesLead result (pair_of D.state self.old) (pair_of D.state self.new) }
+        ensures word { KeepsWord (D.state self.old.mark) (D.state self.new.mark) }
     {
         let failed = self.side;
         if self.stale.count() > 0 {
@@ -312,6 +337,7 @@ impl<D: Disk> Sides<D> {
             (pair_of D.state self.old) (pair_of D.state self.new) }
         ensures told { blamed_of result ≡ None
             → StaysWhole (pair_of D.state self.old) (pair_of D.state self.new) }
+        ensures word { KeepsWord (D.state self.old.mark) (D.state self.new.mark) }
     {
         match self.lead.sync() {
             Ok(()) => Ok(self.sync_follower()),
@@ -333,6 +359,7 @@ impl<D: Disk> Sides<D> {
             (pair_of D.state self.old) (pair_of D.state self.new) }
         ensures told { blamed_of result ≡ None
             → StaysWhole (pair_of D.state self.old) (pair_of D.state self.new) }
+        ensures word { KeepsWord (D.state self.old.mark) (D.state self.new.mark) }
     {
         match self.settle() {
             Ok(()) => self.sync_both(),

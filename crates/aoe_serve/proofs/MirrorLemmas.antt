@@ -14,6 +14,7 @@ use Rattle.aoe_disk.proofs.Touching.{settles_calm, settles_kept}
 use Rattle.aoe_keep.specs.Found.{AlwaysFinds}
 use Rattle.aoe_keep.specs.Keep.{Kept}
 use Rattle.aoe_mirror.specs.Calls.{Answer, Blames, CopiesAll, Counts, MirrorSyncs, SideFailed}
+use Rattle.aoe_mirror.specs.Clean.{AreEqual, CrashesTruly, MarksClean, SaysTruly}
 use Rattle.aoe_mirror.specs.Covering.{IsRunning, IsSince, first_count, has_held, is_covered, stored}
 use Rattle.aoe_mirror.specs.Marks.{count_of}
 use Rattle.aoe_mirror.specs.Mirror.{Mirrored, Mounts, first_of, pair, second_of, state_of}
@@ -24,16 +25,16 @@ use Rattle.aoe_mirror.specs.declared.watch.MirrorEvent.{MirrorEvent}
 use Rattle.aoe_mirror.specs.declared.watch.Standing.{Standing}
 use Rattle.aoe_mirror.proofs.Telling.{tells_then}
 use Rattle.aoe_mirror.proofs.Bits.{count_none}
-use Rattle.aoe_mirror.proofs.Passing.{side_from}
+use Rattle.aoe_mirror.proofs.Passing.{side_from, side_to}
 use Rattle.aoe_mirror.proofs.Quiet.{calm_then, parts_in}
-use Rattle.aoe_mirror.proofs.Steps.{Holds, counts_then, holds_of, synced}
+use Rattle.aoe_mirror.proofs.Steps.{Holds, counts_same, counts_then, holds_of, synced}
 use Rattle.aoe_mirror.proofs.Surviving.{survives}
 use Rattle.aoe_mirror.proofs.Syncing.{Quiet, sync_ok, synced_quiet}
 use Rattle.aoe_mirror.proofs.Told.{told_if, told_mono, told_then, told_to}
 use Rattle.aoe_mirror.proofs.Whole.{seen_at}
 use Rattle.aoe_serve.specs.Arrivals.{at_slot}
 use Rattle.aoe_serve.specs.Exporting.{AtFirst, FindsAll, HasRun, Outside, SyncsSlot, Tells, arrivals_in, first_failed}
-use Rattle.aoe_serve.specs.Mirroring.{AreEqual, AreEqualBut, EndsMirror, HasFailed, IsBegun, IsLeftStale, IsMirrored, IsOf, LeavesAlone, RanMirror, TellsOf, faults_of, has_ended}
+use Rattle.aoe_serve.specs.Mirroring.{AreEqualBut, EndsMirror, HasFailed, IsBegun, IsLeftStale, IsMirrored, IsOf, LeavesAlone, RanMirror, TellsOf, faults_of, has_ended}
 use Rattle.aoe_serve.specs.Slots.{EachSlot, IsServed, Slot, slot_of, slots_of}
 use Rattle.aoe_serve.specs.declared.over_mirror.MirrorDisks.{MirrorDisks}
 use Rattle.aoe_serve.specs.declared.over_mirror.MirrorEnd.{MirrorEnd}
@@ -115,47 +116,106 @@ ends_failed well failed (Err e) old new bad s some blames = record {
   cause = λ _. s.cause refl;
   blames = blames;
   whole = λ _ none. let no : false ≡ true = rw none at some in cc;
+  marked = λ none. let no : false ≡ true = rw none at some in cc;
 }
 
-pub ends_synced : (well : Bool) (r : Answer) (old new : Pair) → well ≡ false → is_err r ≡ false → MirrorSyncs r old new → EndsMirror well None old new
-ends_synced well (Err e) old new not ok s = cc
-ends_synced well (Ok v) old new not ok s = record {
-  answer = Ok v;
-  told = refl;
-  syncs = s.syncs;
+-- a mirror whose last sync was Ok, and which may have been copied then
+pub record Rests (well : Bool) (old mid : Pair) : Type 0 where
+  pub mirror : IsMirror mid
+  pub sectors : mid.lead.sectors ≡ old.lead.sectors
+  pub later : (shown old).faults ≤ (shown mid).faults
+  pub calm : BothTell Calms (shown old).contents (shown mid).contents
+  pub quiet : IfSome (shown mid).contents Quiet
+  pub counts : Counts old mid
+  pub settled : mid.settled ≡ true
+  pub whole : well ≡ true → (count_of mid.stale ≡ 0) ⊎ SideFailed old mid
+
+pub rests_synced : (well : Bool) (r : Answer) (old mid : Pair) → well ≡ false → is_err r ≡ false → MirrorSyncs r old mid → Rests well old mid
+rests_synced well (Err e) old mid not ok s = cc
+rests_synced well (Ok v) old mid not ok s = record {
   mirror = s.mirror;
+  sectors = s.syncs.call.sectors;
+  later = s.syncs.call.later;
+  calm = told_mono (Syncs {T = Unit {0}} {E = Failed} (Ok v)) Calms (shown old).contents (shown mid).contents s.syncs.contents (λ a b t. settles_calm a b t);
+  quiet = told_to (Syncs {T = Unit {0}} {E = Failed} (Ok v)) Quiet (shown old).contents (shown mid).contents s.syncs.contents (λ a b t. settles_kept a b t);
   counts = s.counts;
-  cause = λ e. cc;
-  blames = tt;
-  whole = λ is _. absurd (both_ways well not is);
+  settled = s.settled refl;
+  whole = λ is. absurd (both_ways well not is);
 }
 
-pub ends_copied : (well : Bool) (r : Answer) (old mid new : Pair) → IsMirror old → is_err r ≡ false → MirrorSyncs r old mid → CopiesAll mid new
-    → EndsMirror well None old new
-ends_copied well (Err e) old mid new m ok s c = cc
-ends_copied well (Ok v) old mid new m ok s c =
-    let later : (shown old).faults ≤ (shown new).faults = let a = s.syncs.call.later in let b = c.later in omega (arith, a, b) in
-    let calm : BothTell Calms (shown old).contents (shown new).contents = told_then Calms Calms Calms (shown old).contents (shown mid).contents
-    (shown new).contents
-    (told_mono (Syncs {T = Unit {0}} {E = Failed} (Ok v)) Calms (shown old).contents (shown mid).contents s.syncs.contents (λ a b t. settles_calm a b t)) c.calm
-    calm_then in
-    let quiet : IfSome (shown new).contents Quiet = told_if Calms Quiet Quiet (shown mid).contents (shown new).contents c.calm
-    (told_to (Syncs {T = Unit {0}} {E = Failed} (Ok v)) Quiet (shown old).contents (shown mid).contents s.syncs.contents (λ a b t. settles_kept a b t))
-    (λ a b h t k. t.kept k (h k)) in
-    record {
-      answer = Ok v;
-      told = refl;
-      syncs = synced old new m c.mirror (c.sectors ∙ s.syncs.call.sectors) later (Ok v)
-          (sync_ok {T = Unit {0}} {E = Failed} (Ok v) old new m c.mirror refl calm quiet) (λ e. cc);
-      mirror = c.mirror;
-      counts = counts_then old mid new s.counts c.counts;
-      cause = λ e. cc;
-      blames = tt;
-      whole = λ _ _. elim (cases_lt 0 c.fails) [
-        | inl some ↦ inr (side_from old mid new s.counts c.counts (c.cause some))
-        | inr none ↦ inl (omega (arith, none, c.left))
-      ];
-    }
+pub rests_copied : (well : Bool) (r : Answer) (old mid new : Pair) → is_err r ≡ false → MirrorSyncs r old mid → CopiesAll mid new → Rests well old new
+rests_copied well (Err e) old mid new ok s c = cc
+rests_copied well (Ok v) old mid new ok s c = record {
+  mirror = c.mirror;
+  sectors = c.sectors ∙ s.syncs.call.sectors;
+  later = let a = s.syncs.call.later in let b = c.later in omega (arith, a, b);
+  calm = told_then Calms Calms Calms (shown old).contents (shown mid).contents (shown new).contents
+      (told_mono (Syncs {T = Unit {0}} {E = Failed} (Ok v)) Calms (shown old).contents (shown mid).contents s.syncs.contents (λ a b t. settles_calm a b t))
+      c.calm calm_then;
+  quiet = told_if Calms Quiet Quiet (shown mid).contents (shown new).contents c.calm
+      (told_to (Syncs {T = Unit {0}} {E = Failed} (Ok v)) Quiet (shown old).contents (shown mid).contents s.syncs.contents (λ a b t. settles_kept a b t))
+      (λ a b h t k. t.kept k (h k));
+  counts = counts_then old mid new s.counts c.counts;
+  settled = c.settled ∙ s.settled refl;
+  whole = λ _. elim (cases_lt 0 c.fails) [
+    | inl some ↦ inr (side_from old mid new s.counts c.counts (c.cause some))
+    | inr none ↦ inl (omega (arith, none, c.left))
+  ];
+}
+
+module _ (old mid new : Pair) (before : IsMirror old) (marks : MarksClean mid new) where
+  side_marked : new.side ≡ mid.side
+  side_marked = ap (λ (p : Pair). p.side) marks.is
+
+  lead_marked : new.lead ≡ mid.lead
+  lead_marked = ap (λ (p : Pair). p.lead) marks.is
+
+  follower_marked : new.follower ≡ mid.follower
+  follower_marked = ap (λ (p : Pair). p.follower) marks.is
+
+  stale_marked : new.stale ≡ mid.stale
+  stale_marked = ap (λ (p : Pair). p.stale) marks.is
+
+  seen_marked : (shown new).contents ≡ (shown mid).contents
+  seen_marked = ap (λ (p : Pair). (shown p).contents) marks.is
+
+  counts_marked : Counts mid new
+  counts_marked = counts_same mid new side_marked (let e = ap (λ (d : DiskState). d.faults) lead_marked in omega (arith, e))
+      (let e = ap (λ (d : DiskState). d.faults) follower_marked in omega (arith, e)) marks.later
+
+  later_marked : (shown mid).faults ≤ (shown new).faults
+  later_marked =
+      let e = ap (λ (d : DiskState). d.faults) lead_marked in
+      let f = ap (λ (d : DiskState). d.faults) follower_marked in
+      omega (arith, e, f, marks.later)
+
+  whole_marked : (well : Bool) → Rests well old mid → well ≡ true → (count_of new.stale ≡ 0) ⊎ SideFailed old new
+  whole_marked well r is = elim (r.whole is) [
+    | inl none ↦ inl (ap count_of stale_marked ∙ none)
+    | inr side ↦ inr (side_to old mid new counts_marked side)
+  ]
+
+  -- and whose mark disk may say then that it is clean
+  pub ends_marked : (well : Bool) → Rests well old mid → EndsMirror well None old new
+  ends_marked well r =
+      let calm : BothTell Calms (shown old).contents (shown new).contents = rw seen_marked r.calm in
+      let quiet : IfSome (shown new).contents Quiet = rw seen_marked r.quiet in
+      record {
+        answer = Ok tt;
+        told = refl;
+        syncs = synced old new before marks.mirror (ap (λ (d : DiskState). d.sectors) lead_marked ∙ r.sectors)
+            (let a = r.later in let b = later_marked in omega (arith, a, b)) (Ok tt)
+            (sync_ok {T = Unit {0}} {E = Failed} (Ok tt) old new before marks.mirror refl calm quiet) (λ e. absurd (both_ways false refl e));
+        mirror = marks.mirror;
+        counts = counts_then old mid new r.counts counts_marked;
+        cause = λ e. absurd (both_ways false refl e);
+        blames = tt;
+        whole = λ is _. whole_marked well r is;
+        marked = λ _ none room. elim (marks.says (sym (ap count_of stale_marked) ∙ none) r.settled (rw marks.sectors at room)) [
+          | inl says ↦ inl says
+          | inr failed ↦ inr (rose-later old.mark.faults mid.mark.faults new.mark.faults (r.counts 2 (omega arith)) marks.later failed)
+        ];
+      }
 
 -- The only slot of a shelf.
 
@@ -198,8 +258,10 @@ pub record IsEnded {D : Type 0} (state : D → DiskState) (faults : ℕ → ℕ)
   pub ended : Mirrored D
   pub ends : EndsMirror (has_ended e.end) e.unsynced (pair state left) (pair state ended)
   pub told : IsLeftStale e (pair state ended)
+  pub crash : CrashesTruly (pair state ended)
   pub disks : IsOf state back (pair state ended)
   pub kept : back.keep ≡ keep.disk
+  pub truly : SaysTruly (state back.one) (state back.two) (state back.mark)
 
 -- the mirror as the store of a slot
 abbrev pub store_of : {D : Type 0} → (D → DiskState) → (ℕ → ℕ) → Bool → Mirrored D → DiskState
@@ -244,8 +306,10 @@ ran_mirror {D} state name faults whole t p e a b mirror kept back targets target
       ended = pair state x.ended;
       ends = x.ends;
       left = x.told;
+      crash = x.crash;
       store_back = refl;
       disks_back = x.disks;
+      truly = x.truly;
       keep_back = ap state x.kept ∙ ap (λ (k : Kept D). state k.disk) x.alone.kept;
       run = record {
         middle = mid ∷ [];
@@ -383,6 +447,7 @@ mirrored_since {D} state name t p e a b given back begun kept begins r =
         ended = r.ended;
         mirror = r.ends.mirror;
         survives = survives r.ended r.ends.mirror;
+        truly = r.crash;
         store_back = r.store_back;
         disks_back = r.disks_back;
         keep_back = r.keep_back;
@@ -399,6 +464,11 @@ mirrored_since {D} state name t p e a b given back begun kept begins r =
       left = r.left;
       apart = apart;
       equal = λ none whole. equal_all r.ended.stale (both (state back.one).contents (state back.two).contents) (sym r.left.stale ∙ whole) (apart none);
+      marked = λ none fresh room. elim (r.ends.marked none (sym r.left.stale ∙ fresh) (rw r.disks_back.mark at room)) [
+        | inl says ↦ inl (rw r.disks_back.mark says)
+        | inr failed ↦ inr (has_failed state given back r.middle r.ended since r.ends.counts r.disks_back 2 (omega arith) failed)
+      ];
+      truly = r.truly;
       copied = λ well none some. elim (r.ends.whole well none) [
         | inl whole ↦ let told = r.left.stale in absurd (omega (arith, whole, told, some))
         | inr side ↦ failed_side state given back r.middle r.ended since r.ends.counts r.disks_back side

@@ -7,7 +7,8 @@ use Rattle.aoe_disk.specs.Calls.{SyncsTo}
 use Rattle.aoe_disk.specs.State.{Contents, DiskState, is_loose, sector}
 use Rattle.aoe_keep.specs.Keep.{HasMounted, IsRefused, Kept}
 use Rattle.aoe_lists.specs.Settings.{Settings}
-use Rattle.aoe_mirror.specs.Calls.{Blames, Cause, CopiesAll, Counts, SideFailed}
+use Rattle.aoe_mirror.specs.Calls.{Blames, Cause, CopiesAll, Counts, DiskFailed, SideFailed}
+use Rattle.aoe_mirror.specs.Clean.{AreEqual, CrashesTruly, Says, SaysTruly}
 use Rattle.aoe_mirror.specs.Covering.{IsRunning, is_covered, stored}
 use Rattle.aoe_mirror.specs.Marks.{count_of}
 use Rattle.aoe_mirror.specs.Mirror.{Mirrored, Mounts, Refuses}
@@ -35,7 +36,7 @@ use Rattle.aoe_target.specs.Mounted.{Mounted}
 use Rattle.aoe_target.specs.declared.station.Station.{Station}
 
 -- The last sync, and where it was Ok and the frames ended well the copying after it: whether the disk is told that failed, and whether
--- nothing is stale.
+-- nothing is stale. Then the mark disk says that the mirror is clean, or failed.
 pub record EndsMirror (well : Bool) (unsynced : Option ℕ) (old new : Pair) : Type 0 where
   pub answer : Result (Unit {0}) Failed
   pub told : is_some unsynced ≡ is_err answer
@@ -45,6 +46,7 @@ pub record EndsMirror (well : Bool) (unsynced : Option ℕ) (old new : Pair) : T
   pub cause : is_err answer ≡ true → Cause old new
   pub blames : Blames unsynced old new
   pub whole : well ≡ true → unsynced ≡ None → (count_of new.stale ≡ 0) ⊎ SideFailed old new
+  pub marked : unsynced ≡ None → count_of new.stale ≡ 0 → 1 < new.mark.sectors → IfSome new.mark.contents (Says true) ⊎ DiskFailed old new 2
 
 -- the count of faults of a disk that was handed in
 abbrev pub faults_of : {D : Type 0} → (D → DiskState) → MirrorDisks D → ℕ → ℕ
@@ -68,7 +70,8 @@ pub record IsOf {D : Type 0} (state : D → DiskState) (disks : MirrorDisks D) (
   pub mark : state disks.mark ≡ p.mark
 
 -- A slot over a mirror and a keep, from the mounting to the giving back: the disks as they were handed in, the slot at its beginning
--- and its end, and the disks as they are given back. A crash of all three disks of the mirror leaves what its store shows.
+-- and its end, and the disks as they are given back. A crash of all three disks of the mirror leaves what its store shows, and a mark disk that says that
+-- both sides are equal only where they are.
 pub record OverMirror {D : Type 0} (state : D → DiskState) (name : ℕ → Station) (given back : MirrorDisks D) (first last : Slot) : Type 0 where
   pub kept : Kept D
   pub begun : Pair
@@ -80,6 +83,7 @@ pub record OverMirror {D : Type 0} (state : D → DiskState) (name : ℕ → Sta
   pub ended : Pair
   pub mirror : IsMirror ended
   pub survives : Survives ended
+  pub truly : CrashesTruly ended
   pub store_back : last.device.store ≡ stored (faults_of state given) (count_of begun.stale == 0) ended
   pub disks_back : IsOf state back ended
   pub keep_back : state back.keep ≡ last.device.keep
@@ -120,8 +124,10 @@ pub record RanMirror {D S K L : Type 0} (state : D → DiskState) (name : ℕ �
   pub ended : Pair
   pub ends : EndsMirror (has_ended e.end) e.unsynced middle ended
   pub left : IsLeftStale e ended
+  pub crash : CrashesTruly ended
   pub store_back : last.device.store ≡ stored faults whole ended
   pub disks_back : IsOf state back ended
+  pub truly : SaysTruly (state back.one) (state back.two) (state back.mark)
   pub keep_back : state back.keep ≡ last.device.keep
   pub run : HasRunAndSynced t p (exported_of e) a b (first ∷ []) (last ∷ [])
   pub covered : is_covered faults whole ended ≡ true
@@ -139,12 +145,6 @@ pub record AreEqualBut (stale : List Bool) (sides : Contents × Contents) : Type
   pub first : (s : ℕ) → is_loose stale s ≡ false → is_loose sides.0.loose s ≡ false
   pub second : (s : ℕ) → is_loose stale s ≡ false → is_loose sides.1.loose s ≡ false
 
--- two sides with equal sectors, which no crash changes
-pub record AreEqual (sides : Contents × Contents) : Type 0 where
-  pub same : (s : ℕ) → sector sides.1.bytes s ≡ sector sides.0.bytes s
-  pub first : (s : ℕ) → is_loose sides.0.loose s ≡ false
-  pub second : (s : ℕ) → is_loose sides.1.loose s ≡ false
-
 -- the frames ended so
 abbrev pub EndedAs : Result MirrorEnd MirrorStop → RunEnd → Type 0
 EndedAs (Ok e) end = e.end ≡ end
@@ -158,7 +158,8 @@ OneHeld state given back = (HasFailed state given back 0 → ⊥) ⊎ (HasFailed
 -- what is known after the frames that came to it and the sync, and outlives a loss of power. A disk that is said to have failed did. Where
 -- the last sync was Ok both sides are equal but in the sectors that are told as stale; after a run that ended well there are none, or a side
 -- failed. Where nothing was stale when the run began, the mark disk didn't fail and one side didn't either, no frame got a fault of the store,
--- and the last sync was Ok, however often the other side failed.
+-- and the last sync was Ok, however often the other side failed. Where the last sync was Ok and nothing is stale, a mark disk of two sectors
+-- says that both sides are equal, or failed; and it says so only where they are.
 pub record IsMirrored {D S K L : Type 0} (state : D → DiskState) (name : ℕ → Station) (t : Tells S K L) (p : Plan) (e : MirrorEnd)
     (a b : Outside S K L) (given back : MirrorDisks D) : Type 0 where
   pub first : Slot
@@ -173,6 +174,9 @@ pub record IsMirrored {D S K L : Type 0} (state : D → DiskState) (name : ℕ �
   pub left : IsLeftStale e over.ended
   pub apart : e.unsynced ≡ None → IfSome (both (state back.one).contents (state back.two).contents) (AreEqualBut over.ended.stale)
   pub equal : e.unsynced ≡ None → e.stale ≡ 0 → IfSome (both (state back.one).contents (state back.two).contents) AreEqual
+  pub marked : e.unsynced ≡ None → e.stale ≡ 0 → 1 < (state back.mark).sectors
+      → IfSome (state back.mark).contents (Says true) ⊎ HasFailed state given back 2
+  pub truly : SaysTruly (state back.one) (state back.two) (state back.mark)
   pub copied : has_ended e.end ≡ true → e.unsynced ≡ None → 0 < e.stale → HasFailed state given back 0 ⊎ HasFailed state given back 1
 
 -- the sides are as they were

@@ -2,6 +2,7 @@
 ghost use Rattle.std.specs.Prelude.{◌≡◌, ◌≤◌, ◌<◌, ◌+◌, ◌-◌, ◌/◌, [], ◌∷◌, ℕ, IfErr, IfOk, IfSome, IsSome, None, OnErr, false, is_err, length, true};
 ghost use Rattle.aoe_base.specs.Faults.{Blamed};
 ghost use Rattle.aoe_mirror.specs.Covering.{IsRunning, IsSince};
+ghost use Rattle.aoe_mirror.specs.Clean.{CrashesTruly, SaysTruly, TellAlike};
 ghost use Rattle.aoe_mirror.specs.Marks.{count_of};
 ghost use Rattle.aoe_mirror.specs.Mirror.{pair, state_of};
 ghost use Rattle.aoe_mirror.specs.Sides.{IsMirror};
@@ -181,6 +182,8 @@ fn mount<D: Disk>(
     alloc: Global,
     disks: MirrorDisks<D>,
 ) -> Result<(Mirror<D>, Keep<D>), (MirrorStop, MirrorDisks<D>)>
+    requires truly { SaysTruly (D.state disks.one) (D.state disks.two) (D.state disks.mark) }
+    requires alike { TellAlike (D.state disks.one) (D.state disks.two) (D.state disks.mark) }
     ensures begun { IfOk result (λ r. IsBegun D.state disks r.1 (pair D.state r.0)) }
     ensures since { IfOk result (λ r. IsSince (faults_of D.state disks) (pair D.state r.0)) }
     ensures stopped { IfErr result (λ e. Stops D.state e.0 disks e.1) }
@@ -235,7 +238,8 @@ fn has_ended(end: RunEnd) -> bool
 }
 
 /// Syncs a mirror at the end of a run, and copies what is stale then, where the run ended well. The
-/// lowest disk is told that failed in the sync, where the sync failed.
+/// lowest disk is told that failed in the sync, where the sync failed. Where nothing is stale, the mark
+/// disk is made to say so.
 fn finish<D: Disk>(mirror: &mut Mirror<D>, well: bool) -> Option<u8>
     requires { IsMirror (pair D.state mirror.old) }
     ensures { EndsMirror well result (pair D.state mirror.old) (pair D.state mirror.new) }
@@ -245,19 +249,23 @@ fn finish<D: Disk>(mirror: &mut Mirror<D>, well: bool) -> Option<u8>
     }
     if well {
         mirror.resync_all();
+        mirror.mark_clean();
+        return None;
     }
+    mirror.mark_clean();
     None
 }
 
 /// How a run ended, with what is stale then of the mirror.
 fn told<D: Disk>(mirror: &Mirror<D>, end: RunEnd, unsynced: Option<u8>) -> MirrorEnd
     requires { (pair D.state mirror.now).side ≤ 1 }
-    ensures { result ≡ record {
+    ensures told { result ≡ record {
       end = end;
       unsynced = unsynced;
       stale = count_of mirror.now.sides.stale;
       follower = 1 - mirror.now.sides.side;
     } }
+    ensures crash { CrashesTruly (pair D.state mirror.now) }
 {
     MirrorEnd {
         end,
@@ -362,8 +370,9 @@ fn run_over<D: Disk + Drop, G: Given, S: Source, K: Sink, L: Link, W: MirrorWatc
 /// The keep is mounted, and then the mirror (`aoe_mirror`), each run of whose stale sectors is copied,
 /// also behind one of which the copy fails. Where one of the two isn't mounted, nothing is read or
 /// sent. Else the plan is run over the slot, and the mirror is synced, however the run ended. Where
-/// that and the run went well, what is stale then is copied, too; what stays stale is told. Each disk is
-/// given back, also where nothing was run.
+/// that and the run went well, what is stale then is copied, too; what stays stale is told. Where nothing
+/// is, the mark disk says so from then on until the first write of the next run, which copies nothing at
+/// its beginning. Each disk is given back, also where nothing was run.
 ///
 /// The watch is told when a side fails, when the other leads in its place, and when it has all sectors
 /// again: of the first copying what it couldn't copy, and of the run each change as it comes.
@@ -383,6 +392,8 @@ pub fn export_mirror<D: Disk + Drop, S: Source, K: Sink, L: Link, W: MirrorWatch
     requires possible { CanExport options plan 2 (length links.old) }
     requires through { options.cache ≡ 0 }
     requires plain { options.durable ≡ false }
+    requires truly { SaysTruly (D.state disks.one) (D.state disks.two) (D.state disks.mark) }
+    requires alike { TellAlike (D.state disks.one) (D.state disks.two) (D.state disks.mark) }
     ensures ran { IfOk result.0 (λ e. IsMirrored D.state (named options.first.major options.ports.items options.mtu options.first.minor)
         record { left = S.left; held = K.held; turns = L.turns; given = L.given; taken = L.taken } plan e
         record { source = source.old; sink = sink.old; links = links.old } record { source = source.new; sink = sink.new; links = links.new }
@@ -432,6 +443,8 @@ fn mirror_at<
     requires whole { (A.faults ≡ faults_of D.state disks) × (A.whole ≡ true) × (A.told ≡ W.told watch) }
     requires behind { (B.faults ≡ faults_of D.state disks) × (B.whole ≡ false) × (B.told ≡ W.told watch) }
     requires possible { CanExport options plan 2 (length links.old) }
+    requires truly { SaysTruly (D.state disks.one) (D.state disks.two) (D.state disks.mark) }
+    requires alike { TellAlike (D.state disks.one) (D.state disks.two) (D.state disks.mark) }
     ensures ran { IfOk result.0 (λ e. IsMirrored D.state (named options.first.major options.ports.items options.mtu options.first.minor)
         record { left = S.left; held = K.held; turns = L.turns; given = L.given; taken = L.taken } plan e
         record { source = source.old; sink = sink.old; links = links.old } record { source = source.new; sink = sink.new; links = links.new }

@@ -1,3 +1,8 @@
+ghost use Rattle.std.specs.Prelude.{IfOk};
+ghost use Rattle.aoe_disk.specs.Memory.{state_of};
+ghost use Rattle.aoe_mirror.specs.Clean.{SaysTruly};
+
+use aoe_base::Failed;
 use aoe_disk::MemDisk;
 use aoe_mirror::{Mirror, MirrorRefusal};
 use aoe_store::Store;
@@ -64,7 +69,7 @@ fn mirror(alloc: Global, sectors: u64, one: u32, two: u32) -> Result<Mirror<MemD
     let mut second = MemDisk::new(alloc, sectors.min(192))?;
     first.fail_at(one.max(1));
     second.fail_at(two.max(1));
-    match Mirror::mount(alloc, first, second, MemDisk::new(alloc, 1)?) {
+    match Mirror::mount(alloc, first, second, MemDisk::new(alloc, 2)?) {
         Ok(mirror) => Ok(mirror),
         Err((refusal, _, _, _)) => Err(refusal.into()),
     }
@@ -74,11 +79,59 @@ fn mirror(alloc: Global, sectors: u64, one: u32, two: u32) -> Result<Mirror<MemD
 fn refused(alloc: Global, sectors: [u64; 3]) -> Result<Option<MirrorRefusal>, Fail> {
     let one = MemDisk::new(alloc, sectors[0].min(16))?;
     let two = MemDisk::new(alloc, sectors[1].min(16))?;
-    let mark = MemDisk::new(alloc, sectors[2].min(16))?;
+    let mark = MemDisk::new(alloc, sectors[2].min(1))?;
     match Mirror::mount(alloc, one, two, mark) {
         Ok(_) => Ok(None),
         Err((refusal, _, _, _)) => Ok(Some(refusal)),
     }
+}
+
+/// Ends a run: what it leaves is synced, and marked as clean.
+fn end(mirror: &mut Mirror<MemDisk>) -> Result<(), Failed> {
+    mirror.sync()?;
+    mirror.mark_clean();
+    Ok(())
+}
+
+/// The sides and the mark disk, mounted again.
+fn again(alloc: Global, disks: (MemDisk, MemDisk, MemDisk)) -> Result<Mirror<MemDisk>, Fail>
+    requires { SaysTruly (state_of disks.0) (state_of disks.1) (state_of disks.2) }
+{
+    let (one, two, mark) = disks;
+    match Mirror::mount(alloc, one, two, mark) {
+        Ok(mirror) => Ok(mirror),
+        Err((refusal, _, _, _)) => Err(refusal.into()),
+    }
+}
+
+/// Two equal sides of 16 sectors, one of which was written, and a mark disk that says so.
+fn clean_disks(alloc: Global) -> Result<(MemDisk, MemDisk, MemDisk), Fail>
+    ensures { IfOk result (λ d. SaysTruly (state_of d.0) (state_of d.1) (state_of d.2)) }
+{
+    let mut mirror = mirror(alloc, 16, 100, 100)?;
+    all_go(&mut mirror, &[Step::CopiesAll(0), Step::Fills(3, 0x5a)]);
+    end(&mut mirror)?;
+    Ok(mirror.close())
+}
+
+#[test]
+fn copies_nothing_after_a_clean_end(rt: HostRuntime) -> Result<(), Fail> {
+    let disks = clean_disks(rt.alloc())?;
+    let before = (disks.0.calls(), disks.1.calls());
+    let mut mirror = again(rt.alloc(), disks)?;
+    let goes = all_go(&mut mirror, &[Step::Leads(0, 0), Step::CopiesAll(0)]);
+    let (one, two, _) = mirror.close();
+    assert!(rt; goes && (one.calls(), two.calls()) == before);
+    Ok(())
+}
+
+#[test]
+fn reads_the_other_side_after_a_clean_end(rt: HostRuntime) -> Result<(), Fail> {
+    let (mut one, two, mark) = clean_disks(rt.alloc())?;
+    one.fail_at(1);
+    let mut mirror = again(rt.alloc(), (one, two, mark))?;
+    assert!(rt; all_go(&mut mirror, &[Step::Leads(0, 0), Step::Has(3, [0x5a, 0x5a])]));
+    Ok(())
 }
 
 #[test]

@@ -35,3 +35,9 @@ returns-clause-source g c =
 pub returns-clause-sink : goal.returns-clause-sink
 returns-clause-sink g c =
     retold _ _ (sink-told c.mirrored_as.result c.export_mirror-answer.result.0 c.mirrored_as.ensures) _ _ c.export_mirror-answer.ensures.sink_blame
+
+pub export_mirror-answer-requires-clause-truly : goal.export_mirror-answer-requires-clause-truly
+export_mirror-answer-requires-clause-truly g c = (c.requires.told c.take_four-given.result c.take_four-given.ensures.taken).0
+
+pub export_mirror-answer-requires-clause-alike : goal.export_mirror-answer-requires-clause-alike
+export_mirror-answer-requires-clause-alike g c = (c.requires.told c.take_four-given.result c.take_four-given.ensures.taken).1

@@ -1,14 +1,23 @@
 use Rattle.std.proofs.Common.{ap, is_err}
-use Rattle.aoe_mirror.proofs.Surviving.{mark_calm, mark_reads}
+use Rattle.aoe_mirror.proofs.Cleaning.{looked_calm, looked_reads_if}
 use Rattle.aoe_mirror.proofs.mirror.read_mark.Goals as goal
+
+pub returns-then-sectors-eq1-clause-reads : goal.returns-then-sectors-eq1-clause-reads
+returns-then-sectors-eq1-clause-reads g c =
+    looked_reads_if (g.D.Disk.state c.args.disk.now) (g.D.Disk.state c.sync.new.self) (g.D.Disk.state c.read_one.new.disk) c.sync.result c.sync.ensures
+    (ap is_err c.in_default.is) c.read_one.ensures.same c.read_one.result c.read_one.ensures.run c.read_one.ensures.sees
+
+pub returns-then-sectors-eq1-clause-calm : goal.returns-then-sectors-eq1-clause-calm
+returns-then-sectors-eq1-clause-calm g c =
+    looked_calm (g.D.Disk.state c.args.disk.now) (g.D.Disk.state c.sync.new.self) (g.D.Disk.state c.read_one.new.disk) c.sync.result c.sync.ensures
+    (ap is_err c.in_default.is) c.read_one.ensures.same
 
 pub returns-clause-reads : goal.returns-clause-reads
 returns-clause-reads g c =
-    mark_reads (g.D.Disk.state c.args.disk.now) (g.D.Disk.state c.sync.new.self)
-    (g.D.Disk.state c.read.new.self) c.sync.result c.read.result c.read.new.out c.sync.ensures (ap is_err c.in_default.is) c.read.ensures c.side_in.result
-    (ap is_err c.in_default-read.is) c.side_in.ensures.side c.side_in.ensures.either
+    looked_reads_if (g.D.Disk.state c.args.disk.now) (g.D.Disk.state c.sync.new.self) (g.D.Disk.state c.read_two.new.disk) c.sync.result c.sync.ensures
+    (ap is_err c.in_default.is) c.read_two.ensures.same c.read_two.result c.read_two.ensures.run c.read_two.ensures.sees
 
 pub returns-clause-calm : goal.returns-clause-calm
 returns-clause-calm g c =
-    mark_calm (g.D.Disk.state c.args.disk.now) (g.D.Disk.state c.sync.new.self)
-    (g.D.Disk.state c.read.new.self) c.sync.result c.read.result c.read.new.out c.sync.ensures (ap is_err c.in_default.is) c.read.ensures
+    looked_calm (g.D.Disk.state c.args.disk.now) (g.D.Disk.state c.sync.new.self) (g.D.Disk.state c.read_two.new.disk) c.sync.result c.sync.ensures
+    (ap is_err c.in_default.is) c.read_two.ensures.same

@@ -1,5 +1,6 @@
 use Rattle.aoe_mirror.specs.Calls.{copy_blamed}
 use Rattle.aoe_mirror.specs.Sides.{pair_of}
+use Rattle.aoe_mirror.proofs.Cleaning.{clean_copies, clean_syncs}
 use Rattle.aoe_mirror.proofs.Copying.{copied_is}
 use Rattle.aoe_mirror.proofs.Syncing.{blames_before, blames_then, copied_syncs, err_syncs, lowest_blames, next_counts, ok_syncs}
 use Rattle.aoe_mirror.proofs.mirror.MirrorStore.sync.Goals as goal
@@ -49,3 +50,18 @@ pub returns-in-Err-clause-mirror : goal.returns-in-Err-clause-mirror
 returns-in-Err-clause-mirror g c =
     rw (← c.self.view_is) (err_syncs c.in-Err.disk _ (pair_of g.D.Disk.state c.self.inside.sides)
     (pair_of g.D.Disk.state c.sync.new.self) c.in-Err.ensures.syncs)
+
+pub returns-then-self-clause-syncs : goal.returns-then-self-clause-syncs
+returns-then-self-clause-syncs g c =
+    let p = pair_of g.D.Disk.state c.self.inside.sides in
+    rw (← c.self.view_is) ((clean_syncs tt p c.self.invariant.mirror (c.self.invariant.marked.clean c.if-self.true)).syncs)
+
+pub returns-then-self-clause-mirror : goal.returns-then-self-clause-mirror
+returns-then-self-clause-mirror g c =
+    let p = pair_of g.D.Disk.state c.self.inside.sides in
+    rw (← c.self.view_is) (clean_syncs tt p c.self.invariant.mirror (c.self.invariant.marked.clean c.if-self.true))
+
+pub returns-then-self-clause-copied : goal.returns-then-self-clause-copied
+returns-then-self-clause-copied g c =
+    let p = pair_of g.D.Disk.state c.self.inside.sides in
+    rw (← c.self.view_is) (clean_copies c.self.inside.next p c.self.invariant.mirror (c.self.invariant.marked.clean c.if-self.true))

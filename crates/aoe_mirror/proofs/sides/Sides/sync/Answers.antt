@@ -6,16 +6,16 @@ use Rattle.aoe_mirror.proofs.sides.Sides.sync.Goals as goal
 
 pub returns-in-Err-clause-syncs : goal.returns-in-Err-clause-syncs
 returns-in-Err-clause-syncs g c = unsettled_syncs _ (pair_of g.D.Disk.state c.args.self.now)
-    (pair_of g.D.Disk.state c.settle.new.self) c.requires c.in-Err.ensures
+    (pair_of g.D.Disk.state c.settle.new.self) c.requires c.in-Err.ensures.settles
 
 pub returns-in-Ok-clause-syncs : goal.returns-in-Ok-clause-syncs
 returns-in-Ok-clause-syncs g c = settled_syncs c.sync_both.result (pair_of g.D.Disk.state c.args.self.now) (pair_of g.D.Disk.state c.settle.new.self)
-    (pair_of g.D.Disk.state c.sync_both.new.self) c.requires c.in-Ok.ensures c.sync_both.ensures.syncs
+    (pair_of g.D.Disk.state c.sync_both.new.self) c.requires c.in-Ok.ensures.settles c.sync_both.ensures.syncs
 
 pub returns-in-Ok-clause-blames : goal.returns-in-Ok-clause-blames
 returns-in-Ok-clause-blames g c = blames_then _ (pair_of g.D.Disk.state c.args.self.now) (pair_of g.D.Disk.state c.settle.new.self)
-    (pair_of g.D.Disk.state c.sync_both.new.self) (settled_counts false _ _ c.in-Ok.ensures) c.sync_both.ensures.syncs.counts c.sync_both.ensures.blames
+    (pair_of g.D.Disk.state c.sync_both.new.self) (settled_counts false _ _ c.in-Ok.ensures.settles) c.sync_both.ensures.syncs.counts c.sync_both.ensures.blames
 
 pub returns-in-Ok-clause-told : goal.returns-in-Ok-clause-told
 returns-in-Ok-clause-told g c = λ none. stays_then false (pair_of g.D.Disk.state c.args.self.now) (pair_of g.D.Disk.state c.settle.new.self)
-    (pair_of g.D.Disk.state c.sync_both.new.self) c.in-Ok.ensures (c.sync_both.ensures.told none)
+    (pair_of g.D.Disk.state c.sync_both.new.self) c.in-Ok.ensures.settles (c.sync_both.ensures.told none)

@@ -20,7 +20,7 @@ pub returns-in-Ok-sync_other-clause-syncs : goal.returns-in-Ok-sync_other-clause
 returns-in-Ok-sync_other-clause-syncs g c =
     let old = pair_of g.D.Disk.state c.args.self.now in
     let new = pair_of g.D.Disk.state c.sync_other.new.self in
-    elim c.sync_other.ensures [
+    elim c.sync_other.ensures.leads [
       | inl s ↦ absurd (both_ways (is_err c.sync_other.result) (ap is_err c.in-Ok-sync_other.is) s.told)
       | inr t ↦ takes_syncs old c.requires.mirror c.requires.settled (g.D.Disk.state c.sync.new.self) c.sync.result c.sync.ensures
           (ap is_err c.in-Err.is) c.sync_other.result new t _ (sym (ap is_err c.in-Ok-sync_other.is))
@@ -30,7 +30,7 @@ pub returns-in-Ok-sync_other-clause-blames : goal.returns-in-Ok-sync_other-claus
 returns-in-Ok-sync_other-clause-blames g c =
     let old = pair_of g.D.Disk.state c.args.self.now in
     let new = pair_of g.D.Disk.state c.sync_other.new.self in
-    elim c.sync_other.ensures [
+    elim c.sync_other.ensures.leads [
       | inl s ↦ absurd (both_ways (is_err c.sync_other.result) (ap is_err c.in-Ok-sync_other.is) s.told)
       | inr t ↦ blame_lead old new c.args.self.now.side c.requires.mirror.mark.side refl
           (takes_failed old c.requires.mirror c.requires.settled (g.D.Disk.state c.sync.new.self) c.sync.result c.sync.ensures
@@ -41,7 +41,7 @@ pub returns-in-Err-sync_other-clause-syncs : goal.returns-in-Err-sync_other-clau
 returns-in-Err-sync_other-clause-syncs g c =
     let old = pair_of g.D.Disk.state c.args.self.now in
     let new = pair_of g.D.Disk.state c.sync_other.new.self in
-    elim c.sync_other.ensures [
+    elim c.sync_other.ensures.leads [
       | inl s ↦ stays_syncs old c.requires.mirror c.requires.settled (g.D.Disk.state c.sync.new.self) c.sync.result c.sync.ensures
           (ap is_err c.in-Err.is) c.sync_other.result _ new s refl
       | inr t ↦ takes_syncs old c.requires.mirror c.requires.settled (g.D.Disk.state c.sync.new.self) c.sync.result c.sync.ensures
@@ -53,7 +53,7 @@ returns-in-Err-sync_other-clause-blames g c =
     let old = pair_of g.D.Disk.state c.args.self.now in
     let new = pair_of g.D.Disk.state c.sync_other.new.self in
     let k = c.in-Err-sync_other.disk in
-    elim c.sync_other.ensures [
+    elim c.sync_other.ensures.leads [
       | inl s ↦ stays_blames old c.requires.mirror c.requires.settled (g.D.Disk.state c.sync.new.self) c.sync.result c.sync.ensures
           (ap is_err c.in-Err.is) c.sync_other.result new k s (rw c.in-Err-sync_other.is at s.blamed)
       | inr t ↦ takes_blames old c.requires.mirror c.requires.settled (g.D.Disk.state c.sync.new.self) c.sync.result c.sync.ensures
