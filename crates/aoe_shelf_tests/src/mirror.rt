@@ -79,7 +79,7 @@ fn mirror(alloc: Global, sectors: u64, one: u32, two: u32) -> Result<Mirror<MemD
 fn refused(alloc: Global, sectors: [u64; 3]) -> Result<Option<MirrorRefusal>, Fail> {
     let one = MemDisk::new(alloc, sectors[0].min(16))?;
     let two = MemDisk::new(alloc, sectors[1].min(16))?;
-    let mark = MemDisk::new(alloc, sectors[2].min(1))?;
+    let mark = MemDisk::new(alloc, sectors[2].min(16))?;
     match Mirror::mount(alloc, one, two, mark) {
         Ok(_) => Ok(None),
         Err((refusal, _, _, _)) => Ok(Some(refusal)),
@@ -130,7 +130,12 @@ fn reads_the_other_side_after_a_clean_end(rt: HostRuntime) -> Result<(), Fail> {
     let (mut one, two, mark) = clean_disks(rt.alloc())?;
     one.fail_at(1);
     let mut mirror = again(rt.alloc(), (one, two, mark))?;
-    assert!(rt; all_go(&mut mirror, &[Step::Leads(0, 0), Step::Has(3, [0x5a, 0x5a])]));
+    assert!(rt;
+        all_go(
+            &mut mirror,
+            &[Step::Leads(0, 0), Step::Has(3, [0x5a, 0x5a])]
+        )
+    );
     Ok(())
 }
 
