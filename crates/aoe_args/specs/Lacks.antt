@@ -19,22 +19,32 @@ pub record IsLastPlain (form : Form) (words : List Text) (n : ℕ) : Type 0 wher
   pub plain : is_plain form words n ≡ true
   pub last : plain_before form words (n + 1) ≡ plain_count form words
 
--- what is missing behind so many words, the last of which is this one: each FILE has its KEEP, and each action what it sets
+-- what is missing behind so many words of `mirror`: SHELF SLOT FILE FILE MARK KEEP
+abbrev pub mirror_follower : ℕ → Option Text
+mirror_follower count =
+    if count == 3 then Some (codes "files")
+    else if count == 4 then Some (codes "mark")
+    else if count == 5 then Some (codes "keep")
+    else None
+
+-- what is missing behind an action of a command: what it sets, edits or clears
+unfoldable pub action_follower : Text → Text → Option Text
+action_follower command action =
+    if bytes_eq command (codes "cfg") && is_some (ccmd_with_text action) then Some (codes "text")
+    else if bytes_eq command (codes "mask") && bytes_eq action (codes "edit") then Some (codes "dirs")
+    else if bytes_eq command (codes "reserve") && is_some (rcmd_with_list action) then Some (codes "macs")
+    else if bytes_eq command (codes "keep") && bytes_eq action (codes "clear") then Some (codes "list")
+    else None
+
+-- what is missing behind so many words, the last of which is this one: each FILE has its KEEP, and each action what it needs
 unfoldable pub follower : Text → ℕ → Text → Option Text
 follower command count word =
     if bytes_eq command (codes "answer") then (if count == 3 then Some (codes "keep") else None)
     else if bytes_eq command (codes "capture") then (if count == 3 then Some (codes "keep") else None)
     else if bytes_eq command (codes "serve") then (if count % 2 == 0 then Some (codes "keep") else None)
-    else if bytes_eq command (codes "mirror") then
-    if count == 3 then Some (codes "files")
-    else if count == 4 then Some (codes "mark")
-    else if count == 5 then Some (codes "keep")
-    else None
+    else if bytes_eq command (codes "mirror") then mirror_follower count
     else if bytes_eq command (codes "switch") then (if count == 1 then Some (codes "ports") else None)
-    else if bytes_eq command (codes "cfg") then (if count == 2 && is_some (ccmd_with_text word) then Some (codes "text") else None)
-    else if bytes_eq command (codes "mask") then (if count == 2 && bytes_eq word (codes "edit") then Some (codes "dirs") else None)
-    else if bytes_eq command (codes "reserve") then (if count == 2 && is_some (rcmd_with_list word) then Some (codes "macs") else None)
-    else if bytes_eq command (codes "keep") then (if count == 2 && bytes_eq word (codes "clear") then Some (codes "list") else None)
+    else if count == 2 then action_follower command word
     else None
 
 -- the most words that a command takes by their place, where that isn't one for each argument: a number and two FILEs for each of 16 slots, 16 ports, a device with an action and 64 addresses

@@ -2,7 +2,7 @@
 ghost use Rattle.std.specs.Prelude.{◌≡◌, ◌<◌, ◌≤◌, false, length, map, option_map, string_bytes, true, IfSome, Some};
 ghost use Rattle.std.specs.Str.{bytes_eq};
 ghost use Rattle.aoe_args.specs.Apps.{form as told_form};
-ghost use Rattle.aoe_args.specs.Lacks.{AreExclusive, IsAlone, IsLastPlain, IsUnlinked, follower, most_words, plain_count};
+ghost use Rattle.aoe_args.specs.Lacks.{AreExclusive, IsAlone, IsLastPlain, IsUnlinked, action_follower, follower, mirror_follower, most_words, plain_count};
 ghost use Rattle.aoe_args.specs.Places.{argument_behind, is_given, is_needed, needed_count};
 ghost use Rattle.aoe_args.specs.Slips.{IsSlipIn, IsWrongTogether};
 
@@ -42,22 +42,47 @@ pub(crate) fn lacking(form: Form, before: usize) -> Option<&'static str>
     }
 }
 
+/// The name of what is missing behind so many words of `mirror`.
+fn mirror_follower(count: usize) -> Option<&'static str>
+    ensures { option_map (λ name. name.now) result ≡ mirror_follower count }
+{
+    match count {
+        3 => Some("files"),
+        4 => Some("mark"),
+        5 => Some("keep"),
+        _ => None,
+    }
+}
+
+/// The name of what is missing behind an action of a command.
+#[tactic(auto, unfolding(crate::specs::Lacks::action_follower))]
+fn action_follower(command: &str, action: &str) -> Option<&'static str>
+    ensures { option_map (λ name. name.now) result ≡ action_follower command.now action.now }
+{
+    match command {
+        "cfg" if ccmd_with_text(action).is_some() => Some("text"),
+        "mask" if action == "edit" => Some("dirs"),
+        "reserve" if rcmd_with_list(action).is_some() => Some("macs"),
+        "keep" if action == "clear" => Some("list"),
+        _ => None,
+    }
+}
+
 /// The name of what is missing behind so many words that go by their place, the last of which is
 /// this one.
 #[tactic(auto, unfolding(crate::specs::Lacks::follower))]
 fn follower(command: &str, count: usize, word: &str) -> Option<&'static str>
     ensures { option_map (λ name. name.now) result ≡ follower command.now count word.now }
 {
-    match (command, count) {
-        ("answer", 3) | ("capture", 3) | ("mirror", 5) => Some("keep"),
-        ("serve", _) if count % 2 == 0 => Some("keep"),
-        ("mirror", 3) => Some("files"),
-        ("mirror", 4) => Some("mark"),
-        ("switch", 1) => Some("ports"),
-        ("cfg", 2) if ccmd_with_text(word).is_some() => Some("text"),
-        ("mask", 2) if word == "edit" => Some("dirs"),
-        ("reserve", 2) if rcmd_with_list(word).is_some() => Some("macs"),
-        ("keep", 2) if word == "clear" => Some("list"),
+    match command {
+        "answer" | "capture" if count == 3 => Some("keep"),
+        "answer" | "capture" => None,
+        "serve" if count % 2 == 0 => Some("keep"),
+        "serve" => None,
+        "mirror" => mirror_follower(count),
+        "switch" if count == 1 => Some("ports"),
+        "switch" => None,
+        _ if count == 2 => action_follower(command, word),
         _ => None,
     }
 }
