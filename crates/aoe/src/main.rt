@@ -189,7 +189,7 @@ fn is_served(command: &Command, number: usize) -> bool {
 }
 
 /// Says what of a file that is served may not be as whoever named it thinks.
-fn tell_odd(rt: &HostRuntime, name: &str, disk: &FileDisk) {
+fn tell_odd(rt: &HostRuntime, name: &str, disk: &mut FileDisk) {
     if let Some(form) = disk.image_form()
         && let Ok(text) = format!(in rt.alloc();
             "aoe: {name} begins as a {form} image, and is served as it stands\n"
@@ -224,7 +224,7 @@ fn open_file(
         if disk.sectors() == 0 {
             return Err(tell_name(rt, b"no sectors: ", name.as_bytes(), 5));
         }
-        tell_odd(rt, name, &disk);
+        tell_odd(rt, name, &mut disk);
     }
     if matches!(command, Command::Mirror(_)) && number < 2 {
         disk.show_copying(rt);

@@ -13,7 +13,7 @@ use aoe_disk::Disk;
 use aoe_keep::{KEEP_SECTORS, may_hold_keep};
 use std::fs::{File, OpenFile, OpenOptions, TryLockError};
 use std::io;
-use std::io::{ErrorKind, Seek, SeekFrom};
+use std::io::{ErrorKind, Read, Seek, SeekFrom};
 use std::os::fd::AsRawFd;
 use std::os::unix::fs::{FileExt, FileTypeExt};
 use std::rt::Files;
@@ -175,9 +175,14 @@ impl FileDisk {
     }
 
     /// The form of an image as which it begins, of those whose content isn't the disk itself.
-    pub fn image_form(&self) -> Option<&'static str> {
+    pub fn image_form(&mut self) -> Option<&'static str>
+        ensures sectors { self.new.sectors ≡ self.old.sectors }
+        ensures faults { self.new.faults ≡ self.old.faults }
+        ensures lost { self.new.is_lost ≡ self.old.is_lost }
+    {
         let mut front = [0; FRONT_LEN];
-        self.file.read_exact_at(&mut front, 0).ok()?;
+        self.file.seek(SeekFrom::Start(0)).ok()?;
+        self.file.read_exact(&mut front).ok()?;
         form_of(&front)
     }
 
