@@ -1,5 +1,5 @@
 //! NBD, the protocol of network block devices, on the server's side: what a client says, and what
-//! is said to it. There is no socket and no device in it, and no program uses it yet.
+//! is said to it. There is no socket and no device in it.
 //!
 //! The server says [`greeting`]. Then [`Handshake::take`] takes the client's flags and one option
 //! after the other off the front of the bytes that came, and makes the answer to each, until

@@ -1,0 +1,11 @@
+use Rattle.std.proofs.Common.{ℕ, ◌≡◌}
+use Rattle.aoe_nbd_serve.specs.Account.{ServeSeen, Setting}
+use Rattle.aoe_nbd_serve.specs.Serving.{IsFit, Serves}
+use Rattle.aoe_nbd_serve.proofs.serving.Serving.settle_some.Given as goal
+
+abbrev pub invariant-outcomes : goal.invariant-outcomes
+invariant-outcomes l = record {
+  fit : IsFit l.self;
+  conversation : l.self.conversation ≡ l.fn.self.conversation;
+  so : (c : Setting) (seen : ServeSeen) (most : ℕ) → Serves c seen most l.fn.self → Serves c seen most l.self;
+}
