@@ -151,6 +151,18 @@ put_app =
     with_rule (with_rule (with_rule (with_sector_options (with_rule (device_tool (codes "put")) (needed (codes "at")))) (flag (codes "verify")))
     (flag (codes "no-flush"))) (flag (codes "progress"))
 
+-- nbd DEV, with its socket
+abbrev pub nbd_front : App
+nbd_front = with_sector_options (with_rule (device_tool (codes "nbd")) (optional (codes "socket")))
+
+-- with what its clients may do
+abbrev pub nbd_clients : App
+nbd_clients = with_rule (with_rule (with_rule nbd_front (flag (codes "read-only"))) (flag (codes "no-flush"))) (flag (codes "once"))
+
+-- with all its options
+abbrev pub nbd_app : App
+nbd_app = with_rule (with_rule nbd_clients (optional (codes "idle"))) (optional (codes "stop"))
+
 -- what all commands stand under: one has to be named, and it is the first word
 abbrev pub top : App
 top =
@@ -200,9 +212,13 @@ device_commands = with_subcommand list_commands flush_app.top
 abbrev pub sector_commands : App
 sector_commands = with_subcommand (with_subcommand device_commands get_app.top) put_app.top
 
+-- with the one that serves a device to clients
+abbrev pub client_commands : App
+client_commands = with_subcommand sector_commands nbd_app.top
+
 -- all commands
 unfoldable pub aoe_app : App
-aoe_app = with_subcommand sector_commands keep_app.top
+aoe_app = with_subcommand client_commands keep_app.top
 
 -- ---- the same, as the code tells clap
 

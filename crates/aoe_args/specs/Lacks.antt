@@ -94,3 +94,8 @@ pub record IsUnlinked (form : Form) (words : List Text) (local peers tap : Text)
   pub first : is_given local words ≡ false
   pub second : is_given peers words ≡ false
   pub third : is_given tap words ≡ false
+
+-- the command has this option, and it isn't given
+pub record IsUnset (form : Form) (words : List Text) (name : Text) : Type 0 where
+  pub known : is_some (option_named form.1 name) ≡ true
+  pub absent : is_given name words ≡ false

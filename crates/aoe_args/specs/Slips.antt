@@ -5,10 +5,10 @@ use Rattle.std.specs.Str.{bytes_eq}
 use Rattle.clap.specs.Words.{Text}
 use Rattle.aoe_base.specs.Names.{device_of, mac_of}
 use Rattle.aoe_base.specs.Sizes.{longest_lifetime, most_cached, most_simulated}
-use Rattle.aoe_args.specs.Lacks.{AreExclusive, IsAlone, IsLacking, IsLastPlain, IsUnlinked, follower, most_words, plain_count}
+use Rattle.aoe_args.specs.Lacks.{AreExclusive, IsAlone, IsLacking, IsLastPlain, IsUnlinked, IsUnset, follower, most_words, plain_count}
 use Rattle.aoe_args.specs.Places.{Form, argument_at, awaits, form_named, is_flag, is_given, option_at, option_named, word_at}
 use Rattle.aoe_args.specs.Switching.{kind_of}
-use Rattle.aoe_args.specs.Tools.{dir_of}
+use Rattle.aoe_args.specs.Tools.{dir_of, is_socket_path}
 use Rattle.aoe_args.specs.Values.{number_within, port_of, ports_of}
 use Rattle.aoe_args.specs.Words.{attached, is_value, is_word}
 use Rattle.aoe_args.specs.declared.slip.Actions.{Actions}
@@ -46,12 +46,13 @@ IsMisfit want.Address text = mac_of text ≡ None
 IsMisfit want.Directive text = dir_of text ≡ None
 IsMisfit (want.Action actions) text = is_action actions text ≡ false
 IsMisfit want.List text = is_list text ≡ false
+IsMisfit want.Socket text = is_socket_path text ≡ false
 
 -- the names of the commands
 abbrev pub command_names : List Text
 command_names =
     codes "answer" ∷ codes "capture" ∷ codes "serve" ∷ codes "mirror" ∷ codes "audit" ∷ codes "replay" ∷ codes "soak" ∷ codes "live" ∷ codes "switch"
-    ∷ codes "discover" ∷ codes "stat" ∷ codes "cfg" ∷ codes "mask" ∷ codes "reserve" ∷ codes "flush" ∷ codes "get" ∷ codes "put" ∷ codes "keep" ∷ []
+    ∷ codes "discover" ∷ codes "stat" ∷ codes "cfg" ∷ codes "mask" ∷ codes "reserve" ∷ codes "flush" ∷ codes "get" ∷ codes "put" ∷ codes "nbd" ∷ codes "keep" ∷ []
 
 abbrev pub is_command_name : Text → Bool
 is_command_name name = list_any (bytes_eq name) command_names
@@ -97,6 +98,7 @@ wanted command name =
     else if bytes_eq name (codes "macs") then Some want.Address
     else if bytes_eq name (codes "action") then Some (want.Action (actions_of command))
     else if bytes_eq name (codes "list") then Some want.List
+    else if bytes_eq name (codes "socket") then Some want.Socket
     else number_wanted command name
 
 -- a text is what an argument of this name has to be
@@ -180,6 +182,7 @@ IsWrongTogether form words (wrong.Exclusive one other) = AreExclusive words one.
 IsWrongTogether form words (wrong.Alone one other) = IsAlone words one.now other.now
 IsWrongTogether form words wrong.NoLink = IsUnlinked form words (codes "local") (codes "peers") (codes "tap")
 IsWrongTogether form words wrong.NoLinks = IsUnlinked form words (codes "one") (codes "two") (codes "one-tap")
+IsWrongTogether form words wrong.NoSocket = IsUnset form words (codes "socket")
 IsWrongTogether form words wrong.Together = Unit
 IsWrongTogether form words wrong = ⊥
 

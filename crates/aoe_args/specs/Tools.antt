@@ -1,5 +1,5 @@
 -- What the words of the tools spell.
-use Rattle.std.specs.Prelude.{ℕ, ◌≡◌, ◌≤◌, ◌<◌, ◌^◌, ◌-◌, Bool, ◌&&◌, true, false, List, [], length, take, drop, nat_le, Option, Some, None, if◌then◌else◌, option_and_then, option_map, codes, IfSome}
+use Rattle.std.specs.Prelude.{ℕ, ◌≡◌, ◌≤◌, ◌<◌, ◌^◌, ◌-◌, Bool, ◌&&◌, true, false, not, List, [], length, take, drop, nat_le, Option, Some, None, if◌then◌else◌, option_and_then, option_map, codes, IfSome}
 use Rattle.std.specs.Str.{bytes_eq}
 use Rattle.clap.specs.Words.{Row, Text, all_of, first_of}
 use Rattle.aoe_base.specs.Decimal.{number_of}
@@ -12,22 +12,23 @@ use Rattle.aoe_base.specs.Sizes.{longest_lifetime}
 use Rattle.aoe_lists.specs.Settings.{max_directives}
 use Rattle.aoe_lists.specs.declared.dir.Dir.{Dir}
 use Rattle.aoe_base.specs.Texts.{each}
-use Rattle.aoe_args.specs.Values.{given, given_or, is_set, link, number_within, port_of, tool_port}
+use Rattle.aoe_args.specs.Values.{given, given_or, idle_of, is_set, link, nbd_port, number_within, port_of, tool_port}
 use Rattle.aoe_args.specs.declared.command.Asking.{Asking}
 use Rattle.aoe_args.specs.declared.command.Cfg.{Cfg as Cfgs}
 use Rattle.aoe_args.specs.declared.command.Discover.{Discover as Discovers}
 use Rattle.aoe_args.specs.declared.command.Flush.{Flush as Flushes}
 use Rattle.aoe_args.specs.declared.command.Get.{Get as Gets}
 use Rattle.aoe_args.specs.declared.command.Put.{Put as Puts}
+use Rattle.aoe_args.specs.declared.command.Nbd.{Nbd as Nbds}
 use Rattle.aoe_args.specs.declared.command.Mask.{Mask as Masks}
 use Rattle.aoe_args.specs.declared.command.Reserve.{Reserve as Reserves}
 use Rattle.aoe_args.specs.declared.command.Stat.{Stat as Stats}
 
--- the ends of the link, --port MAC and --turns N, of which so many stand where none is given
-unfoldable pub asking_of : ℕ → List Row → Option Asking
-asking_of turns rows =
+-- the ends of the link, --port MAC and --turns N: this port and so many turns where none are given
+unfoldable pub asking_of : Mac → ℕ → List Row → Option Asking
+asking_of default turns rows =
     option_and_then (λ ends. option_and_then (λ port. option_map (λ turns. record { port = port; turns = turns })
-    (given_or (codes "turns") (number_within 1 1000000) turns rows)) (given_or (codes "port") port_of tool_port rows)) (link rows)
+    (given_or (codes "turns") (number_within 1 1000000) turns rows)) (given_or (codes "port") port_of default rows)) (link rows)
 
 -- DEV
 abbrev pub device : List Row → Option TargetId
@@ -37,10 +38,10 @@ device = given (codes "dev") device_of
 
 -- they listen for 50 turns where nothing is said of it
 unfoldable pub discover_of : List Row → Option Discovers
-discover_of rows = option_map (λ asking. record { asking = asking; long = is_set (codes "long") rows }) (asking_of 50 rows)
+discover_of rows = option_map (λ asking. record { asking = asking; long = is_set (codes "long") rows }) (asking_of tool_port 50 rows)
 
 unfoldable pub stat_of : List Row → Option Stats
-stat_of rows = option_map (λ asking. record { asking = asking; sectors = is_set (codes "sectors") rows }) (asking_of 50 rows)
+stat_of rows = option_map (λ asking. record { asking = asking; sectors = is_set (codes "sectors") rows }) (asking_of tool_port 50 rows)
 
 -- ---- cfg DEV ACTION [TEXT]
 
@@ -73,7 +74,7 @@ unfoldable pub cfg_of : List Row → Option Cfgs
 cfg_of rows =
     option_and_then (λ asking. option_and_then (λ id. option_map (λ config.
     record { asking = asking; id = id; ccmd = config.0; text = record { items = config.1 } })
-    (given (codes "action") (λ action. config_of action (first_of (codes "text") rows)) rows)) (device rows)) (asking_of 50 rows)
+    (given (codes "action") (λ action. config_of action (first_of (codes "text") rows)) rows)) (device rows)) (asking_of tool_port 50 rows)
 
 -- ---- mask DEV ACTION [DIR ..]
 
@@ -100,7 +101,7 @@ edit_of action (Some words) = if bytes_eq action (codes "edit") then option_map 
 unfoldable pub mask_of : List Row → Option Masks
 mask_of rows =
     option_and_then (λ asking. option_and_then (λ id. option_map (λ dirs. record { asking = asking; id = id; dirs = dirs })
-    (given (codes "action") (λ action. edit_of action (all_of (codes "dirs") rows)) rows)) (device rows)) (asking_of 50 rows)
+    (given (codes "action") (λ action. edit_of action (all_of (codes "dirs") rows)) rows)) (device rows)) (asking_of tool_port 50 rows)
 
 -- ---- reserve DEV ACTION [MAC ..]
 
@@ -127,7 +128,7 @@ unfoldable pub reserve_of : List Row → Option Reserves
 reserve_of rows =
     option_and_then (λ asking. option_and_then (λ id. option_map (λ reservation.
     record { asking = asking; id = id; rcmd = reservation.0; list = record { items = reservation.1 } })
-    (given (codes "action") (λ action. reservation_of action (all_of (codes "macs") rows)) rows)) (device rows)) (asking_of 50 rows)
+    (given (codes "action") (λ action. reservation_of action (all_of (codes "macs") rows)) rows)) (device rows)) (asking_of tool_port 50 rows)
 
 -- ---- flush DEV
 
@@ -139,7 +140,7 @@ lifetime_of = given_or (codes "lifetime") (number_within 1 longest_lifetime) 200
 unfoldable pub flush_of : List Row → Option Flushes
 flush_of rows =
     option_and_then (λ asking. option_and_then (λ id. option_map (λ lifetime. record { asking = asking; id = id; lifetime = lifetime })
-    (lifetime_of rows)) (device rows)) (asking_of 5000 rows)
+    (lifetime_of rows)) (device rows)) (asking_of tool_port 5000 rows)
 
 -- ---- get DEV [AT [COUNT]] and put DEV AT
 
@@ -160,13 +161,38 @@ unfoldable pub get_of : List Row → Option Gets
 get_of rows =
     option_and_then (λ asking. option_and_then (λ id. option_and_then (λ at. option_and_then (λ count. option_map (λ lifetime.
     record { asking = asking; id = id; at = at; count = count; lifetime = lifetime })
-    (lifetime_of rows)) (sector_count rows)) (first_sector rows)) (device rows)) (asking_of 5000 rows)
+    (lifetime_of rows)) (sector_count rows)) (first_sector rows)) (device rows)) (asking_of tool_port 5000 rows)
 
 unfoldable pub put_of : List Row → Option Puts
 put_of rows =
     option_and_then (λ asking. option_and_then (λ id. option_and_then (λ at. option_map (λ lifetime.
     record { asking = asking; id = id; at = at; lifetime = lifetime; verify = is_set (codes "verify") rows; no_flush = is_set (codes "no-flush") rows })
-    (lifetime_of rows)) (sector rows)) (device rows)) (asking_of 5000 rows)
+    (lifetime_of rows)) (sector rows)) (device rows)) (asking_of tool_port 5000 rows)
+
+-- ---- nbd DEV
+
+-- the path of a Unix socket: its address has 108 bytes, of which the last is a zero (unix(7), "sun_path")
+abbrev pub is_socket_path : Text → Bool
+is_socket_path text = nat_le 1 (length text) && nat_le (length text) 107
+
+-- --socket PATH
+abbrev pub socket_path : List Row → Option Text
+socket_path = given (codes "socket") (λ text. if is_socket_path text then Some text else None)
+
+-- --read-only, --no-flush, --once and --idle N; the look-up listens for 5000 turns where nothing is said of it
+unfoldable pub nbd_of : List Row → Option Nbds
+nbd_of rows =
+    option_and_then (λ path. option_and_then (λ asking. option_and_then (λ id. option_and_then (λ lifetime. option_map (λ idle.
+    record {
+      asking = asking;
+      id = id;
+      lifetime = lifetime;
+      read_only = is_set (codes "read-only") rows;
+      flushes = not (is_set (codes "no-flush") rows);
+      once = is_set (codes "once") rows;
+      idle = idle;
+    })
+    (idle_of rows)) (lifetime_of rows)) (device rows)) (asking_of nbd_port 5000 rows)) (socket_path rows)
 
 -- ---- what holds of them
 
@@ -214,3 +240,14 @@ pub record CanPut (put : Puts) : Type 0 where
   pub device : IsDevice put.id
   pub at : put.at < 2 ^ 48
   pub lifetime : (1 ≤ put.lifetime) × (put.lifetime ≤ longest_lifetime)
+
+-- what has room in the address of a socket
+pub record IsSocketPath (path : Text) : Type 0 where
+  pub some : 1 ≤ length path
+  pub few : length path ≤ 107
+
+pub record CanNbd (nbd : Nbds) : Type 0 where
+  pub asking : CanAsk nbd.asking
+  pub device : IsDevice nbd.id
+  pub lifetime : (1 ≤ nbd.lifetime) × (nbd.lifetime ≤ longest_lifetime)
+  pub idle : IfSome nbd.idle (λ turns. (1 ≤ turns) × (turns ≤ 1000000))

@@ -37,6 +37,14 @@ default_port = record { 0 = 2 ∷ 0 ∷ 0 ∷ 0 ∷ 0 ∷ 1 ∷ [] }
 abbrev pub tool_port : Mac
 tool_port = record { 0 = 2 ∷ 0 ∷ 0 ∷ 0 ∷ 0 ∷ 10 ∷ [] }
 
+-- the one of `nbd`: another, since two runs of a host need two
+abbrev pub nbd_port : Mac
+nbd_port = record { 0 = 2 ∷ 0 ∷ 0 ∷ 0 ∷ 0 ∷ 11 ∷ [] }
+
+-- how many quiet turns end a run; none do where nothing is said of it, or 0 is
+abbrev pub idle_of : List Row → Option (Option ℕ)
+idle_of rows = option_map (λ turns. if turns == 0 then None else Some turns) (given_or (codes "idle") (number_within 0 1000000) 0 rows)
+
 -- the address of a port that a text spells, or nothing
 abbrev pub port_of : Text → Option Mac
 port_of text = option_and_then (λ mac. if is_individual mac then Some mac else None) (mac_of text)

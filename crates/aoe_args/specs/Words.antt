@@ -17,9 +17,9 @@ use Rattle.aoe_base.specs.declared.address.TargetId.{TargetId}
 use Rattle.aoe_base.specs.Addresses.{all_unique, is_individual}
 use Rattle.aoe_base.specs.Sizes.{most_cached, most_simulated}
 use Rattle.aoe_args.specs.Apps.{aoe_app}
-use Rattle.aoe_args.specs.Values.{default_port, given, given_or, is_set, link, number_within, port_of, ports_of, two_ends}
+use Rattle.aoe_args.specs.Values.{default_port, given, given_or, idle_of, is_set, link, number_within, port_of, ports_of, two_ends}
 use Rattle.aoe_args.specs.Switching.{CanSwitch, kinds_of}
-use Rattle.aoe_args.specs.Tools.{CanAsk, CanCfg, CanMask, CanReserve, CanFlush, CanGet, CanPut, discover_of, stat_of, cfg_of, mask_of, reserve_of, flush_of, get_of, put_of}
+use Rattle.aoe_args.specs.Tools.{CanAsk, CanCfg, CanMask, CanReserve, CanFlush, CanGet, CanNbd, CanPut, IsSocketPath, discover_of, stat_of, cfg_of, mask_of, reserve_of, flush_of, get_of, nbd_of, put_of, socket_path}
 use Rattle.aoe_args.specs.declared.command.Answer.{Answer as Answers}
 use Rattle.aoe_args.specs.declared.command.Serve.{Serve as Serves}
 use Rattle.aoe_args.specs.declared.command.Mirror.{Mirror as Mirrors}
@@ -31,7 +31,7 @@ use Rattle.aoe_args.specs.declared.command.KeepAction.{KeepAction}
 use Rattle.aoe_args.specs.declared.command.KeepAction.TheVariants.{Show, Upgrade, Lock, Unlock, ClearConfig, ClearMasks, ClearReserves}
 use Rattle.aoe_args.specs.declared.command.PortWords.{PortWords}
 use Rattle.aoe_args.specs.declared.command.Command.{Command}
-use Rattle.aoe_args.specs.declared.command.Command.TheVariants.{Answer, Serve, Mirror, Audit, Replay, Soak, Live, Switch, Ask, Get, Put, Keep}
+use Rattle.aoe_args.specs.declared.command.Command.TheVariants.{Answer, Serve, Mirror, Audit, Replay, Soak, Live, Switch, Ask, Get, Put, Nbd, Keep}
 use Rattle.aoe_args.specs.declared.command.Tool.{Tool}
 use Rattle.aoe_args.specs.declared.command.Tool.TheVariants.{Discover, Stat, Cfg, Mask, Reserve, Flush}
 
@@ -103,10 +103,6 @@ has_slots rows = length (files rows) % 2 == 0 && nat_le 2 (length (files rows)) 
 -- how many frames are taken; as many as come where nothing is said of it
 abbrev pub frames_of : List Row → Option (Option ℕ)
 frames_of = given_or (codes "frames") (λ text. option_map Some (number_within 1 4294967295 text)) None
-
--- how many quiet turns end the run; none do where nothing is said of it, or 0 is
-abbrev pub idle_of : List Row → Option (Option ℕ)
-idle_of rows = option_map (λ turns. if turns == 0 then None else Some turns) (given_or (codes "idle") (number_within 0 1000000) 0 rows)
 
 -- the shelf of serve with its addresses, of so many slots
 unfoldable pub serve_with : ℕ → List Row → Option Serves
@@ -209,6 +205,7 @@ unfoldable pub asked_of : Text → List Row → Option Command
 asked_of name rows =
     if bytes_eq name (codes "get") then option_map Get (get_of rows)
     else if bytes_eq name (codes "put") then option_map Put (put_of rows)
+    else if bytes_eq name (codes "nbd") then option_map Nbd (nbd_of rows)
     else option_map Ask (tool_of name rows)
 
 -- the command of this name
@@ -251,10 +248,30 @@ files_of (Switch asked) rows = []
 files_of (Ask tool) rows = []
 files_of (Get get) rows = []
 files_of (Put put) rows = []
+files_of (Nbd nbd) rows = []
 files_of (Keep action) rows = option_map_or (λ name. name ∷ []) (keep_name rows) []
 
 abbrev pub file_names : List Text → List Text
 file_names words = option_map_or (λ p. files_of p.0 p.1) (spelled words) []
+
+-- the socket at which it listens
+abbrev pub socket_in : Command → List Row → Option Text
+socket_in (Answer answer) rows = None
+socket_in (Serve serve) rows = None
+socket_in (Mirror asked) rows = None
+socket_in (Audit audit) rows = None
+socket_in Replay rows = None
+socket_in (Soak soak) rows = None
+socket_in (Live live) rows = None
+socket_in (Switch asked) rows = None
+socket_in (Ask tool) rows = None
+socket_in (Get get) rows = None
+socket_in (Put put) rows = None
+socket_in (Nbd nbd) rows = socket_path rows
+socket_in (Keep action) rows = None
+
+abbrev pub socket_name : List Text → Option Text
+socket_name words = option_and_then (λ p. socket_in p.0 p.1) (spelled words)
 
 -- the file whose coming ends the run, where one is named
 abbrev pub stop_in : Command → List Row → Option Text
@@ -269,6 +286,7 @@ stop_in (Switch asked) rows = None
 stop_in (Ask tool) rows = None
 stop_in (Get get) rows = None
 stop_in (Put put) rows = None
+stop_in (Nbd nbd) rows = first_of (codes "stop") rows
 stop_in (Keep action) rows = None
 
 abbrev pub stop_name : List Text → Option Text
@@ -287,6 +305,7 @@ is_told_in (Switch asked) rows = false
 is_told_in (Ask tool) rows = false
 is_told_in (Get get) rows = is_set (codes "progress") rows
 is_told_in (Put put) rows = is_set (codes "progress") rows
+is_told_in (Nbd nbd) rows = false
 is_told_in (Keep action) rows = false
 
 abbrev pub is_told : List Text → Bool
@@ -311,6 +330,7 @@ links_of (Switch asked) rows = []
 links_of (Ask tool) rows = one_link rows
 links_of (Get get) rows = one_link rows
 links_of (Put put) rows = one_link rows
+links_of (Nbd nbd) rows = one_link rows
 links_of (Keep action) rows = []
 
 abbrev pub port_words : List Text → List PortWords
@@ -390,6 +410,7 @@ IsInRange (Switch asked) = CanSwitch asked
 IsInRange (Ask tool) = CanRun tool
 IsInRange (Get get) = CanGet get
 IsInRange (Put put) = CanPut put
+IsInRange (Nbd nbd) = CanNbd nbd
 IsInRange (Keep action) = Unit
 
 -- how many files and links a command has
@@ -405,6 +426,7 @@ file_count (Switch asked) = 0
 file_count (Ask tool) = 0
 file_count (Get get) = 0
 file_count (Put put) = 0
+file_count (Nbd nbd) = 0
 file_count (Keep action) = 1
 
 abbrev pub link_count : Command → ℕ
@@ -419,13 +441,32 @@ link_count (Switch asked) = 0
 link_count (Ask tool) = 1
 link_count (Get get) = 1
 link_count (Put put) = 1
+link_count (Nbd nbd) = 1
 link_count (Keep action) = 0
 
--- what holds of a command with what clap found for it: it is possible, and has its files and its links
+-- a command listens at a socket
+abbrev pub listens : Command → Bool
+listens (Answer answer) = false
+listens (Serve serve) = false
+listens (Mirror mirror) = false
+listens (Audit audit) = false
+listens Replay = false
+listens (Soak soak) = false
+listens (Live live) = false
+listens (Switch asked) = false
+listens (Ask tool) = false
+listens (Get get) = false
+listens (Put put) = false
+listens (Nbd nbd) = true
+listens (Keep action) = false
+
+-- what holds of a command with what clap found for it: it is possible, and has its files, its links and its socket
 pub record Fits (rows : List Row) (c : Command) : Type 0 where
   pub range : IsInRange c
   pub files : length (files_of c rows) ≡ file_count c
   pub links : length (links_of c rows) ≡ link_count c
+  pub socket : is_some (socket_in c rows) ≡ listens c
+  pub path : IfSome (socket_in c rows) IsSocketPath
 
 -- ---- words without options
 

@@ -100,15 +100,24 @@ const DURABLE: Argument = ("durable", Flag);
 /// How many turns it waits.
 const TURNS: Argument = ("turns", Optional);
 
+/// How many quiet turns end a run.
+const IDLE: Argument = ("idle", Optional);
+
+/// The file whose coming ends a run.
+const STOP: Argument = ("stop", Optional);
+
 /// How long a frame can be on its way.
 const LIFETIME: Argument = ("lifetime", Optional);
+
+/// Whether the device isn't flushed.
+const NO_FLUSH: Argument = ("no-flush", Flag);
 
 /// Whether it is told how far a copy has come where standard error is no terminal, too.
 const PROGRESS: Argument = ("progress", Flag);
 
 /// All commands. A function that names a `const` is proved with its whole value, and one that names
 /// a `static` isn't.
-pub(crate) static FORMS: [Form; 18] = [
+pub(crate) static FORMS: [Form; 19] = [
     (
         "answer",
         &[SHELF, ("slot", Needed), FILES, PORT, MTU, CACHE, DURABLE],
@@ -130,8 +139,8 @@ pub(crate) static FORMS: [Form; 18] = [
             MTU,
             CACHE,
             ("frames", Optional),
-            ("idle", Optional),
-            ("stop", Optional),
+            IDLE,
+            STOP,
             DURABLE,
         ],
     ),
@@ -216,8 +225,27 @@ pub(crate) static FORMS: [Form; 18] = [
             TURNS,
             LIFETIME,
             ("verify", Flag),
-            ("no-flush", Flag),
+            NO_FLUSH,
             PROGRESS,
+        ],
+    ),
+    (
+        "nbd",
+        &[
+            DEV,
+            ("socket", Optional),
+            LOCAL,
+            PEERS,
+            VXLAN,
+            TAP,
+            PORT,
+            TURNS,
+            LIFETIME,
+            ("read-only", Flag),
+            NO_FLUSH,
+            ("once", Flag),
+            IDLE,
+            STOP,
         ],
     ),
     ("keep", &[KEEP, ACTION, LIST]),

@@ -35,7 +35,7 @@ pub(crate) const FRAMES: Bounds = Bounds {
     most: u32::MAX,
 };
 
-/// How many turns without a frame end `serve`, where 0 says that none do.
+/// How many turns without a frame end `serve`, or without a client `nbd`, where 0 says that none do.
 pub(crate) const IDLE: Bounds = Bounds {
     least: 0,
     most: 1_000_000,
@@ -88,3 +88,7 @@ pub(crate) const LAST_SECTOR: u64 = 0xffff_ffff_ffff;
 
 /// The most sectors that the disk of a captured target has.
 pub(crate) const MOST_CAPTURED_SECTORS: u64 = 1 << 40;
+
+/// The most bytes of the path of a Unix socket: its address has 108, and the last is a zero (unix(7),
+/// "sun_path").
+pub(crate) const MOST_PATH: usize = 107;

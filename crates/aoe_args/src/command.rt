@@ -269,6 +269,30 @@ pub struct Put {
     pub no_flush: bool,
 }
 
+/// What `nbd DEV` asks for: to serve a device as a disk to the clients of a socket.
+#[derive(Clone, Copy, PartialEq, Eq)]
+pub struct Nbd {
+    pub asking: Asking,
+
+    /// The device.
+    pub id: TargetId,
+
+    /// How long after it was sent a frame can still arrive, at the device or here, in milliseconds.
+    pub lifetime: u32,
+
+    /// Whether every write of a client is refused.
+    pub read_only: bool,
+
+    /// Whether clients may flush, and the device is flushed at the end of the run.
+    pub flushes: bool,
+
+    /// Whether the run ends once the first client that asked for the disk has left.
+    pub once: bool,
+
+    /// How many quiet turns without a client, one behind the other, end the run; `None` where none do.
+    pub idle: Option<u32>,
+}
+
 /// What a tool asks the targets of a network for.
 #[derive(Drop, PartialEq, Eq)]
 pub enum Tool {
@@ -297,6 +321,7 @@ pub enum Command {
     Ask(Tool),
     Get(Get),
     Put(Put),
+    Nbd(Nbd),
     Keep(KeepAction),
 }
 
@@ -326,11 +351,16 @@ pub struct CommandLine {
     /// their order; none for the other commands.
     pub files: Vec<String>,
 
-    /// What names the links that the command works on: one for `serve` and for each tool, two for `live`,
-    /// none for the other commands.
+    /// What names the links that the command works on: one for `serve`, `nbd` and each tool, two for
+    /// `live`, none for the other commands.
     pub links: Vec<PortWords>,
 
-    /// The name of the file whose coming ends the run: what `--stop` of `serve` gives, where it stands.
+    /// The path of the Unix socket that clients connect to: what `--socket` of `nbd` gives; none for the
+    /// other commands.
+    pub socket: Option<String>,
+
+    /// The name of the file whose coming ends the run: what `--stop` of `serve` or `nbd` gives, where it
+    /// stands.
     pub stop: Option<String>,
 
     /// Whether it is told how far a copy has come where standard error is no terminal, too: `--progress`

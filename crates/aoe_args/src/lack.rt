@@ -2,7 +2,7 @@
 ghost use Rattle.std.specs.Prelude.{◌≡◌, ◌<◌, ◌≤◌, false, length, map, option_map, string_bytes, true, IfSome, Some};
 ghost use Rattle.std.specs.Str.{bytes_eq};
 ghost use Rattle.aoe_args.specs.Apps.{form as told_form};
-ghost use Rattle.aoe_args.specs.Lacks.{AreExclusive, IsAlone, IsLastPlain, IsUnlinked, action_follower, follower, mirror_follower, most_words, plain_count};
+ghost use Rattle.aoe_args.specs.Lacks.{AreExclusive, IsAlone, IsLastPlain, IsUnlinked, IsUnset, action_follower, follower, mirror_follower, most_words, plain_count};
 ghost use Rattle.aoe_args.specs.Places.{argument_behind, is_given, is_needed, needed_count};
 ghost use Rattle.aoe_args.specs.Slips.{IsSlipIn, IsWrongTogether};
 
@@ -200,6 +200,13 @@ fn is_unlinked(form: Form, words: &[String], local: &str, peers: &str, tap: &str
         && !is_given(words, tap)
 }
 
+/// Whether a command has this option, which isn't given.
+fn is_unset(form: Form, words: &[String], name: &str) -> bool
+    ensures { result ≡ true → IsUnset (told_form form.entry) (map string_bytes words.now) name.now }
+{
+    option_in(form, name.as_bytes()).is_some() && !is_given(words, name)
+}
+
 /// What is wrong with the options of words among which nothing else is.
 pub(crate) fn options_wrong(form: Form, words: &[String]) -> Wrong
     ensures { IsWrongTogether (told_form form.entry) (map string_bytes words.now) result }
@@ -215,6 +222,9 @@ pub(crate) fn options_wrong(form: Form, words: &[String]) -> Wrong
     }
     if is_unlinked(form, words, "one", "two", "one-tap") {
         return Wrong::NoLinks;
+    }
+    if is_unset(form, words, "socket") {
+        return Wrong::NoSocket;
     }
     Wrong::Together
 }

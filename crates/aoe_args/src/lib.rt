@@ -1,8 +1,8 @@
 //! The command line: what its arguments spell, or that they spell nothing.
 //!
 //! [`read_words`] returns the [`CommandLine`] that the arguments spell: the [`Command`], the files and links
-//! that a program has to open for it, in the order in which they are named, the file whose coming ends
-//! the run, and whether the program tells how far it has come.
+//! that a program has to open for it, in the order in which they are named, the socket at which it
+//! listens, the file whose coming ends the run, and whether the program tells how far it has come.
 //!
 //! The first argument is the command. An argument that begins with a hyphen is an option of it,
 //! `--name value` or `--name=value`; options may be anywhere after the command. Which argument
@@ -15,12 +15,13 @@
 //!
 //! Promised: unless memory is short, `read_words` returns the command that the arguments spell by
 //! `command`, and none exactly where they spell none; with it the files (`file_names`), the links
-//! (`port_words`), the stop file (`stop_name`) and `is_told`. Its numbers are in their ranges
-//! (`IsInRange`). `slip_of` returns none exactly for a command; else the argument that it names is
-//! there, and its reason holds of it or of all of them (`IsSlip`): an option is the command's or
-//! isn't (`option_at`), a text isn't what the argument that it goes to has to be (`IsUnfit`), what
-//! is missing is missing (`IsLacking`, `follower`, `IsAlone`, `IsUnlinked`), and two options exclude
-//! each other (`AreExclusive`). Law `plain_words_law` has the four arguments of `answer`.
+//! (`port_words`), the socket (`socket_name`), the stop file (`stop_name`) and `is_told`. Its numbers
+//! are in their ranges (`IsInRange`), and the path of a socket has 1 to 107 bytes (`IsSocketPath`).
+//! `slip_of` returns none exactly for a command; else the argument that it names is there, and its
+//! reason holds of it or of all of them (`IsSlip`): an option is the command's or isn't (`option_at`),
+//! a text isn't what the argument that it goes to has to be (`IsUnfit`), what is missing is missing
+//! (`IsLacking`, `follower`, `IsAlone`, `IsUnlinked`, `IsUnset`), and two options exclude each other
+//! (`AreExclusive`). Law `plain_words_law` has the four arguments of `answer`.
 //!
 //! Only tested: tables of arguments that are a command, and of those that are none, with what is
 //! said of them (`words` of aoe_program_tests, `tests/check`). Which of several slips is named, that
@@ -47,7 +48,7 @@ mod word;
 
 pub use command::{
     Answer, Asking, Audit, Cfg, Command, CommandLine, Discover, Flush, Get, KeepAction, Live, Mask,
-    Mirror, PortKinds, PortWords, Put, Reserve, Serve, Soak, Stat, Switch, Tool,
+    Mirror, Nbd, PortKinds, PortWords, Put, Reserve, Serve, Soak, Stat, Switch, Tool,
 };
 pub use law::plain_words_law;
 pub use nearest::meant;

@@ -1,22 +1,26 @@
 //! What arguments spell.
-ghost use Rattle.std.specs.Prelude.{◌≡◌, ◌≢◌, ◌≤◌, length, false, map, option_map, string_bytes, IfErr, IfOk, IfSome, IsErr, IsOkAnd, IsSome, None, Ok};
+ghost use Rattle.std.specs.Prelude.{◌≡◌, ◌≢◌, ◌≤◌, length, false, is_some, map, option_map, string_bytes, IfErr, IfOk, IfSome, IsErr, IsOkAnd, IsSome, None, Ok};
 ghost use Rattle.std.specs.List.{list_all};
 ghost use Rattle.clap.specs.Values.{kind_of};
 ghost use Rattle.clap.specs.Words.{found_of, rows_of};
-ghost use Rattle.aoe_args.specs.Words.{CanRun, CanServe, Fits, IsFoundIn, IsInRange, answer_of, asked_of, audit_of, command, command_of, file_count, file_names, files_of, holds_back_durably, idle_of, is_durable, is_told, is_told_in, is_word, clear_action, plain_action, keep_name, keep_of, link_count, links_of, list_tool_of, live_of, mirror_of, parsed, port_words, serve_of, serve_with, soak_of, stop_in, stop_name, switch_of, tool_of};
-ghost use Rattle.aoe_args.specs.Values.{link};
+ghost use Rattle.aoe_args.specs.Words.{CanRun, CanServe, Fits, IsFoundIn, IsInRange, answer_of, asked_of, audit_of, command, command_of, file_count, file_names, files_of, holds_back_durably, is_durable, is_told, is_told_in, is_word, clear_action, plain_action, keep_name, keep_of, link_count, links_of, list_tool_of, listens, live_of, mirror_of, parsed, port_words, serve_of, serve_with, soak_of, socket_in, socket_name, stop_in, stop_name, switch_of, tool_of};
+ghost use Rattle.aoe_args.specs.Values.{idle_of, link};
+ghost use Rattle.aoe_args.specs.Tools.{IsSocketPath};
 
 use crate::app::matches;
 use crate::bounds::{
-    CACHE, FRAMES, IDLE, LAST_SEED, LIVE_COMMANDS, LIVE_SECTORS, MOST_CAPTURED_SECTORS, MTU,
+    CACHE, FRAMES, LAST_SEED, LIVE_COMMANDS, LIVE_SECTORS, MOST_CAPTURED_SECTORS, MTU,
     SOAK_COMMANDS, TURNS,
 };
 use crate::link::{all_links, link, two_ends};
 use crate::switch::read_kinds;
-use crate::tools::{cfg_of, discover_of, flush_of, get_of, mask_of, put_of, reserve_of, stat_of};
+use crate::tools::{
+    cfg_of, discover_of, flush_of, get_of, mask_of, nbd_of, put_of, reserve_of, socket_path,
+    stat_of,
+};
 use crate::values::{
-    DEFAULT_PORT, is_set, number, number_from, number_if_given, number_or, port_or_default,
-    ports_or_default, text, texts,
+    DEFAULT_PORT, idle_of, is_set, number, number_from, number_if_given, number_or,
+    port_or_default, ports_or_default, text, texts,
 };
 use crate::word::is_word;
 use crate::{
@@ -42,9 +46,6 @@ const DEFAULT_MTU: u32 = 1500;
 
 /// How many sectors a slot buffers where nothing is said of it.
 const DEFAULT_CACHE: u32 = 0;
-
-/// How many turns without a frame end `serve` where nothing is said of it: none do.
-const DEFAULT_IDLE: u32 = 0;
 
 /// How many turns that end no command end `live` where nothing is said of it.
 const LIVE_TURNS: u32 = 5000;
@@ -135,15 +136,6 @@ fn answer_of(found: &ArgMatches, captures: bool) -> Option<Command>
         captures,
         durable: is_durable(found),
     }))
-}
-
-/// How many turns without a frame end `serve`.
-fn idle_of(found: &ArgMatches) -> Option<Option<u32>>
-    ensures value { result ≡ idle_of (rows_of (found_of found.now)) }
-    ensures bounds { IfSome result (λ idle. IfSome idle (λ n. (1 ≤ n) × (n ≤ 1000000))) }
-{
-    let turns = number_or(found, "idle", IDLE, DEFAULT_IDLE)?;
-    Some(if turns == 0 { None } else { Some(turns) })
 }
 
 /// What the arguments of `serve` ask for, of so many slots.
@@ -342,6 +334,7 @@ fn asked_of(name: &str, found: &ArgMatches) -> Option<Command>
     let command = match name {
         "get" => Command::Get(get_of(found)?),
         "put" => Command::Put(put_of(found)?),
+        "nbd" => Command::Nbd(nbd_of(found)?),
         _ => Command::Ask(tool_of(name, found)?),
     };
     Some(command)
@@ -419,12 +412,37 @@ fn links_of(
             Some((one, two)) => all_links(alloc, &[one, two]),
             None => Ok(Vec::new(alloc)),
         },
-        Command::Serve(_) | Command::Ask(_) | Command::Get(_) | Command::Put(_) => {
+        Command::Serve(_) | Command::Ask(_) | Command::Get(_) | Command::Put(_) | Command::Nbd(_) =>
             match link(found) {
                 Some(link) => all_links(alloc, &[link]),
                 None => Ok(Vec::new(alloc)),
-            }
-        }
+            },
+    }
+}
+
+/// A copy of a text that needn't be there.
+fn copy(alloc: Global, text: Option<&str>) -> Result<Option<String>, NoMemory>
+    ensures { IfOk result (λ copy. option_map string_bytes copy
+        ≡ option_map (λ text. text.now) text.entry) }
+{
+    match text {
+        Some(text) => Ok(Some(String::from_str(alloc, text)?)),
+        None => Ok(None),
+    }
+}
+
+/// The path of the socket at which a command listens.
+fn socket_of(
+    alloc: Global,
+    command: &Command,
+    found: &ArgMatches,
+) -> Result<Option<String>, NoMemory>
+    ensures { IfOk result (λ path. option_map string_bytes path
+        ≡ socket_in command.now (rows_of (found_of found.now))) }
+{
+    match command {
+        Command::Nbd(_) => copy(alloc, socket_path(found)),
+        _ => Ok(None),
     }
 }
 
@@ -433,12 +451,9 @@ fn stop_of(alloc: Global, command: &Command, found: &ArgMatches) -> Result<Optio
     ensures { IfOk result (λ name. option_map string_bytes name
         ≡ stop_in command.now (rows_of (found_of found.now))) }
 {
-    let Command::Serve(_) = command else {
-        return Ok(None);
-    };
-    match text(found, "stop") {
-        Some(name) => Ok(Some(String::from_str(alloc, name)?)),
-        None => Ok(None),
+    match command {
+        Command::Serve(_) | Command::Nbd(_) => copy(alloc, text(found, "stop")),
+        _ => Ok(None),
     }
 }
 
@@ -466,6 +481,12 @@ pub fn read_words(alloc: Global, words: &[String]) -> Result<Option<CommandLine>
         ≡ port_words (map string_bytes words.now))) }
     ensures link_count { IfOk result (λ r. IfSome r (λ line. length line.links.items
         ≡ link_count line.command)) }
+    ensures socket { IfOk result (λ r. IfSome r (λ line. option_map string_bytes line.socket
+        ≡ socket_name (map string_bytes words.now))) }
+    ensures listens { IfOk result (λ r. IfSome r (λ line. is_some line.socket
+        ≡ listens line.command)) }
+    ensures path { IfOk result (λ r. IfSome r (λ line. IfSome line.socket
+        (λ path. IsSocketPath (string_bytes path)))) }
     ensures stop { IfOk result (λ r. IfSome r (λ line. option_map string_bytes line.stop
         ≡ stop_name (map string_bytes words.now))) }
     ensures told { IfOk result (λ r. IfSome r (λ line. line.is_told
@@ -481,6 +502,7 @@ pub fn read_words(alloc: Global, words: &[String]) -> Result<Option<CommandLine>
     Ok(Some(CommandLine {
         files: files_of(alloc, &command, &found)?,
         links: links_of(alloc, &command, &found)?,
+        socket: socket_of(alloc, &command, &found)?,
         stop: stop_of(alloc, &command, &found)?,
         is_told: is_told_in(&command, &found),
         command,

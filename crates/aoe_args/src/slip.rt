@@ -19,6 +19,7 @@ use crate::lists::read_dir;
 use crate::ports::{read_port, read_ports};
 use crate::read_words;
 use crate::switch::read_kind;
+use crate::tools::is_socket_path;
 use crate::word::{LONGEST_WORD, attached, is_value, option_name};
 use aoe_base::{LAST_MAJOR, LAST_MINOR, NoMemory, read_device, read_mac, read_number};
 use std::alloc::Global;
@@ -73,6 +74,9 @@ pub enum Wanted {
 
     #[error("one of config, masks, reserves")]
     List,
+
+    #[error("the path of a socket, of 107 bytes at most")]
+    Socket,
 }
 
 /// What is wrong with a word, or with all of them. Arguments have the names that clap has them by.
@@ -142,6 +146,9 @@ pub enum Wrong {
     #[error("--one and --two, or --one-tap and --two-tap, are missing")]
     NoLinks,
 
+    #[error("--socket is missing")]
+    NoSocket,
+
     #[error("these words don't go together")]
     Together,
 }
@@ -174,6 +181,7 @@ pub(crate) fn title<'a>(name: &&'a str) -> &'a str {
         "peers" => "--peers",
         "vxlan" => "--vxlan",
         "tap" => "--tap",
+        "socket" => "--socket",
         "one" => "--one",
         "two" => "--two",
         "one-tap" => "--one-tap",
@@ -313,6 +321,7 @@ fn wanted_by(command: &str, name: &str) -> Option<Wanted>
         "macs" => Some(Wanted::Address),
         "action" => Some(Wanted::Action(actions_of(command))),
         "list" => Some(Wanted::List),
+        "socket" => Some(Wanted::Socket),
         _ => number_wanted(command, name),
     }
 }
@@ -343,6 +352,7 @@ fn fits(wanted: Wanted, text: &[u8]) -> bool
         Wanted::Address => read_mac(text).is_some(),
         Wanted::Action(actions) => is_action(actions, text),
         Wanted::List => is_list(text),
+        Wanted::Socket => is_socket_path(text),
     }
 }
 

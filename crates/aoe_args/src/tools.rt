@@ -1,40 +1,44 @@
 //! What the arguments of the tools spell.
-ghost use Rattle.std.specs.Prelude.{◌≡◌, ◌≤◌, ◌<◌, ◌^◌, option_map, IfSome, IsSome};
+ghost use Rattle.std.specs.Prelude.{◌≡◌, ◌≤◌, ◌<◌, ◌^◌, option_map, true, IfSome, IsSome};
 ghost use Rattle.clap.specs.Words.{found_of, rows_of};
+ghost use Rattle.aoe_base.specs.Addresses.{is_individual};
 ghost use Rattle.aoe_base.specs.Sizes.{longest_lifetime};
-ghost use Rattle.aoe_args.specs.Tools.{CanAsk, CanGet, CanPut, IsDevice, asking_of, ccmd_alone, ccmd_with_text, cfg_of, device, discover_of, first_sector, flush_of, get_of, lifetime_of, mask_of, put_of, rcmd_alone, rcmd_with_list, reserve_of, sector, sector_count, stat_of};
+ghost use Rattle.aoe_args.specs.Tools.{CanAsk, CanGet, CanNbd, CanPut, IsDevice, IsSocketPath, asking_of, ccmd_alone, ccmd_with_text, cfg_of, device, discover_of, first_sector, flush_of, get_of, is_socket_path, lifetime_of, mask_of, nbd_of, put_of, rcmd_alone, rcmd_with_list, reserve_of, sector, sector_count, socket_path, stat_of};
 ghost use Rattle.aoe_args.specs.Values.{link};
 ghost use Rattle.aoe_args.specs.Words.{CanRun};
 
-use crate::bounds::{LAST_SECTOR, LIFETIME, MOST_GET_SECTORS, TURNS};
+use crate::bounds::{LAST_SECTOR, LIFETIME, MOST_GET_SECTORS, MOST_PATH, TURNS};
 use crate::link::link;
 use crate::lists::{read_dirs, read_macs, read_text};
-use crate::values::{TOOL_PORT, is_set, number, number_or, port_or_default, text, texts};
-use crate::{Asking, Cfg, Discover, Flush, Get, Mask, Put, Reserve, Stat, Tool};
-use aoe_base::{TargetId, device_law, read_device, read_number};
+use crate::values::{
+    NBD_PORT, TOOL_PORT, idle_of, is_set, number, number_or, port_or_default, text, texts,
+};
+use crate::{Asking, Cfg, Discover, Flush, Get, Mask, Nbd, Put, Reserve, Stat, Tool};
+use aoe_base::{Mac, TargetId, device_law, read_device, read_number};
 use arrayvec::ArrayVec;
 use clap::ArgMatches;
 
 /// How many turns a tool listens where nothing is said of it.
 const TOOL_TURNS: u32 = 50;
 
-/// How many turns `flush`, `get` and `put` listen where nothing is said of it.
+/// How many turns `flush`, `get`, `put` and `nbd` listen where nothing is said of it.
 const SECTOR_TURNS: u32 = 5000;
 
 /// How long after it was sent a frame can still arrive where nothing is said of it, in milliseconds.
 const DEFAULT_LIFETIME: u32 = 2000;
 
-/// Who asks, where the link is named; `turns` is how long where nothing is said of it.
+/// Who asks, where the link is named; `port` asks for `turns` where nothing is said of it.
 #[tactic(auto, unfolding(crate::specs::Tools::asking_of))]
-fn asking_of(found: &ArgMatches, turns: u32) -> Option<Asking>
-    requires { (1 ≤ turns) × (turns ≤ 1000000) }
-    ensures value { result ≡ asking_of turns (rows_of (found_of found.now)) }
+fn asking_of(found: &ArgMatches, port: Mac, turns: u32) -> Option<Asking>
+    requires port { is_individual port ≡ true }
+    requires turns { (1 ≤ turns) × (turns ≤ 1000000) }
+    ensures value { result ≡ asking_of port turns (rows_of (found_of found.now)) }
     ensures range { IfSome result CanAsk }
     ensures link { IfSome result (λ asking. IsSome (link (rows_of (found_of found.now)))) }
 {
     let _link = link(found)?;
     Some(Asking {
-        port: port_or_default(found, "port", TOOL_PORT)?,
+        port: port_or_default(found, "port", port)?,
         turns: number_or(found, "turns", TURNS, turns)?,
     })
 }
@@ -56,7 +60,7 @@ pub(crate) fn discover_of(found: &ArgMatches) -> Option<Tool>
     ensures link { IfSome result (λ tool. IsSome (link (rows_of (found_of found.now)))) }
 {
     Some(Tool::Discover(Discover {
-        asking: asking_of(found, TOOL_TURNS)?,
+        asking: asking_of(found, TOOL_PORT, TOOL_TURNS)?,
         long: is_set(found, "long"),
     }))
 }
@@ -69,7 +73,7 @@ pub(crate) fn stat_of(found: &ArgMatches) -> Option<Tool>
     ensures link { IfSome result (λ tool. IsSome (link (rows_of (found_of found.now)))) }
 {
     Some(Tool::Stat(Stat {
-        asking: asking_of(found, TOOL_TURNS)?,
+        asking: asking_of(found, TOOL_PORT, TOOL_TURNS)?,
         sectors: is_set(found, "sectors"),
     }))
 }
@@ -107,7 +111,7 @@ pub(crate) fn cfg_of(found: &ArgMatches) -> Option<Tool>
     ensures range { IfSome result CanRun }
     ensures link { IfSome result (λ tool. IsSome (link (rows_of (found_of found.now)))) }
 {
-    let asking = asking_of(found, TOOL_TURNS)?;
+    let asking = asking_of(found, TOOL_PORT, TOOL_TURNS)?;
     let id = device_of(found)?;
     let action = text(found, "action")?;
     let (ccmd, text) = match text(found, "text") {
@@ -129,7 +133,7 @@ pub(crate) fn mask_of(found: &ArgMatches) -> Option<Tool>
     ensures range { IfSome result CanRun }
     ensures link { IfSome result (λ tool. IsSome (link (rows_of (found_of found.now)))) }
 {
-    let asking = asking_of(found, TOOL_TURNS)?;
+    let asking = asking_of(found, TOOL_PORT, TOOL_TURNS)?;
     let id = device_of(found)?;
     let action = text(found, "action")?;
     let dirs = match texts(found, "dirs") {
@@ -171,7 +175,7 @@ pub(crate) fn reserve_of(found: &ArgMatches) -> Option<Tool>
     ensures range { IfSome result CanRun }
     ensures link { IfSome result (λ tool. IsSome (link (rows_of (found_of found.now)))) }
 {
-    let asking = asking_of(found, TOOL_TURNS)?;
+    let asking = asking_of(found, TOOL_PORT, TOOL_TURNS)?;
     let id = device_of(found)?;
     let action = text(found, "action")?;
     let (rcmd, list) = match texts(found, "macs") {
@@ -202,7 +206,7 @@ pub(crate) fn flush_of(found: &ArgMatches) -> Option<Tool>
     ensures link { IfSome result (λ tool. IsSome (link (rows_of (found_of found.now)))) }
 {
     Some(Tool::Flush(Flush {
-        asking: asking_of(found, SECTOR_TURNS)?,
+        asking: asking_of(found, TOOL_PORT, SECTOR_TURNS)?,
         id: device_of(found)?,
         lifetime: lifetime_of(found)?,
     }))
@@ -250,7 +254,7 @@ pub(crate) fn get_of(found: &ArgMatches) -> Option<Get>
     ensures link { IfSome result (λ get. IsSome (link (rows_of (found_of found.now)))) }
 {
     Some(Get {
-        asking: asking_of(found, SECTOR_TURNS)?,
+        asking: asking_of(found, TOOL_PORT, SECTOR_TURNS)?,
         id: device_of(found)?,
         at: first_sector(found)?,
         count: sector_count(found)?,
@@ -266,11 +270,51 @@ pub(crate) fn put_of(found: &ArgMatches) -> Option<Put>
     ensures link { IfSome result (λ put. IsSome (link (rows_of (found_of found.now)))) }
 {
     Some(Put {
-        asking: asking_of(found, SECTOR_TURNS)?,
+        asking: asking_of(found, TOOL_PORT, SECTOR_TURNS)?,
         id: device_of(found)?,
         at: sector(found)?,
         lifetime: lifetime_of(found)?,
         verify: is_set(found, "verify"),
         no_flush: is_set(found, "no-flush"),
+    })
+}
+
+/// Whether a text can be the path of a Unix socket.
+pub(crate) fn is_socket_path(text: &[u8]) -> bool
+    ensures { result ≡ is_socket_path text.now }
+{
+    !text.is_empty() && text.len() <= MOST_PATH
+}
+
+/// The path of a Unix socket.
+pub(crate) fn socket_path<'a>(found: &ArgMatches<'a>) -> Option<&'a str>
+    ensures value { option_map (λ path. path.now) result ≡ socket_path (rows_of (found_of found.now)) }
+    ensures path { IfSome result (λ path. IsSocketPath path.now) }
+{
+    let path = text(found, "socket")?;
+    if is_socket_path(path.as_bytes()) {
+        Some(path)
+    } else {
+        None
+    }
+}
+
+/// What the arguments of `nbd` ask for.
+#[tactic(auto, unfolding(crate::specs::Tools::nbd_of))]
+pub(crate) fn nbd_of(found: &ArgMatches) -> Option<Nbd>
+    ensures value { result ≡ nbd_of (rows_of (found_of found.now)) }
+    ensures range { IfSome result CanNbd }
+    ensures link { IfSome result (λ nbd. IsSome (link (rows_of (found_of found.now)))) }
+    ensures socket { IfSome result (λ nbd. IsSome (socket_path (rows_of (found_of found.now)))) }
+{
+    let _path = socket_path(found)?;
+    Some(Nbd {
+        asking: asking_of(found, NBD_PORT, SECTOR_TURNS)?,
+        id: device_of(found)?,
+        lifetime: lifetime_of(found)?,
+        read_only: is_set(found, "read-only"),
+        flushes: !is_set(found, "no-flush"),
+        once: is_set(found, "once"),
+        idle: idle_of(found)?,
     })
 }

@@ -3,10 +3,10 @@ ghost use Rattle.std.specs.Prelude.{◌≡◌, ◌≤◌, [], ◌∷◌, map, op
 ghost use Rattle.clap.specs.Words.{all_of, first_of, found_of, rows_of};
 ghost use Rattle.aoe_base.specs.Decimal.{number_of};
 ghost use Rattle.aoe_base.specs.Addresses.{is_individual};
-ghost use Rattle.aoe_args.specs.Values.{default_port, given, given_or, is_set, number_within, port_of, ports_of};
+ghost use Rattle.aoe_args.specs.Values.{default_port, given, given_or, idle_of, is_set, number_within, port_of, ports_of};
 ghost use Rattle.aoe_args.specs.Words.{ArePorts};
 
-use crate::bounds::Bounds;
+use crate::bounds::{Bounds, IDLE};
 use crate::ports::{read_port, read_ports};
 use aoe_base::{Mac, Ports, read_number};
 use clap::ArgMatches;
@@ -16,6 +16,13 @@ pub(crate) const DEFAULT_PORT: Mac = Mac([2, 0, 0, 0, 0, 1]);
 
 /// The address of a tool's port where none is given.
 pub(crate) const TOOL_PORT: Mac = Mac([2, 0, 0, 0, 0, 10]);
+
+/// The address of the port of `nbd` where none is given. The commands of each run have tags from 1 on,
+/// so a tool that asked the same device from the same port could take an answer to the one for its own.
+pub(crate) const NBD_PORT: Mac = Mac([2, 0, 0, 0, 0, 11]);
+
+/// How many quiet turns end a run where nothing is said of it: none do.
+const DEFAULT_IDLE: u32 = 0;
 
 /// The text of a word or an option.
 pub(crate) fn text<'a>(found: &ArgMatches<'a>, id: &str) -> Option<&'a str>
@@ -90,6 +97,15 @@ pub(crate) fn number_if_given(found: &ArgMatches, id: &str, bounds: Bounds) -> O
         Some(text) => Some(Some(number_within(text.as_bytes(), bounds)?)),
         None => Some(None),
     }
+}
+
+/// How many quiet turns end a run.
+pub(crate) fn idle_of(found: &ArgMatches) -> Option<Option<u32>>
+    ensures value { result ≡ idle_of (rows_of (found_of found.now)) }
+    ensures bounds { IfSome result (λ idle. IfSome idle (λ n. (1 ≤ n) × (n ≤ 1000000))) }
+{
+    let turns = number_or(found, "idle", IDLE, DEFAULT_IDLE)?;
+    Some(if turns == 0 { None } else { Some(turns) })
 }
 
 /// Whether an option without a value is given.
