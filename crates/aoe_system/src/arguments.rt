@@ -10,7 +10,7 @@ const ENDS: [(&str, &str); 2] = [("--local", "AOE_LOCAL"), ("--peers", "AOE_PEER
 fn has_link(name: &str) -> bool {
     matches!(
         name,
-        "serve" | "discover" | "stat" | "cfg" | "mask" | "reserve" | "flush" | "get" | "put"
+        "serve" | "nbd" | "discover" | "stat" | "cfg" | "mask" | "reserve" | "flush" | "get" | "put"
     )
 }
 

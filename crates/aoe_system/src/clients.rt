@@ -5,6 +5,7 @@ ghost use Rattle.aoe_base.specs.Faults.{Rose};
 ghost use Rattle.aoe_clients.specs.Clients.{IfBytes, stays};
 
 use crate::bell::{CLIENT, LISTENER, PollBell, enter};
+use crate::log::ClientLog;
 use crate::streams::{read_through, write_through};
 use aoe_base::Failed;
 use aoe_clients::{Clients, Moved};
@@ -167,14 +168,36 @@ fn next_of(listener: &UnixListener, registry: &Registry) -> io::Result<Option<Cl
     Ok(None)
 }
 
+/// A socket that is listened at.
+#[derive(Drop)]
+struct Socket {
+    listener: UnixListener,
+    registry: Registry,
+    file: SocketFile,
+}
+
+impl Socket {
+    fn listen(rt: &HostRuntime, name: String, bell: &PollBell) -> Result<Socket, SocketRefusal> {
+        let listener = listen(rt, name.as_str())?;
+        let file = SocketFile::new(rt, name)?;
+        listener.set_nonblocking(true)?;
+        let registry = bell.registry()?;
+        enter(&registry, listener.as_raw_fd(), LISTENER)?;
+        Ok(Socket {
+            listener,
+            registry,
+            file,
+        })
+    }
+}
+
 /// The clients of a Unix socket, one after another. The others wait in the system's queue.
 #[derive(Drop)]
 pub struct UnixClients {
-    listener: UnixListener,
-    registry: Registry,
+    socket: Option<Socket>,
     client: Option<Client>,
     faults: u64,
-    file: SocketFile,
+    log: Option<ClientLog>,
 }
 
 impl UnixClients {
@@ -185,21 +208,65 @@ impl UnixClients {
         name: String,
         bell: &PollBell,
     ) -> Result<UnixClients, SocketRefusal>
-        ensures faults { IfOk result (λ clients. clients.faults ≡ 0) }
-        ensures nobody { IfOk result (λ clients. is_some clients.client ≡ false) }
+        ensures faults { IfOk result (λ clients. ⟦<UnixClients as Clients>⟧.faults clients ≡ 0) }
+        ensures nobody { IfOk result
+            (λ clients. ⟦<UnixClients as Clients>⟧.connected clients ≡ false) }
     {
-        let listener = listen(rt, name.as_str())?;
-        let file = SocketFile::new(rt, name)?;
-        listener.set_nonblocking(true)?;
-        let registry = bell.registry()?;
-        enter(&registry, listener.as_raw_fd(), LISTENER)?;
+        let socket = Socket::listen(rt, name, bell)?;
         Ok(UnixClients {
-            listener,
-            registry,
+            socket: Some(socket),
             client: None,
             faults: 0,
-            file,
+            log: None,
         })
+    }
+
+    /// Of no socket: nobody ever comes.
+    pub fn nobody() -> UnixClients
+        ensures faults { ⟦<UnixClients as Clients>⟧.faults result ≡ 0 }
+        ensures nobody { ⟦<UnixClients as Clients>⟧.connected result ≡ false }
+    {
+        UnixClients {
+            socket: None,
+            client: None,
+            faults: 0,
+            log: None,
+        }
+    }
+
+    /// From now on each client that comes and goes is said.
+    pub fn log_to(&mut self, log: ClientLog)
+        ensures faults { ⟦<UnixClients as Clients>⟧.faults self.new
+            ≡ ⟦<UnixClients as Clients>⟧.faults self.old }
+        ensures connected { ⟦<UnixClients as Clients>⟧.connected self.new
+            ≡ ⟦<UnixClients as Clients>⟧.connected self.old }
+    {
+        self.log = Some(log);
+    }
+
+    /// Says how many clients came, where there is a log.
+    pub fn tell_end(&self) {
+        if let Some(log) = &self.log {
+            log.tell_end();
+        }
+    }
+
+    /// The client goes on being there.
+    fn keep(&mut self, mut client: Client, wants_room: bool)
+        ensures faults { self.new.faults ≡ self.old.faults }
+        ensures connected { is_some self.new.client ≡ true }
+    {
+        if let Some(socket) = &self.socket {
+            client.want_room(&socket.registry, wants_room);
+        }
+        self.client = Some(client);
+    }
+
+    /// Says that the client is there no more, where there is a log.
+    fn tell_gone(&self, how: &str) {
+        if let Some(log) = &self.log {
+            log.tell(how);
+        }
     }
 }
 
@@ -217,9 +284,15 @@ impl Clients for UnixClients {
     }
 
     fn accept(&mut self) -> Result<bool, Failed> {
-        match next_of(&self.listener, &self.registry) {
+        let Some(socket) = &self.socket else {
+            return Ok(false);
+        };
+        match next_of(&socket.listener, &socket.registry) {
             Ok(Some(client)) => {
                 self.client = Some(client);
+                if let Some(log) = &mut self.log {
+                    log.came();
+                }
                 Ok(true)
             }
             Ok(None) => Ok(false),
@@ -234,16 +307,20 @@ impl Clients for UnixClients {
         let Some(mut client) = self.client.take() else {
             return Moved::Left;
         };
+        let wants_room = client.wants_room;
         match moved_of(read_through(&mut client.stream, out)) {
             Moved::Bytes(count) => {
-                self.client = Some(client);
+                self.keep(client, wants_room);
                 Moved::Bytes(count)
             }
             Moved::Nothing => {
-                self.client = Some(client);
+                self.keep(client, wants_room);
                 Moved::Nothing
             }
-            Moved::Left => Moved::Left,
+            Moved::Left => {
+                self.tell_gone("left");
+                Moved::Left
+            }
         }
     }
 
@@ -253,20 +330,22 @@ impl Clients for UnixClients {
         };
         match moved_of(write_through(&mut client.stream, piece)) {
             Moved::Bytes(count) => {
-                client.want_room(&self.registry, false);
-                self.client = Some(client);
+                self.keep(client, false);
                 Moved::Bytes(count)
             }
             Moved::Nothing => {
-                client.want_room(&self.registry, true);
-                self.client = Some(client);
+                self.keep(client, true);
                 Moved::Nothing
             }
-            Moved::Left => Moved::Left,
+            Moved::Left => {
+                self.tell_gone("left");
+                Moved::Left
+            }
         }
     }
 
     fn close(&mut self) {
         self.client = None;
+        self.tell_gone("was closed");
     }
 }

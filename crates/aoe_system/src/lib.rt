@@ -11,10 +11,10 @@
 //! a file is refused as a keep. [`UnixClients`] counts a failed listener alone as a fault, and a
 //! client that left is there no more.
 //!
-//! Only tested, by `tests/adapters`, `tests/wire`, `tests/datagrams` and `tests/tools`: what a
-//! file, a socket, a stream and the clock do, what the environment adds to the arguments, that a
-//! call that did a part is gone on with, that a file ends a link, and the texts on standard error.
-//! Clients of a Unix socket and waits by a poll are only tried by hand: no command uses them yet.
+//! Only tested, by `tests/adapters`, `tests/wire`, `tests/datagrams`, `tests/tools` and `tests/nbd`:
+//! what a file, a socket, its clients, a stream and the clock do, what the environment adds to the
+//! arguments, that a call that did a part is gone on with, that a file ends a link, that a medium
+//! leaves the waiting to a bell, and the texts on standard error.
 #![tactic(auto)]
 
 mod arguments;
@@ -30,12 +30,12 @@ mod until;
 mod wire;
 
 pub use arguments::{variable_of, words};
-pub use bell::PollBell;
+pub use bell::{PollBell, Waiter};
 pub use clients::{SocketRefusal, UnixClients};
 pub use clock::SystemClock;
 pub use files::{FileDisk, FileRefusal, KeepDoubt};
 pub use flow::{Flow, input_sectors};
-pub use log::{FileLog, say};
+pub use log::{ClientLog, FileLog, say};
 pub use streams::{Input, Output};
-pub use until::Until;
-pub use wire::Wire;
+pub use until::{StopFile, Until};
+pub use wire::{Carrier, Wire};

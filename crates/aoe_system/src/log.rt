@@ -35,3 +35,39 @@ impl FileLog {
         }
     }
 }
+
+/// Says which clients come and go.
+#[derive(Drop)]
+pub struct ClientLog {
+    rt: HostRuntime,
+    came: u64,
+}
+
+impl ClientLog {
+    /// Before the first client.
+    pub fn new(rt: &HostRuntime) -> ClientLog {
+        ClientLog { rt: *rt, came: 0 }
+    }
+
+    /// The next client came.
+    pub(crate) fn came(&mut self) {
+        self.came = self.came.saturating_add(1);
+        self.tell("came");
+    }
+
+    /// Says how many clients came.
+    pub(crate) fn tell_end(&self) {
+        let came = self.came;
+        if let Ok(text) = format!(in self.rt.alloc(); "aoe: {came} clients were served\n") {
+            say(&self.rt, text.as_bytes());
+        }
+    }
+
+    /// Says what became of the client that came last.
+    pub(crate) fn tell(&self, what: &str) {
+        let number = self.came;
+        if let Ok(text) = format!(in self.rt.alloc(); "aoe: client {number} {what}\n") {
+            say(&self.rt, text.as_bytes());
+        }
+    }
+}

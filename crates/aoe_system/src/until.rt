@@ -1,4 +1,4 @@
-//! A link that ends once a file is there. It tells nothing of what it gives and takes.
+//! A file that ends a run, and a link that ends once it is there. It tells nothing of what it gives and takes.
 ghost use Rattle.std.specs.Prelude.{None};
 
 use crate::flow::Flow;
@@ -10,14 +10,34 @@ use std::fs;
 /// How many frames come at most before the file is looked for again.
 const FRAMES: u32 = 1000;
 
+/// A file whose coming ends a run, where there is a name for one.
+#[derive(Drop)]
+pub struct StopFile {
+    rt: HostRuntime,
+    name: Option<String>,
+}
+
+impl StopFile {
+    pub fn new(rt: &HostRuntime, name: Option<String>) -> StopFile {
+        StopFile { rt: *rt, name }
+    }
+
+    /// Whether the file is there. Where that can't be found out, it isn't.
+    pub fn is_there(&self) -> bool {
+        match &self.name {
+            Some(name) => fs::exists(&self.rt, name.as_str()).unwrap_or(false),
+            None => false,
+        }
+    }
+}
+
 /// A link that has ended once a file of this name is there, whatever still comes on it; where there is
 /// no name, the link itself. The file is looked for before the first turn, behind each turn that brought
 /// no frame, and behind so many frames. A turn that brought none is told.
 #[derive(Drop)]
 pub struct Until<'a, L: Link> {
-    rt: HostRuntime,
     link: L,
-    stop: Option<String>,
+    stop: StopFile,
     flow: &'a Flow,
     before_look: u32,
     turns: u64,
@@ -28,9 +48,8 @@ pub struct Until<'a, L: Link> {
 impl<'a, L: Link> Until<'a, L> {
     pub fn new(rt: &HostRuntime, link: L, stop: Option<String>, flow: &'a Flow) -> Until<'a, L> {
         Until {
-            rt: *rt,
             link,
-            stop,
+            stop: StopFile::new(rt, stop),
             flow,
             before_look: 0,
             turns: 0,
@@ -53,14 +72,6 @@ impl<'a, L: Link> Until<'a, L> {
     pub fn sent(&self) -> u64 {
         self.sent
     }
-
-    /// Whether the file is there. Where that can't be found out, it isn't.
-    fn is_stopped(&self) -> bool {
-        match &self.stop {
-            Some(name) => fs::exists(&self.rt, name.as_str()).unwrap_or(false),
-            None => false,
-        }
-    }
 }
 
 impl<L: Link> Link for Until<'_, L> {
@@ -80,7 +91,7 @@ impl<L: Link> Link for Until<'_, L> {
     }
 
     fn recv(&mut self, out: &mut Frame) -> Result<Got, Failed> {
-        if self.before_look == 0 && self.is_stopped() {
+        if self.before_look == 0 && self.stop.is_there() {
             self.turns = self.turns.saturating_add(1);
             return Ok(Got::Ended);
         }

@@ -1,6 +1,7 @@
 //! What carries the frames of a link: UDP datagrams or a tap file. It tells nothing of content.
 ghost use Rattle.std.specs.Prelude.{◌≡◌, None};
 
+use crate::bell::Waiter;
 use aoe_frame::Frame;
 use aoe_tap::TapMedium;
 use aoe_udp::UdpMedium;
@@ -8,27 +9,26 @@ use aoe_wire::{Given, Medium, Taken};
 use std::io;
 use std::os::fd::{AsRawFd, RawFd};
 
-/// What carries the frames of a link.
+/// A socket or a tap file.
 #[derive(Drop)]
-pub enum Wire {
+pub enum Carrier {
     Udp(UdpMedium),
     Tap(TapMedium),
 }
 
-impl Wire {
-    /// How many frames of AoE were dropped because something of them is left to another.
-    pub fn offloaded(&self) -> u64 {
-        match self {
-            Wire::Udp(_) => 0,
-            Wire::Tap(tap) => tap.offloaded(),
-        }
-    }
+/// What carries the frames of a link. A call that takes one waits for it until a bell does that.
+#[derive(Drop)]
+pub struct Wire<'a> {
+    carrier: Carrier,
+    waiter: &'a Waiter,
+    waits: bool,
+}
 
-    /// From now on a call that takes a frame waits for nothing.
-    pub fn make_nonblocking(&mut self) -> io::Result<()> {
+impl Carrier {
+    fn make_nonblocking(&mut self) -> io::Result<()> {
         match self {
-            Wire::Udp(udp) => udp.make_nonblocking(),
-            Wire::Tap(tap) => {
+            Carrier::Udp(udp) => udp.make_nonblocking(),
+            Carrier::Tap(tap) => {
                 tap.make_nonblocking();
                 Ok(())
             }
@@ -36,31 +36,61 @@ impl Wire {
     }
 }
 
-impl AsRawFd for Wire {
+impl<'a> Wire<'a> {
+    pub fn new(carrier: Carrier, waiter: &'a Waiter) -> Wire<'a> {
+        Wire {
+            carrier,
+            waiter,
+            waits: true,
+        }
+    }
+
+    /// How many frames of AoE were dropped because something of them is left to another.
+    pub fn offloaded(&self) -> u64 {
+        match &self.carrier {
+            Carrier::Udp(_) => 0,
+            Carrier::Tap(tap) => tap.offloaded(),
+        }
+    }
+
+    /// Leaves the waiting to a bell, where one waits.
+    fn yield_to_bell(&mut self) -> io::Result<()> {
+        if self.waits && self.waiter.is_bell() {
+            self.carrier.make_nonblocking()?;
+            self.waits = false;
+        }
+        Ok(())
+    }
+}
+
+impl AsRawFd for Wire<'_> {
     fn as_raw_fd(&self) -> RawFd {
-        match self {
-            Wire::Udp(udp) => udp.as_raw_fd(),
-            Wire::Tap(tap) => tap.as_raw_fd(),
+        match &self.carrier {
+            Carrier::Udp(udp) => udp.as_raw_fd(),
+            Carrier::Tap(tap) => tap.as_raw_fd(),
         }
     }
 }
 
-impl Medium for Wire {
+impl Medium for Wire<'_> {
     ghost takings = { λ _. None };
 
     ghost givings = { λ _. None };
 
     fn take(&mut self, out: &mut Frame) -> Taken {
-        match self {
-            Wire::Udp(udp) => udp.take(out),
-            Wire::Tap(tap) => tap.take(out),
+        if self.yield_to_bell().is_err() {
+            return Taken::Fault;
+        }
+        match &mut self.carrier {
+            Carrier::Udp(udp) => udp.take(out),
+            Carrier::Tap(tap) => tap.take(out),
         }
     }
 
     fn give(&mut self, peer: usize, frame: &[u8]) -> Given {
-        match self {
-            Wire::Udp(udp) => udp.give(peer, frame),
-            Wire::Tap(tap) => tap.give(peer, frame),
+        match &mut self.carrier {
+            Carrier::Udp(udp) => udp.give(peer, frame),
+            Carrier::Tap(tap) => tap.give(peer, frame),
         }
     }
 }
