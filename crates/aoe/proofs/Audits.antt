@@ -43,23 +43,23 @@ alone-unrefused (refusal.BadKeep slot) = refl
 
 -- the statuses of other commands, and those of a keep that was refused
 abbrev IsOther : Status → Type 0
-IsOther s = ((link : ℕ) → s ≢ status.LinkFault link) × (s ≢ status.Usage)
+IsOther s = ((link : ℕ) → s ≢ status.LinkFault link) × (s ≢ status.Usage) × (s ≢ status.ClientFault)
 
 pub audited-other : (r : Ended) → IsOther (audited_as r)
-audited-other (Ok done) = (λ link e. cc, λ e. cc)
-audited-other (Err stop.SourceFault) = (λ link e. cc, λ e. cc)
-audited-other (Err stop.SinkFault) = (λ link e. cc, λ e. cc)
-audited-other (Err stop.NoMemory) = (λ link e. cc, λ e. cc)
-audited-other (Err stop.BadHeader) = (λ link e. cc, λ e. cc)
-audited-other (Err (stop.BadRecord number)) = (λ link e. cc, λ e. cc)
-audited-other (Err stop.Records) = (λ link e. cc, λ e. cc)
-audited-other (Err stop.CaptureBytes) = (λ link e. cc, λ e. cc)
-audited-other (Err (stop.Finding number kind)) = (λ link e. cc, λ e. cc)
+audited-other (Ok done) = (λ link e. cc, λ e. cc, λ e. cc)
+audited-other (Err stop.SourceFault) = (λ link e. cc, λ e. cc, λ e. cc)
+audited-other (Err stop.SinkFault) = (λ link e. cc, λ e. cc, λ e. cc)
+audited-other (Err stop.NoMemory) = (λ link e. cc, λ e. cc, λ e. cc)
+audited-other (Err stop.BadHeader) = (λ link e. cc, λ e. cc, λ e. cc)
+audited-other (Err (stop.BadRecord number)) = (λ link e. cc, λ e. cc, λ e. cc)
+audited-other (Err stop.Records) = (λ link e. cc, λ e. cc, λ e. cc)
+audited-other (Err stop.CaptureBytes) = (λ link e. cc, λ e. cc, λ e. cc)
+audited-other (Err (stop.Finding number kind)) = (λ link e. cc, λ e. cc, λ e. cc)
 
 pub alone-other : (r : MountRefusal) → IsOther (refused_alone r)
-alone-other refusal.Failed = (λ link e. cc, λ e. cc)
-alone-other (refusal.TooSmall sectors) = (λ link e. cc, λ e. cc)
-alone-other (refusal.BadKeep slot) = (λ link e. cc, λ e. cc)
+alone-other refusal.Failed = (λ link e. cc, λ e. cc, λ e. cc)
+alone-other (refusal.TooSmall sectors) = (λ link e. cc, λ e. cc, λ e. cc)
+alone-other (refusal.BadKeep slot) = (λ link e. cc, λ e. cc, λ e. cc)
 
 abbrev IsNotOfKeep : Status → Type 0
 IsNotOfKeep s = ((sectors : ℕ) → s ≢ status.KeepSmall 0 sectors) × ((slot : ℕ) → s ≢ status.KeepBad 0 slot) × ((disk : ℕ) → s ≢ status.DiskFault disk)

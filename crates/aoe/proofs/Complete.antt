@@ -91,6 +91,7 @@ all-synced-same : (s : Status) (unsynced : Option ℕ) → unsynced ≡ None →
 all-synced-same s (Some slot) e = absurd cc
 all-synced-same status.Ok None e = refl
 all-synced-same status.Usage None e = refl
+all-synced-same status.ClientFault None e = refl
 all-synced-same status.SourceFault None e = refl
 all-synced-same status.SinkFault None e = refl
 all-synced-same (status.DiskFault disk) None e = refl

@@ -3,7 +3,7 @@
 -- Read `OnSlots`, `Exits`, `Refusals`, `Complete`.
 --
 -- A status touches `code_of`, `text_of`, `ended_by` or `replayed_as`, and the cases of
--- `Refusals`.
+-- `Complete`, `Mirrors` and `Refusals`.
 mod Blame
 mod Complete
 mod CopyLemmas

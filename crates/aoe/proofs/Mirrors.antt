@@ -117,6 +117,7 @@ left-is status.Ok file sectors = elim (cases_eq sectors 0) [
   | inr some ↦ inr (refl, some, rw (ne_eqb sectors 0 some) refl)
 ]
 left-is status.Usage file sectors = inl (refl, λ e. absurd cc)
+left-is status.ClientFault file sectors = inl (refl, λ e. absurd cc)
 left-is (status.Script line cause) file sectors = inl (refl, λ e. absurd cc)
 left-is status.SourceFault file sectors = inl (refl, λ e. absurd cc)
 left-is status.SinkFault file sectors = inl (refl, λ e. absurd cc)
@@ -446,6 +447,7 @@ of-mirror (command.Soak x) e p = absurd cc
 of-mirror (command.Ask x) e p = absurd cc
 of-mirror (command.Get x) e p = absurd cc
 of-mirror (command.Put x) e p = absurd cc
+of-mirror (command.Nbd x) e p = absurd cc
 of-mirror (command.Live x) e p = absurd cc
 of-mirror (command.Switch x) e p = absurd cc
 of-mirror (command.Keep x) e p = absurd cc

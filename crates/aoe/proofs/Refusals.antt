@@ -31,6 +31,7 @@ use Rattle.aoe.specs.Commands.{exports, is_mirror}
 use Rattle.aoe.specs.Ending.{after_syncs, ended_by, file_at, keep_at, refused_as, refused_slot, replayed_as, slot_of_keep, switched_as}
 use Rattle.aoe.specs.Run.{HasLists, IsBad, IsSmall, NothingLoose, OnSlot, Ran, RanFiles, Refused, refused_before}
 use Rattle.aoe.specs.Live.{is_live_status}
+use Rattle.aoe.specs.Serving.{is_served_status}
 use Rattle.aoe.specs.Tools.{is_copy_status, is_tool_status}
 use Rattle.aoe.specs.declared.status.Status.{Status}
 use Rattle.aoe.specs.declared.status.Status.TheVariants as status
@@ -85,6 +86,9 @@ copy-not-refused s e = grind (arith, e)
 
 pub tool-not-refused : (s : Status) → is_tool_status s ≡ true → refused_slot s ≡ None
 tool-not-refused s e = grind (arith, e)
+
+pub served-not-refused : (s : Status) → is_served_status s ≡ true → refused_slot s ≡ None
+served-not-refused s e = grind (arith, e)
 
 pub live-not-refused : (s : Status) → is_live_status s ≡ true → refused_slot s ≡ None
 live-not-refused s e = grind (arith, e)
@@ -319,6 +323,7 @@ memory-wanting : (s : Status) → is_no_memory s ≡ true → s ≡ status.NoMem
 memory-wanting status.NoMemory e = refl
 memory-wanting status.Ok e = absurd cc
 memory-wanting status.Usage e = absurd cc
+memory-wanting status.ClientFault e = absurd cc
 memory-wanting status.SourceFault e = absurd cc
 memory-wanting status.SinkFault e = absurd cc
 memory-wanting (status.DiskFault disk) e = absurd cc
@@ -374,6 +379,7 @@ runs-of state (command.Soak asked) t s a b disks disks' other count run = over_n
 runs-of state (command.Ask tool) t s a b disks disks' other count run = over_none count (λ disk e. let f = sym (ap is_tool_status e) ∙ run.0 in absurd cc)
 runs-of state (command.Get asked) t s a b disks disks' other count run = over_none count (λ disk e. let f = sym (ap is_copy_status e) ∙ run.0 in absurd cc)
 runs-of state (command.Put asked) t s a b disks disks' other count run = over_none count (λ disk e. let f = sym (ap is_copy_status e) ∙ run.0 in absurd cc)
+runs-of state (command.Nbd asked) t s a b disks disks' other count run = over_none count (λ disk e. let f = sym (ap is_served_status e) ∙ run.0 in absurd cc)
 runs-of state (command.Live asked) t s a b disks disks' other count run = over_none count (λ disk e. let f = sym (ap is_live_status e) ∙ run.0 in absurd cc)
 runs-of state (command.Switch asked) t s a b disks disks' other count run = over_none count (λ disk e. no-disk-switched run.0.end disk (sym run.0.ends ∙ e))
 runs-of state (command.Keep action) t s a b disks disks' other count run = over_one count (λ disk e. (run.0.blames disk e).0)
@@ -497,6 +503,7 @@ pairs-only (command.Soak asked) e = absurd cc
 pairs-only (command.Ask tool) e = absurd cc
 pairs-only (command.Get asked) e = absurd cc
 pairs-only (command.Put asked) e = absurd cc
+pairs-only (command.Nbd asked) e = absurd cc
 pairs-only (command.Live asked) e = absurd cc
 pairs-only (command.Switch asked) e = absurd cc
 pairs-only (command.Keep action) e = absurd cc

@@ -91,6 +91,15 @@ upkept-usage (Err stop.Failed) e = cc
 upkept-usage (Err stop.NoMemory) e = cc
 upkept-usage (Err stop.SinkFault) e = cc
 
+pub upkept-unheard : (r : Result Unit UpkeepStop) → upkept_as r ≢ status.ClientFault
+upkept-unheard (Ok done) e = cc
+upkept-unheard (Err (stop.Keep refusal.Failed)) e = cc
+upkept-unheard (Err (stop.Keep (refusal.TooSmall n))) e = cc
+upkept-unheard (Err (stop.Keep (refusal.BadKeep k))) e = cc
+upkept-unheard (Err stop.Failed) e = cc
+upkept-unheard (Err stop.NoMemory) e = cc
+upkept-unheard (Err stop.SinkFault) e = cc
+
 -- where there was no memory nothing was written
 pub upkept-memory : {P : Type 0} (r : Result Unit UpkeepStop) → IfErr r (λ why. why ≢ stop.SinkFault → P) → upkept_as r ≡ status.NoMemory → P
 upkept-memory (Ok done) p e = absurd cc

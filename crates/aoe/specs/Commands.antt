@@ -8,7 +8,7 @@ use Rattle.aoe_serve.specs.declared.over_stream.Format.TheVariants as format
 use Rattle.aoe_serve.specs.declared.plan.Plan.{Plan}
 use Rattle.aoe_serve.specs.declared.plan.Plan.TheVariants as plan
 use Rattle.aoe_args.specs.declared.command.Command.{Command}
-use Rattle.aoe_args.specs.declared.command.Command.TheVariants.{Answer, Ask, Audit, Get, Keep, Live, Mirror, Put, Replay, Serve}
+use Rattle.aoe_args.specs.declared.command.Command.TheVariants.{Answer, Ask, Audit, Get, Keep, Live, Mirror, Nbd, Put, Replay, Serve}
 use Rattle.aoe_args.specs.declared.command.Answer.{Answer as Answers}
 use Rattle.aoe_args.specs.declared.command.Mirror.{Mirror as Mirrors}
 use Rattle.aoe_args.specs.declared.command.Serve.{Serve as Serves}
@@ -59,6 +59,11 @@ is_tool (Get asked) = true
 is_tool (Put asked) = true
 is_tool command = false
 
+-- it serves a device to clients
+abbrev pub is_nbd : Command → Bool
+is_nbd (Nbd asked) = true
+is_nbd command = false
+
 -- it runs over two links
 abbrev pub is_live : Command → Bool
 is_live (Live asked) = true
@@ -69,9 +74,9 @@ abbrev pub is_get : Command → Bool
 is_get (Get asked) = true
 is_get command = false
 
--- it takes frames of links and the clock, and serves nothing
+-- it takes frames of links and the clock, and exports nothing
 abbrev pub uses_clock : Command → Bool
-uses_clock command = is_tool command || is_live command
+uses_clock command = is_tool command || is_nbd command || is_live command
 
 -- it reads the source and no stream of frames: a script, sectors, or a capture
 abbrev pub reads_input : Command → Bool

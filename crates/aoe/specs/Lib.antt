@@ -7,3 +7,4 @@ pub mod Live
 pub mod Mirror
 pub mod Keeping
 pub mod Auditing
+pub mod Serving

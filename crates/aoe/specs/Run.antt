@@ -18,6 +18,7 @@ use Rattle.aoe_world.specs.declared.end.ReplayEnd.{ReplayEnd}
 use Rattle.aoe_args.specs.declared.command.Command.{Command}
 use Rattle.aoe_args.specs.declared.command.Command.TheVariants as command
 use Rattle.aoe_args.specs.declared.command.Get.{Get}
+use Rattle.aoe_args.specs.declared.command.Nbd.{Nbd}
 use Rattle.aoe_args.specs.declared.command.Put.{Put}
 use Rattle.aoe_args.specs.declared.command.Soak.{Soak}
 use Rattle.aoe_args.specs.declared.command.Tool.{Tool}
@@ -28,6 +29,7 @@ use Rattle.aoe.specs.Ending.{file_at, keep_at, refused_as, refused_slot, replaye
 use Rattle.aoe.specs.Keeping.{RunsKeep}
 use Rattle.aoe.specs.Live.{is_live_status}
 use Rattle.aoe.specs.Mirror.{is_mirror_status}
+use Rattle.aoe.specs.Serving.{is_served_status, DoorSeen, IsServedTo}
 use Rattle.aoe.specs.Switching.{Switches}
 use Rattle.aoe.specs.Tools.{CopiesIn, CopiesOut, RunsTool, is_copy_status, is_tool_status}
 use Rattle.aoe.specs.declared.status.Status.{Status}
@@ -66,6 +68,7 @@ Ran state (command.Soak asked) t s a b disks disks' = RanSoak t.held asked s a.s
 Ran state (command.Ask tool) t s a b disks disks' = (is_tool_status s ≡ true) × (b.source ≡ a.source) × (disks' ≡ disks)
 Ran state (command.Get asked) t s a b disks disks' = (is_copy_status s ≡ true) × (b.source ≡ a.source) × (disks' ≡ disks)
 Ran state (command.Put asked) t s a b disks disks' = (is_copy_status s ≡ true) × (b.sink ≡ a.sink) × (disks' ≡ disks)
+Ran state (command.Nbd asked) t s a b disks disks' = (is_served_status s ≡ true) × (b.source ≡ a.source) × (b.sink ≡ a.sink) × (disks' ≡ disks)
 Ran state (command.Live asked) t s a b disks disks' = (is_live_status s ≡ true) × (b.source ≡ a.source) × (disks' ≡ disks)
 Ran state (command.Switch asked) t s a b disks disks' =
     Switches asked.ports.items s (t.left a.source) (t.left b.source) (t.held a.sink) (t.held b.sink) × (b.links ≡ a.links) × (disks' ≡ disks)
@@ -85,6 +88,10 @@ IsGot held told asked s sink sink' links links' = AtFirst (λ a b. CopiesOut ask
 -- `put` ran over a source, the first link and a clock
 abbrev pub IsPut : {S L : Type 0} → (S → Option (List ℕ)) → (L → L → Told) → Put → Status → S → S → List L → List L → Type 0
 IsPut left told asked s source source' links links' = AtFirst (λ a b. CopiesIn asked s (left source) (left source') (told a b)) links links'
+
+-- `nbd` ran over the first link, a clock and a door
+abbrev pub IsExportedTo : {L D : Type 0} → (D → DoorSeen) → (L → L → Told) → Nbd → Status → D → D → List L → List L → Type 0
+IsExportedTo seen told asked s door door' links links' = AtFirst (λ a b. IsServedTo seen asked s door door' (told a b)) links links'
 
 -- the script was run to its end, or until there was no memory or no room for a frame that it calls for
 pub record HasReplayed (script : ScriptLines) (s : Status) : Type 0 where

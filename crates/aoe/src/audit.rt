@@ -46,6 +46,7 @@ fn judge<S: Source, K: Sink, D: Disk>(
     ensures unrefused { refused_slot result.0 ≡ None }
     ensures links { (link : ℕ) → result.0 ≢ Status.LinkFault link }
     ensures usage { result.0 ≢ Status.Usage }
+    ensures unheard { result.0 ≢ Status.ClientFault }
     ensures source { Blamed (result.0 ≡ Status.SourceFault) (S.faults source.old)
         (S.faults source.new) }
     ensures sink { Blamed (result.0 ≡ Status.SinkFault) (K.faults sink.old) (K.faults sink.new) }
@@ -83,6 +84,7 @@ pub(crate) fn run_audit<S: Source, K: Sink, D: Disk + Drop>(
     ensures unrefused { refused_slot result ≡ None }
     ensures links { (link : ℕ) → result ≢ Status.LinkFault link }
     ensures usage { result ≢ Status.Usage }
+    ensures unheard { result ≢ Status.ClientFault }
     ensures there { All IsSome disks.new }
     ensures source { Blamed (result ≡ Status.SourceFault) (S.faults source.old)
         (S.faults source.new) }

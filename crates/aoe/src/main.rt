@@ -2,23 +2,23 @@
 //!
 //! In order: [`read_words`] of `aoe_args` says which command it is, and what to open and to look for; files are
 //! opened and locked, and then sockets and tap files; [`aoe`] runs the command over them, the standard
-//! streams and a clock; the text of its [`Status`] goes to standard error.
+//! streams, a clock and a [`Door`] for clients; the text of its [`Status`] goes to standard error.
 //!
-//! `aoe` (`top`, with `plan`, `mirror`, `tools`, `live`, `switch`, `upkeep` and `audit`) opens nothing and says no status;
+//! `aoe` (`top`, with `plan`, `mirror`, `tools`, `nbd`, `live`, `switch`, `upkeep` and `audit`) opens nothing and says no status;
 //! its contract is what the program promises. What a file, a socket, a stream and a clock do is in `aoe_system`, which
 //! tells the proofs nothing of content. The program catches no signal and starts no thread.
 //!
 //! Promised, by [`aoe`]: what a run of each command is, by its status (`Ran`, `RunsTool`,
-//! `RunsLive`, `RunsMirror`, `RunsKeep`, `RunsAudit`). A run over files keeps the shelf law, and
+//! `IsServedTo`, `RunsLive`, `RunsMirror`, `RunsKeep`, `RunsAudit`). A run over files keeps the shelf law, and
 //! its disks outlive a loss of power (`RanFiles`); a history that `replay` prints is lawful and
-//! keeps the read law. Where a keep is refused nothing was read or sent. A fault of source, sink or
-//! link is told only if its count rose. Without a fault a stream is answered to its end, a link is
+//! keeps the read law. Where a keep is refused nothing was read or sent. A fault of source, sink,
+//! link or socket is told only if its count rose. Without a fault a stream is answered to its end, a link is
 //! served, and a good script is run as far as memory and the network allow. `line_of`: the status
 //! is `Usage` exactly where the arguments spell no command and there is memory to read them.
 //!
 //! Only tested, by the scripts of tests/: that the files and links are those of the arguments in
 //! their order, each status with its text, the log, `--stop`, and every fault of a stream, file,
-//! disk and socket (`check`, `datagrams`, `tools`, `wire`, `adapters`). Nothing is said of time.
+//! disk and socket (`check`, `datagrams`, `tools`, `nbd`, `wire`, `adapters`). Nothing is said of time.
 #![tactic(auto)]
 
 ghost use Rattle.std.specs.Prelude.{◌≡◌, ◌≢◌, ◌==◌, ◌↔◌, ◌⊎◌, All, Err, IfErr, IfOk, IsSome, None, Some, false, length, map, string_bytes};
@@ -26,9 +26,11 @@ ghost use Rattle.std.specs.List.{list_all, slice_split};
 ghost use Rattle.aoe_args.specs.Words.{IsInRange, command, file_count, is_word, link_count};
 
 mod audit;
+mod door;
 mod live;
 mod log;
 mod mirror;
+mod nbd;
 mod plan;
 mod status;
 mod switch;
@@ -39,15 +41,18 @@ mod upkeep;
 
 use aoe_args::{Command, CommandLine, PortWords, SlipText, is_command, meant, read_words, slip_of};
 use aoe_base::{Blob, NoMemory};
+use aoe_clients::Clients;
 use aoe_disk::Disk;
 use aoe_system::{
-    FileDisk, FileRefusal, Flow, Input, KeepDoubt, Output, SystemClock, Until, Wire, input_sectors,
-    say, variable_of, words,
+    Carrier, ClientLog, FileDisk, FileRefusal, Flow, Input, KeepDoubt, Output, PollBell,
+    SocketRefusal, StopFile, SystemClock, UnixClients, Until, Waiter, Wire, input_sectors, say,
+    variable_of, words,
 };
 use aoe_tap::{OpenRefusal as TapRefusal, TapMedium};
 use aoe_tools::Refusal;
 use aoe_udp::{OpenRefusal, UdpMedium};
 use aoe_wire::WireLink;
+use door::{Door, Stopping};
 use log::Log;
 use status::Status;
 use std::alloc::Global;
@@ -55,7 +60,7 @@ use std::fs::File;
 use std::io::{BufReader, ErrorKind};
 use std::process::ExitCode;
 use std::{fs, io};
-use teller::{SideTeller, Teller};
+use teller::{DiskTeller, SideTeller, Teller};
 use top::aoe;
 
 /// How much of standard input is read at a time, in bytes.
@@ -69,6 +74,9 @@ const OTHER_FAMILY: &[u8] = b": of another family than a peer, IPv4 or IPv6";
 
 /// What is wrong with the file of no tap device.
 const NO_TAP: &[u8] = b": not a tap file";
+
+/// What is wrong with a name at which no socket can be made, since something else has it.
+const NO_SOCKET: &[u8] = b": not a socket";
 
 /// A folder that is always there.
 const ROOT: &str = "/";
@@ -156,6 +164,15 @@ fn tell_doubt(rt: &HostRuntime, name: &[u8], disk: u32, doubt: KeepDoubt) -> u8 
         KeepDoubt::Size => tell_name(rt, b"not a keep, which has 8192 bytes: ", name, 8),
         KeepDoubt::Content => tell_name(rt, b"not a keep, but other data: ", name, 8),
         KeepDoubt::Unread => tell(rt, Status::DiskFault { disk }),
+    }
+}
+
+/// Says why nobody can be awaited at a socket of this name, and gives the exit status.
+fn tell_unheard(rt: &HostRuntime, name: &[u8], refusal: SocketRefusal) -> u8 {
+    match refusal {
+        SocketRefusal::Unbound(error) => tell_failed(rt, name, &error, 6),
+        SocketRefusal::Kind => tell_unopened(rt, name, NO_SOCKET, 6),
+        SocketRefusal::InUse => tell_name(rt, b"in use: ", name, 6),
     }
 }
 
@@ -275,18 +292,20 @@ fn look_at_keeps(
 }
 
 /// Opens a link over UDP; the exit status where it can't be opened, which is said.
-fn open_udp(
+fn open_udp<'a>(
     rt: &HostRuntime,
     local: &Blob,
     peers: &Blob,
     vxlan: Option<u32>,
-) -> Result<WireLink<Wire>, u8>
+    waiter: &'a Waiter,
+) -> Result<WireLink<Wire<'a>>, u8>
     ensures { IfOk result (λ link. link.peers ≡ length (slice_split (λ c. c == 44) peers.now)) }
 {
     match UdpMedium::open(rt, rt.alloc(), local.bytes(), peers.bytes(), vxlan) {
         Ok(udp) => {
             let count = udp.peers();
-            Ok(WireLink::new(Wire::Udp(udp), count))
+            let wire = Wire::new(Carrier::Udp(udp), waiter);
+            Ok(WireLink::new(wire, count))
         }
         Err(OpenRefusal::NoMemory) => Err(tell(rt, Status::NoMemory)),
         Err(OpenRefusal::Vxlan) => Err(tell(rt, Status::Usage)),
@@ -300,14 +319,14 @@ fn open_udp(
 
 /// Opens a link over a tap file, whose one peer is the wire; the exit status where it can't be opened,
 /// which is said.
-fn open_tap(rt: &HostRuntime, file: &Blob) -> Result<WireLink<Wire>, u8>
+fn open_tap<'a>(rt: &HostRuntime, file: &Blob, waiter: &'a Waiter) -> Result<WireLink<Wire<'a>>, u8>
     ensures { IfOk result (λ link. link.peers ≡ 1) }
 {
     let Ok(name) = str::from_utf8(file.bytes()) else {
         return Err(tell_unopened(rt, file.bytes(), NO_TAP, 6));
     };
     match TapMedium::open(rt, rt.alloc(), name) {
-        Ok(tap) => Ok(WireLink::new(Wire::Tap(tap), 1)),
+        Ok(tap) => Ok(WireLink::new(Wire::new(Carrier::Tap(tap), waiter), 1)),
         Err(TapRefusal::NoMemory) => Err(tell(rt, Status::NoMemory)),
         Err(TapRefusal::Unopened(error)) => Err(tell_unlinked(rt, file.bytes(), error)),
         Err(TapRefusal::Kind) => Err(tell_unopened(rt, file.bytes(), NO_TAP, 6)),
@@ -316,14 +335,18 @@ fn open_tap(rt: &HostRuntime, file: &Blob) -> Result<WireLink<Wire>, u8>
 }
 
 /// Opens the link that these arguments name; the exit status where it can't be opened, which is said.
-fn open_link(rt: &HostRuntime, words: &PortWords) -> Result<WireLink<Wire>, u8> {
+fn open_link<'a>(
+    rt: &HostRuntime,
+    words: &PortWords,
+    waiter: &'a Waiter,
+) -> Result<WireLink<Wire<'a>>, u8> {
     match words {
         PortWords::Udp {
             local,
             peers,
             vxlan,
-        } => open_udp(rt, local, peers, *vxlan),
-        PortWords::Tap { file } => open_tap(rt, file),
+        } => open_udp(rt, local, peers, *vxlan, waiter),
+        PortWords::Tap { file } => open_tap(rt, file, waiter),
     }
 }
 
@@ -334,17 +357,71 @@ fn open_links<'a>(
     ends: &[PortWords],
     mut stop: Option<String>,
     flow: &'a Flow,
-) -> Result<Vec<Until<'a, WireLink<Wire>>>, u8>
+    waiter: &'a Waiter,
+) -> Result<Vec<Until<'a, WireLink<Wire<'a>>>>, u8>
     ensures { IfOk result (λ links. length links.items ≡ length ends.now) }
 {
     let mut links = Vec::new(rt.alloc());
     'ends: for words in ends {
-        let link = Until::new(rt, open_link(rt, words)?, stop.take(), flow);
+        let link = Until::new(rt, open_link(rt, words, waiter)?, stop.take(), flow);
         if links.push(link).is_err() {
             return Err(tell(rt, Status::NoMemory));
         }
     }
     Ok(links)
+}
+
+/// Opens a socket of this name for clients of a link; the exit status where that can't be done, which is
+/// said. Each client that comes and goes is said where there is a log.
+fn open_socket<'a>(
+    rt: &HostRuntime,
+    name: String,
+    link: &Until<WireLink<Wire>>,
+    waiter: &'a Waiter,
+    is_logged: bool,
+) -> Result<(UnixClients, PollBell<'a>), u8>
+    ensures nobody { IfOk result (λ pair. ⟦<UnixClients as Clients>⟧.connected pair.0 ≡ false) }
+{
+    let Ok(shown) = format!(in rt.alloc(); "{name}") else {
+        return Err(tell(rt, Status::NoMemory));
+    };
+    let bell = match PollBell::new(rt, link.link().medium(), waiter) {
+        Ok(bell) => bell,
+        Err(error) => return Err(tell_failed(rt, shown.as_bytes(), &error, 6)),
+    };
+    match UnixClients::listen(rt, name, &bell) {
+        Ok(mut clients) => {
+            if is_logged {
+                clients.log_to(ClientLog::new(rt));
+            }
+            Ok((clients, bell))
+        }
+        Err(refusal) => Err(tell_unheard(rt, shown.as_bytes(), refusal)),
+    }
+}
+
+/// Opens the socket that a command listens at, where it has one, for clients of the first link; the exit
+/// status where that can't be done, which is said. A file of the other name ends the run.
+fn open_door<'a>(
+    rt: &HostRuntime,
+    socket: Option<String>,
+    stop: Option<String>,
+    links: &[Until<WireLink<Wire>>],
+    waiter: &'a Waiter,
+    is_logged: bool,
+) -> Result<Door<UnixClients, PollBell<'a>, Stopping>, u8>
+    ensures nobody { IfOk result
+        (λ door. ⟦<UnixClients as Clients>⟧.connected door.clients ≡ false) }
+{
+    let (clients, bell) = match (socket, links) {
+        (Some(name), [link, ..]) => open_socket(rt, name, link, waiter, is_logged)?,
+        _ => (UnixClients::nobody(), PollBell::still(waiter)),
+    };
+    Ok(Door {
+        clients,
+        bell,
+        ending: Stopping(StopFile::new(rt, stop)),
+    })
 }
 
 /// Says how many frames of AoE were dropped because something of them is left to the receiver, where
@@ -402,7 +479,7 @@ fn say_slip(rt: &HostRuntime, words: &[String]) {
 }
 
 /// Runs the command over its files, which have these names, its links, the standard streams and the clock.
-/// The flow is told how far a copy has come.
+/// The flow is told how far a copy has come, and a teller which device is served.
 fn run_over(
     rt: &HostRuntime,
     command: &Command,
@@ -410,11 +487,14 @@ fn run_over(
     disks: &mut [Option<FileDisk>],
     links: &mut [Until<WireLink<Wire>>],
     flow: &Flow,
+    disk: &Option<DiskTeller>,
+    door: &mut Door<UnixClients, PollBell, Stopping>,
 ) -> Status
     requires range { IsInRange command.now }
     requires count { length disks.old ≡ file_count command.now }
     requires there { All IsSome disks.old }
     requires links { length links.old ≡ link_count command.now }
+    requires nobody { ⟦<UnixClients as Clients>⟧.connected door.old.clients ≡ false }
 {
     let Ok(reader) = BufReader::with_capacity(rt.alloc(), READ_AHEAD, rt.stdin()) else {
         return Status::NoMemory;
@@ -422,7 +502,7 @@ fn run_over(
     let mut source = Input::new(reader);
     let mut sink = Output::new(rt.stdout());
     let mut clock = SystemClock::new(rt);
-    let mut watch = Teller::new(flow);
+    let mut watch = Teller::new(flow, disk);
     let sides = SideTeller::new(rt, files);
     let status = aoe(
         rt.alloc(),
@@ -434,6 +514,7 @@ fn run_over(
         &mut clock,
         &mut watch,
         sides,
+        door,
     );
     flow.close();
     status
@@ -445,6 +526,22 @@ fn flow_of(rt: &HostRuntime, command: &Command, is_told: bool) -> Flow {
         Command::Get(_) => Flow::new(rt, is_told, None),
         Command::Put(_) => Flow::new(rt, is_told, input_sectors(rt)),
         _ => Flow::nowhere(rt),
+    }
+}
+
+/// Who says which device is served at a socket of this name, where that is logged.
+fn disk_of(
+    rt: &HostRuntime,
+    command: &Command,
+    socket: &Option<String>,
+    is_logged: bool,
+) -> Option<DiskTeller> {
+    match (command, socket) {
+        (Command::Nbd(asked), Some(name)) if is_logged => {
+            let path = format!(in rt.alloc(); "{name}").ok()?;
+            Some(DiskTeller::new(rt, asked.id, path))
+        }
+        _ => None,
     }
 }
 
@@ -503,56 +600,98 @@ fn tell_end(
     code
 }
 
-/// Opens the files and the links of a command line, runs its command over them, and gives the exit status.
-/// Nothing is opened where the file is there that would end the run at once.
-fn run_line(rt: &HostRuntime, line: CommandLine) -> u8
+/// Says what came of a shelf that was served over these disks and links, where there is a log.
+fn end_log(
+    log: &Option<Log>,
+    command: &Command,
+    disks: &[Option<FileDisk>],
+    links: &[Until<WireLink<Wire>>],
+) {
+    if let (Some(log), [link]) = (log, links)
+        && matches!(command, Command::Serve(_))
+    {
+        log.end(disks, link);
+    }
+}
+
+/// The name of the file that ends the first link of a command, and of the one that ends what clients are
+/// served.
+fn stops_of(command: &Command, stop: Option<String>) -> (Option<String>, Option<String>) {
+    match command {
+        Command::Nbd(_) => (None, stop),
+        _ => (stop, None),
+    }
+}
+
+/// Opens the links and the socket of a command line whose files are open, runs its command over them, and
+/// gives the exit status.
+fn run_linked(
+    rt: &HostRuntime,
+    line: CommandLine,
+    disks: &mut [Option<FileDisk>],
+    log: &mut Option<Log>,
+) -> u8
     requires range { IsInRange line.command }
-    requires files { length line.files.items ≡ file_count line.command }
+    requires count { length disks.old ≡ file_count line.command }
+    requires there { All IsSome disks.old }
     requires links { length line.links.items ≡ link_count line.command }
 {
     let CommandLine {
         command,
         files,
         links: ends,
+        socket,
         stop,
         is_told,
     } = line;
-    if let Some(name) = &stop
+    let flow = flow_of(rt, &command, is_told);
+    let waiter = Waiter::medium();
+    let (link_stop, door_stop) = stops_of(&command, stop);
+    let mut links = match open_links(rt, ends.as_slice(), link_stop, &flow, &waiter) {
+        Ok(links) => links,
+        Err(code) => return code,
+    };
+    let is_logged = log.is_some();
+    let disk = disk_of(rt, &command, &socket, is_logged);
+    let mut door = match open_door(rt, socket, door_stop, links.as_slice(), &waiter, is_logged) {
+        Ok(door) => door,
+        Err(code) => return code,
+    };
+    if let (Some(log), Command::Serve(serve)) = (&mut *log, &command) {
+        log.start(serve, ends.as_slice());
+    }
+    let files = files.as_slice();
+    let links = links.as_mut_slice();
+    let status = run_over(rt, &command, files, disks, links, &flow, &disk, &mut door);
+    door.clients.tell_end();
+    tell_offloaded(rt, links);
+    end_log(log, &command, disks, links);
+    tell_end(rt, &command, files, status, flow.reached())
+}
+
+/// Opens the files of a command line and what else it names, runs its command over them, and gives the
+/// exit status. Nothing is opened where the file is there that would end the run at once.
+fn run_line(rt: &HostRuntime, line: CommandLine) -> u8
+    requires range { IsInRange line.command }
+    requires files { length line.files.items ≡ file_count line.command }
+    requires links { length line.links.items ≡ link_count line.command }
+{
+    if let Some(name) = &line.stop
         && fs::exists(rt, name.as_str()).unwrap_or(false)
     {
         return tell_stopped(rt, name.as_bytes());
     }
-    let mut log = Log::asked(rt, matches!(&command, Command::Serve(_)));
-    let mut disks = match open_all(rt, &command, files.as_slice(), &mut log) {
+    let is_served = matches!(&line.command, Command::Serve(_) | Command::Nbd(_));
+    let mut log = Log::asked(rt, is_served);
+    let mut disks = match open_all(rt, &line.command, line.files.as_slice(), &mut log) {
         Ok(disks) => disks,
         Err(code) => return code,
     };
-    if let Err(code) = look_at_keeps(rt, &command, files.as_slice(), disks.as_slice()) {
+    let files = line.files.as_slice();
+    if let Err(code) = look_at_keeps(rt, &line.command, files, disks.as_slice()) {
         return code;
     }
-    let flow = flow_of(rt, &command, is_told);
-    let mut links = match open_links(rt, ends.as_slice(), stop, &flow) {
-        Ok(links) => links,
-        Err(code) => return code,
-    };
-    if let (Some(log), Command::Serve(serve)) = (&mut log, &command) {
-        log.start(serve, ends.as_slice());
-    }
-    let status = run_over(
-        rt,
-        &command,
-        files.as_slice(),
-        disks.as_mut_slice(),
-        links.as_mut_slice(),
-        &flow,
-    );
-    tell_offloaded(rt, links.as_slice());
-    if let (Some(log), [link]) = (&log, links.as_slice())
-        && matches!(command, Command::Serve(_))
-    {
-        log.end(disks.as_slice(), link);
-    }
-    tell_end(rt, &command, files.as_slice(), status, flow.reached())
+    run_linked(rt, line, disks.as_mut_slice(), &mut log)
 }
 
 /// What the arguments spell; the status where they spell no command, and where there is no memory to read

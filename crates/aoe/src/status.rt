@@ -56,6 +56,8 @@ pub enum Status {
     Stale { file: u32, sectors: u64 },
     /// The disk that is to say which side of a mirror leads holds something else.
     NotMark,
+    /// The socket failed at which clients are awaited.
+    ClientFault,
 }
 
 /// Which limit was exceeded.
@@ -97,6 +99,7 @@ impl Status {
             Status::Audit { .. } => 13,
             Status::CaptureHead | Status::Capture { .. } => 14,
             Status::MirrorSides { .. } | Status::MirrorMark => 15,
+            Status::ClientFault => 17,
             Status::Stale { .. } => 18,
         }
     }
@@ -127,6 +130,7 @@ impl Status {
             Status::MirrorSides { first, second } => sides_text(alloc, first, second),
             Status::MirrorMark => Blob::of(alloc, b"aoe: mirror mark has no sector"),
             Status::NotMark => Blob::of(alloc, b"aoe: not a mark, but other data"),
+            Status::ClientFault => Blob::of(alloc, b"aoe: socket fault"),
         }
     }
 }

@@ -45,6 +45,7 @@ pub(crate) fn run_switch<S: Source, K: Sink>(
     ensures disks { (disk : ℕ) → result ≢ Status.DiskFault disk }
     ensures links { (link : ℕ) → result ≢ Status.LinkFault link }
     ensures usage { result ≢ Status.Usage }
+    ensures unheard { result ≢ Status.ClientFault }
     ensures source { Blamed (result ≡ Status.SourceFault) (S.faults source.old)
         (S.faults source.new) }
     ensures sink { Blamed (result ≡ Status.SinkFault) (K.faults sink.old) (K.faults sink.new) }

@@ -1,23 +1,54 @@
-//! Who is told how far a copy has come, and what becomes of the sides of a mirror. It decides nothing.
+//! Who is told how far a copy has come, which device is served to clients, and what becomes of the sides of
+//! a mirror. It decides nothing.
+use aoe_base::TargetId;
 use aoe_copy::Watch;
 use aoe_mirror::{MirrorEvent, MirrorWatch};
 use aoe_system::{Flow, say};
 
-/// Tells a flow what the copy comes to.
+/// Says on standard error which device is served at a socket, and how long it is.
+#[derive(Drop)]
+pub struct DiskTeller {
+    rt: HostRuntime,
+    id: TargetId,
+    path: String,
+}
+
+impl DiskTeller {
+    /// Of this device, at a socket of this name.
+    pub fn new(rt: &HostRuntime, id: TargetId, path: String) -> DiskTeller {
+        DiskTeller { rt: *rt, id, path }
+    }
+
+    fn tell(&self, sectors: u64) {
+        let TargetId { major, minor } = self.id;
+        let path = &self.path;
+        if let Ok(text) = format!(in self.rt.alloc();
+            "aoe: e{major}.{minor}: {sectors} sectors, at {path}\n"
+        ) {
+            say(&self.rt, text.as_bytes());
+        }
+    }
+}
+
+/// Tells a flow what a copy comes to, and where there is a log which device is served.
 #[derive(Drop)]
 pub struct Teller<'a> {
     flow: &'a Flow,
+    disk: &'a Option<DiskTeller>,
 }
 
 impl<'a> Teller<'a> {
-    pub fn new(flow: &'a Flow) -> Teller<'a> {
-        Teller { flow }
+    pub fn new(flow: &'a Flow, disk: &'a Option<DiskTeller>) -> Teller<'a> {
+        Teller { flow, disk }
     }
 }
 
 impl Watch for Teller<'_> {
     fn planned(&mut self, sectors: u64) {
         self.flow.plan(sectors);
+        if let Some(disk) = self.disk {
+            disk.tell(sectors);
+        }
     }
 
     fn reached(&mut self, sectors: u64) {

@@ -6,7 +6,7 @@ ghost use Rattle.aoe_args.specs.Tools.{CanGet, CanPut};
 ghost use Rattle.aoe_base.specs.Faults.{Blamed};
 ghost use Rattle.aoe_lists.specs.Settings.{max_directives};
 ghost use Rattle.aoe_base.specs.Sizes.{longest_lifetime};
-ghost use Rattle.aoe.specs.Tools.{CanAsk, CopiesIn, CopiesOut, RunsTool, Says, SaysConfig, SaysFlush, SaysFound, SaysMasks, SaysReserves, SaysStat, ask_of, copy_status, dirs_of, is_copy_status, is_tool_status, said, terms_of, tool_status};
+ghost use Rattle.aoe.specs.Tools.{CanAsk, CopiesIn, CopiesOut, RunsTool, Says, SaysConfig, SaysFlush, SaysFound, SaysMasks, SaysReserves, SaysStat, ask_of, copy_status, dirs_of, is_copy_status, is_tool_status, lifetimes, said, terms_of, tool_status};
 
 use crate::status::Status;
 use aoe_args::{Asking, Cfg, Discover, Flush, Get, Mask, Put, Reserve, Stat, Tool};
@@ -21,10 +21,10 @@ use aoe_tools::{
 use std::alloc::Global;
 
 /// The most sectors of a command of a copy: as many as a frame of 9018 bytes has room for.
-const MOST_SECTORS: u32 = 17;
+pub(crate) const MOST_SECTORS: u32 = 17;
 
 /// Who asks, and how long it listens.
-fn ask_of(asking: Asking) -> Ask
+pub(crate) fn ask_of(asking: Asking) -> Ask
     ensures { result ≡ ask_of asking }
 {
     Ask {
@@ -33,17 +33,24 @@ fn ask_of(asking: Asking) -> Ask
     }
 }
 
+/// How long a frame can be on its way, whatever it is.
+pub(crate) fn lifetimes(lifetime: u32) -> Lifetimes
+    ensures { result ≡ lifetimes lifetime }
+{
+    let lifetime = Millis(u64::from(lifetime));
+    Lifetimes {
+        requests: lifetime,
+        responses: lifetime,
+    }
+}
+
 /// Who copies, how long it waits, and how long a frame can be on its way.
 fn terms_of(asking: Asking, lifetime: u32) -> Terms
     ensures { result ≡ terms_of asking lifetime }
 {
-    let lifetime = Millis(u64::from(lifetime));
     Terms {
         ask: ask_of(asking),
-        life: Lifetimes {
-            requests: lifetime,
-            responses: lifetime,
-        },
+        life: lifetimes(lifetime),
         most: MOST_SECTORS,
     }
 }
@@ -207,7 +214,7 @@ fn say<L: Link, C: Clock>(
 }
 
 /// The status of a tool that ended without its answer.
-fn tool_status(refusal: ToolRefusal) -> Status
+pub(crate) fn tool_status(refusal: ToolRefusal) -> Status
     ensures { result ≡ tool_status refusal }
 {
     match refusal {

@@ -16,31 +16,37 @@ ghost use Rattle.aoe_args.specs.declared.command.Get.{Get as Gets};
 ghost use Rattle.aoe_args.specs.declared.command.KeepAction.{KeepAction};
 ghost use Rattle.aoe_args.specs.declared.command.Live.{Live as Lives};
 ghost use Rattle.aoe_args.specs.declared.command.Mirror.{Mirror as Mirrors};
+ghost use Rattle.aoe_args.specs.declared.command.Nbd.{Nbd as Nbds};
 ghost use Rattle.aoe_args.specs.declared.command.Put.{Put as Puts};
 ghost use Rattle.aoe_args.specs.declared.command.Soak.{Soak as Soaks};
 ghost use Rattle.aoe_args.specs.declared.command.Tool.{Tool};
 ghost use Rattle.aoe_base.specs.Faults.{Blamed, Rose};
 ghost use Rattle.aoe.specs.Auditing.{RunsAudit};
-ghost use Rattle.aoe.specs.Commands.{exports, is_get, is_live, is_mirror, is_over_keep, reads_input, uses_clock};
+ghost use Rattle.aoe.specs.Commands.{exports, is_get, is_live, is_mirror, is_nbd, is_over_keep, reads_input, uses_clock};
 ghost use Rattle.aoe.specs.Keeping.{RunsKeep};
 ghost use Rattle.aoe.specs.Live.{AreBlamed, AtBoth, RunsLive, ends};
 ghost use Rattle.aoe.specs.Ending.{file_at, keep_at, refused_slot};
 ghost use Rattle.aoe.specs.Mirror.{AreTold, RunsMirror};
-ghost use Rattle.aoe.specs.Run.{Asked, HasLists, HasReplayed, IsBad, IsGot, IsPut, IsSmall, NothingLoose, OnSlot, Ran, RanFiles, RanScript, RanSoak, Refused};
+ghost use Rattle.aoe.specs.Serving.{door_seen};
+ghost use Rattle.aoe.specs.Run.{Asked, HasLists, HasReplayed, IsBad, IsExportedTo, IsGot, IsPut, IsSmall, NothingLoose, OnSlot, Ran, RanFiles, RanScript, RanSoak, Refused};
 
 use crate::audit::run_audit;
+use crate::door::Door;
 use crate::live::run_live;
 use crate::mirror::run_mirror;
+use crate::nbd::run_nbd;
 use crate::plan::{answer_plan, refused_as, replayed_as, serve_plan, status_of};
 use crate::status::Status;
 use crate::switch::run_switch;
 use crate::tools::{run_get, run_put, run_tool};
 use crate::upkeep::run_keep;
 use aoe_args::{Command, Soak};
+use aoe_clients::{Bell, Clients};
 use aoe_copy::Watch;
 use aoe_disk::Disk;
 use aoe_io::{Clock, Link, Sink, Source};
 use aoe_mirror::MirrorWatch;
+use aoe_nbd_serve::Ending;
 use aoe_serve::{ExportOptions, ExportRefusal, Plan, export};
 use aoe_world::{replay, soak};
 use std::alloc::Global;
@@ -68,6 +74,7 @@ fn run_files<S: Source, K: Sink, D: Disk + Drop, L: Link>(
     ensures memory { result ≡ Status.NoMemory → (source.new ≡ source.old) × (sink.new ≡ sink.old)
         × (disks.new ≡ disks.old) × (links.new ≡ links.old) }
     ensures usage { result ≢ Status.Usage }
+    ensures unheard { result ≢ Status.ClientFault }
     ensures there { All IsSome disks.new }
     ensures source { Blamed (result ≡ Status.SourceFault) (S.faults source.old)
         (S.faults source.new) }
@@ -90,6 +97,7 @@ fn run_script<S: Source, K: Sink>(alloc: Global, source: &mut S, sink: &mut K) -
     ensures disks { (disk : ℕ) → result ≢ Status.DiskFault disk }
     ensures links { (link : ℕ) → result ≢ Status.LinkFault link }
     ensures usage { result ≢ Status.Usage }
+    ensures unheard { result ≢ Status.ClientFault }
     ensures memory { result ≡ Status.NoMemory → sink.new ≡ sink.old }
     ensures source { Blamed (result ≡ Status.SourceFault) (S.faults source.old)
         (S.faults source.new) }
@@ -108,6 +116,7 @@ fn run_soak<K: Sink>(alloc: Global, asked: Soak, sink: &mut K) -> Status
     ensures disks { (disk : ℕ) → result ≢ Status.DiskFault disk }
     ensures links { (link : ℕ) → result ≢ Status.LinkFault link }
     ensures usage { result ≢ Status.Usage }
+    ensures unheard { result ≢ Status.ClientFault }
     ensures source { result ≢ Status.SourceFault }
     ensures memory { result ≡ Status.NoMemory → sink.new ≡ sink.old }
     ensures sink { Blamed (result ≡ Status.SinkFault) (K.faults sink.old) (K.faults sink.new) }
@@ -126,6 +135,9 @@ fn run_command<
     C: Clock,
     W: Watch,
     M: MirrorWatch + Drop,
+    P: Clients,
+    B: Bell,
+    E: Ending,
 >(
     alloc: Global,
     command: &Command,
@@ -136,12 +148,14 @@ fn run_command<
     clock: &mut C,
     watch: &mut W,
     sides: M,
+    door: &mut Door<P, B, E>,
 ) -> Status
     requires range { IsInRange command.now }
     requires count { length disks.old ≡ file_count command.now }
     requires there { All IsSome disks.old }
     requires links { length links.old ≡ link_count command.now }
     requires told { is_mirror command.now ≡ true → AreTold D.state disks.old }
+    requires nobody { is_nbd command.now ≡ true → P.connected door.old.clients ≡ false }
     ensures run { refused_slot result ≡ None → result ≢ Status.NoMemory → Ran D.state command.now
         record { left = S.left; held = K.held; turns = L.turns; given = L.given; taken = L.taken } result
         record { source = source.old; sink = sink.old; links = links.old } record { source = source.new; sink = sink.new; links = links.new }
@@ -165,6 +179,8 @@ fn run_command<
     ensures asks { (tool : Tool) → command.now ≡ Command.Ask tool → Asked K.held (λ a b. told C.least C.answers L.turns L.given L.taken clock.old clock.new a b) tool result sink.old sink.new links.old links.new }
     ensures gets { (asked : Gets) → command.now ≡ Command.Get asked → IsGot K.held (λ a b. told C.least C.answers L.turns L.given L.taken clock.old clock.new a b) asked result sink.old sink.new links.old links.new }
     ensures puts { (asked : Puts) → command.now ≡ Command.Put asked → IsPut S.left (λ a b. told C.least C.answers L.turns L.given L.taken clock.old clock.new a b) asked result source.old source.new links.old links.new }
+    ensures nbds { (asked : Nbds) → command.now ≡ Command.Nbd asked → IsExportedTo (door_seen P.told P.connected B.waits E.answers) (λ a b. told C.least C.answers L.turns L.given L.taken clock.old clock.new a b) asked result door.old door.new links.old links.new }
+    ensures door { is_nbd command.now ≡ false → door.new ≡ door.old }
     ensures lives { (asked : Lives) → command.now ≡ Command.Live asked → AtBoth (λ one one' two two'. RunsLive asked result (K.held sink.old) (K.held sink.new)
         (ends C.answers L.turns L.given L.taken one two clock.old) (ends C.answers L.turns L.given L.taken one' two' clock.new)
         × AreBlamed result (L.faults one) (L.faults one') (L.faults two) (L.faults two')) links.old links.new }
@@ -174,6 +190,8 @@ fn run_command<
     ensures source { Blamed (result ≡ Status.SourceFault) (S.faults source.old)
         (S.faults source.new) }
     ensures sink { Blamed (result ≡ Status.SinkFault) (K.faults sink.old) (K.faults sink.new) }
+    ensures clients { Blamed (result ≡ Status.ClientFault) (P.faults door.old.clients)
+        (P.faults door.new.clients) }
     ensures first { is_live command.now ≡ false
         → AtFirst (λ a b. Blamed (result ≡ Status.LinkFault 0) (L.faults a)
         (L.faults b)) links.old links.new }
@@ -205,6 +223,7 @@ fn run_command<
         Command::Ask(tool) => run_tool(alloc, tool, sink, &mut links[0], clock),
         Command::Get(asked) => run_get(alloc, asked, sink, &mut links[0], clock, watch),
         Command::Put(asked) => run_put(alloc, asked, source, &mut links[0], clock, watch),
+        Command::Nbd(asked) => run_nbd(alloc, asked, &mut links[0], clock, watch, door),
         Command::Keep(action) => run_keep(alloc, *action, sink, disks),
         Command::Audit(asked) => run_audit(alloc, asked, source, sink, disks),
     }
@@ -233,6 +252,11 @@ fn run_command<
 /// more of them as they are read; `--no-flush` leaves out the flush at its end. `--lifetime` is how long a
 /// frame can be on its way. How far a copy has come the watch is told. `--port` is who asks, and `--turns`
 /// how long each listens.
+///
+/// `nbd DEV` looks a target up as the tools do, and serves it as a disk to the clients of the door, one
+/// after another, until the end is asked for: by the door, by `--once` or by `--idle`. It submits nothing
+/// for twice `--lifetime`. At the end each request that came whole has its outcome, and a flush follows if a
+/// write was acknowledged, but for `--no-flush`. The watch is told how many sectors the target has.
 ///
 /// `replay` reads the source to its end as a script, runs the events of the script through shelves
 /// and hosts in memory, and puts the text of what happened on the sink. Whatever a schedule loses,
@@ -267,7 +291,18 @@ fn run_command<
 ///
 /// Memory is taken for the shelf and its stores before the first keep is mounted; then no more. A replay
 /// takes memory until its text is written, and so does a tool; `keep` takes it for its line.
-pub fn aoe<S: Source, K: Sink, D: Disk + Drop, L: Link, C: Clock, W: Watch, M: MirrorWatch + Drop>(
+pub fn aoe<
+    S: Source,
+    K: Sink,
+    D: Disk + Drop,
+    L: Link,
+    C: Clock,
+    W: Watch,
+    M: MirrorWatch + Drop,
+    P: Clients,
+    B: Bell,
+    E: Ending,
+>(
     alloc: Global,
     command: &Command,
     source: &mut S,
@@ -277,12 +312,14 @@ pub fn aoe<S: Source, K: Sink, D: Disk + Drop, L: Link, C: Clock, W: Watch, M: M
     clock: &mut C,
     watch: &mut W,
     sides: M,
+    door: &mut Door<P, B, E>,
 ) -> Status
     requires range { IsInRange command.now }
     requires count { length disks.old ≡ file_count command.now }
     requires there { All IsSome disks.old }
     requires links { length links.old ≡ link_count command.now }
     requires told { is_mirror command.now ≡ true → AreTold D.state disks.old }
+    requires nobody { is_nbd command.now ≡ true → P.connected door.old.clients ≡ false }
     ensures usage { result ≢ Status.Usage }
 
     // A keep is refused, or the run is one of the shelf law, or the history of a script is lawful and read as was written.
@@ -318,6 +355,8 @@ pub fn aoe<S: Source, K: Sink, D: Disk + Drop, L: Link, C: Clock, W: Watch, M: M
     ensures source { Blamed (result ≡ Status.SourceFault) (S.faults source.old)
         (S.faults source.new) }
     ensures sink { Blamed (result ≡ Status.SinkFault) (K.faults sink.old) (K.faults sink.new) }
+    ensures clients { Blamed (result ≡ Status.ClientFault) (P.faults door.old.clients)
+        (P.faults door.new.clients) }
     ensures link { is_live command.now ≡ false
         → AtFirst (λ a b. Blamed (result ≡ Status.LinkFault 0) (L.faults a) (L.faults b)) links.old links.new }
     ensures one_link { is_live command.now ≡ false → (link : ℕ) → result ≡ Status.LinkFault link
@@ -336,10 +375,12 @@ pub fn aoe<S: Source, K: Sink, D: Disk + Drop, L: Link, C: Clock, W: Watch, M: M
         × (is_mirror command.now ≡ false → is_over_keep command.now ≡ false → disks.new ≡ disks.old)
         × (uses_clock command.now ≡ false → links.new ≡ links.old) }
 
-    // What a tool asks, when it ends and what it says.
+    // What a tool asks, when it ends and what it says; and what clients are served.
     ensures asks { (tool : Tool) → command.now ≡ Command.Ask tool → Asked K.held (λ a b. told C.least C.answers L.turns L.given L.taken clock.old clock.new a b) tool result sink.old sink.new links.old links.new }
     ensures gets { (asked : Gets) → command.now ≡ Command.Get asked → IsGot K.held (λ a b. told C.least C.answers L.turns L.given L.taken clock.old clock.new a b) asked result sink.old sink.new links.old links.new }
     ensures puts { (asked : Puts) → command.now ≡ Command.Put asked → IsPut S.left (λ a b. told C.least C.answers L.turns L.given L.taken clock.old clock.new a b) asked result source.old source.new links.old links.new }
+    ensures nbds { (asked : Nbds) → command.now ≡ Command.Nbd asked → IsExportedTo (door_seen P.told P.connected B.waits E.answers) (λ a b. told C.least C.answers L.turns L.given L.taken clock.old clock.new a b) asked result door.old door.new links.old links.new }
+    ensures door { is_nbd command.now ≡ false → door.new ≡ door.old }
     ensures lives { (asked : Lives) → command.now ≡ Command.Live asked → AtBoth (λ one one' two two'. RunsLive asked result (K.held sink.old) (K.held sink.new)
         (ends C.answers L.turns L.given L.taken one two clock.old) (ends C.answers L.turns L.given L.taken one' two' clock.new)
         × AreBlamed result (L.faults one) (L.faults one') (L.faults two) (L.faults two')) links.old links.new }
@@ -365,6 +406,6 @@ pub fn aoe<S: Source, K: Sink, D: Disk + Drop, L: Link, C: Clock, W: Watch, M: M
         → IsFaultless (S.faults source.old) (S.faults source.new) → IsFaultless (K.faults sink.old) (K.faults sink.new) → HasReplayed (script_of text) result }
 {
     run_command(
-        alloc, command, source, sink, disks, links, clock, watch, sides,
+        alloc, command, source, sink, disks, links, clock, watch, sides, door,
     )
 }

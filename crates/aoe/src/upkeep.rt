@@ -104,6 +104,7 @@ pub(crate) fn run_keep<K: Sink, D: Disk + Drop>(
     ensures links { (link : ℕ) → result ≢ Status.LinkFault link }
     ensures source { result ≢ Status.SourceFault }
     ensures usage { result ≢ Status.Usage }
+    ensures unheard { result ≢ Status.ClientFault }
     ensures there { All IsSome disks.new }
     ensures sink { Blamed (result ≡ Status.SinkFault) (K.faults sink.old) (K.faults sink.new) }
 {

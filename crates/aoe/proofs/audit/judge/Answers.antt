@@ -19,6 +19,9 @@ returns-in-Err-clause-links g c link e = (alone-other c.in-Err.refusal).0 link (
 pub returns-in-Err-clause-usage : goal.returns-in-Err-clause-usage
 returns-in-Err-clause-usage g c e = (alone-other c.in-Err.refusal).1 (rw c.refused_alone.ensures at e)
 
+pub returns-in-Err-clause-unheard : goal.returns-in-Err-clause-unheard
+returns-in-Err-clause-unheard g c e = (alone-other c.in-Err.refusal).2 (rw c.refused_alone.ensures at e)
+
 pub returns-in-Err-clause-source : goal.returns-in-Err-clause-source
 returns-in-Err-clause-source g c = unblamed (λ e. (alone-quiet c.in-Err.refusal).0 (rw c.refused_alone.ensures at e)) _
 
@@ -43,6 +46,9 @@ returns-clause-links g c link e = (audited-other c.audit_capture-ended.result).0
 
 pub returns-clause-usage : goal.returns-clause-usage
 returns-clause-usage g c e = (audited-other c.audit_capture-ended.result).1 (rw c.audited_as.ensures at e)
+
+pub returns-clause-unheard : goal.returns-clause-unheard
+returns-clause-unheard g c e = (audited-other c.audit_capture-ended.result).2 (rw c.audited_as.ensures at e)
 
 pub returns-clause-source : goal.returns-clause-source
 returns-clause-source g c =

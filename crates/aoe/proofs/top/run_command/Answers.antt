@@ -1,4 +1,4 @@
-use Rattle.aoe.proofs.Refusals.{copy-not-refused, live-not-refused, not-slot, not-some, tool-not-refused}
+use Rattle.aoe.proofs.Refusals.{copy-not-refused, live-not-refused, not-slot, not-some, served-not-refused, tool-not-refused}
 use Rattle.aoe.proofs.top.run_command.Goals as goal
 
 pub returns-in-Live-clause-refused : goal.returns-in-Live-clause-refused
@@ -24,3 +24,9 @@ returns-in-Put-clause-refused g c other slot e = absurd (not-slot _ (copy-not-re
 
 pub returns-in-Put-clause-unread : goal.returns-in-Put-clause-unread
 returns-in-Put-clause-unread g c other some = absurd (not-some _ (copy-not-refused _ c.run_put.ensures.status) some)
+
+pub returns-in-Nbd-clause-refused : goal.returns-in-Nbd-clause-refused
+returns-in-Nbd-clause-refused g c other slot e = absurd (not-slot _ (served-not-refused _ c.run_nbd.ensures.status) slot e)
+
+pub returns-in-Nbd-clause-unread : goal.returns-in-Nbd-clause-unread
+returns-in-Nbd-clause-unread g c other some = absurd (not-some _ (served-not-refused _ c.run_nbd.ensures.status) some)

@@ -1,5 +1,5 @@
 use Rattle.aoe.proofs.Blame.{retold}
-use Rattle.aoe.proofs.Upkeeps.{all-one, runs-keep, upkept-link, upkept-memory, upkept-sink, upkept-source, upkept-unrefused, upkept-usage}
+use Rattle.aoe.proofs.Upkeeps.{all-one, runs-keep, upkept-link, upkept-memory, upkept-sink, upkept-source, upkept-unheard, upkept-unrefused, upkept-usage}
 use Rattle.aoe.proofs.upkeep.run_keep.Goals as goal
 
 pub returns-clause-runs : goal.returns-clause-runs
@@ -21,6 +21,9 @@ returns-clause-source g c e = upkept-source c.act-ended.result.0 (rw c.upkept_as
 
 pub returns-clause-usage : goal.returns-clause-usage
 returns-clause-usage g c e = upkept-usage c.act-ended.result.0 (rw c.upkept_as.ensures at e)
+
+pub returns-clause-unheard : goal.returns-clause-unheard
+returns-clause-unheard g c e = upkept-unheard c.act-ended.result.0 (rw c.upkept_as.ensures at e)
 
 pub returns-clause-there : goal.returns-clause-there
 returns-clause-there g c = rw c.put_one.ensures (all-one c.act-ended.result.1)
