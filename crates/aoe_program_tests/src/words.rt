@@ -3,8 +3,9 @@ mod refused;
 mod slips;
 
 use aoe_args::{
-    Answer, Asking, Audit, Cfg, Command, CommandLine, Discover, Flush, Get, Live, Mask, PortKinds,
-    PortWords, Put, Reserve, Serve, SlipText, Soak, Stat, Switch, Tool, meant, read_words, slip_of,
+    Answer, Asking, Audit, Cfg, Command, CommandLine, Discover, Flush, Get, Live, Mask, Nbd,
+    PortKinds, PortWords, Put, Reserve, Serve, SlipText, Soak, Stat, Switch, Tool, meant,
+    read_words, slip_of,
 };
 use aoe_base::{Blob, Mac, NoMemory, Ports, TargetId};
 use aoe_lists::Dir;
@@ -87,17 +88,24 @@ fn add_links(alloc: Global, links: &[PortWords], joined: &mut Vec<u8>) -> Result
     Ok(())
 }
 
-/// What a line opens, its files and then its links, the file whose coming ends the run, behind an
-/// exclamation mark, and whether it is told how far the run has come.
+/// Adds a name that needn't be there, behind its mark.
+fn add_name(mark: &[u8], name: &Option<String>, joined: &mut Vec<u8>) -> Result<(), Fail> {
+    if let Some(name) = name {
+        add_part(joined, mark)?;
+        joined.extend_from_slice(name.as_bytes())?;
+    }
+    Ok(())
+}
+
+/// What a line opens, its files and then its links, its socket behind an at sign, the file whose coming
+/// ends the run behind an exclamation mark, and whether it is told how far the run has come.
 fn opened(alloc: Global, line: &str) -> Result<Vec<u8>, Fail> {
     let mut joined = Vec::new(alloc);
     if let Some(read) = read_line(alloc, line)? {
         add_files(read.files.as_slice(), &mut joined)?;
         add_links(alloc, read.links.as_slice(), &mut joined)?;
-        if let Some(name) = &read.stop {
-            add_part(&mut joined, b"!")?;
-            joined.extend_from_slice(name.as_bytes())?;
-        }
+        add_name(b"@", &read.socket, &mut joined)?;
+        add_name(b"!", &read.stop, &mut joined)?;
         if read.is_told {
             add_part(&mut joined, b"told")?;
         }
@@ -353,6 +361,22 @@ fn put(at: u64, turns: u32, lifetime: u32, verify: bool, no_flush: bool) -> Comm
     })
 }
 
+/// What `nbd` asks for where nothing is said of it.
+fn nbd() -> Nbd {
+    Nbd {
+        asking: Asking {
+            port: mac(11),
+            turns: 5000,
+        },
+        id: device(),
+        lifetime: 2000,
+        read_only: false,
+        flushes: true,
+        once: false,
+        idle: None,
+    }
+}
+
 #[test]
 fn names_files_and_links(rt: HostRuntime) -> Result<(), Fail> {
     let cases = [
@@ -382,6 +406,14 @@ fn names_files_and_links(rt: HostRuntime) -> Result<(), Fail> {
         ("put --progress e1.0 0 --tap y --verify", "y told"),
         ("live 16 10 --one a --two b --vxlan 0", "a>b#0 b>a#0"),
         ("live 16 10 --one-tap a --two-tap b", "a b"),
+        (
+            "nbd e1.0 --socket /run/aoe/e1.0 --tap t",
+            "t @/run/aoe/e1.0",
+        ),
+        (
+            "nbd --stop s --socket=u e1.0 --local x --peers y",
+            "x>y @u !s",
+        ),
     ];
     opens(&rt, rt.alloc(), &cases)
 }

@@ -172,3 +172,38 @@ fn reads_flush_get_and_put(rt: HostRuntime) -> Result<(), Fail> {
     ];
     reads(&rt, rt.alloc(), ENDS, &cases)
 }
+
+#[test]
+fn reads_nbd(rt: HostRuntime) -> Result<(), Fail> {
+    let other = Nbd {
+        asking: Asking {
+            port: mac(0xff),
+            turns: 1,
+        },
+        lifetime: 50,
+        read_only: true,
+        flushes: false,
+        once: true,
+        idle: Some(1_000_000),
+        ..nbd()
+    };
+    let cases = [
+        ("nbd e1.2 --socket s", Command::Nbd(nbd())),
+        ("nbd --idle 0 --socket=s e1.2", Command::Nbd(nbd())),
+        (
+            "nbd e1.2 --socket s --port 02:00:00:00:00:ff --turns 1 --lifetime 50 --read-only --no-flush --once --idle 1000000",
+            Command::Nbd(other),
+        ),
+    ];
+    reads(&rt, rt.alloc(), ENDS, &cases)
+}
+
+#[test]
+fn reads_a_path_that_has_room(rt: HostRuntime) -> Result<(), Fail> {
+    let longest = long_line(rt.alloc(), "nbd e1.2 --tap t --socket ", "s", 107)?;
+    let longer = long_line(rt.alloc(), "nbd e1.2 --tap t --socket ", "s", 108)?;
+    let read = spells(rt.alloc(), longest.as_str(), "", &Command::Nbd(nbd()))?;
+    let refused = is_refused(rt.alloc(), longer.as_str(), "")?;
+    assert!(rt; read && refused);
+    Ok(())
+}

@@ -130,3 +130,24 @@ fn refuses_ports_of_switch(rt: HostRuntime) -> Result<(), Fail> {
     ];
     refuses(&rt, rt.alloc(), "", &lines)
 }
+
+#[test]
+fn refuses_words_of_nbd(rt: HostRuntime) -> Result<(), Fail> {
+    let lines = [
+        "nbd",
+        "nbd e1.0",
+        "nbd --socket s",
+        "nbd e1.0 --socket",
+        "nbd e1.0 --socket ",
+        "nbd e1.0 --socket=",
+        "nbd e1.0 --socket s --socket s",
+        "nbd e1.0 s --socket s",
+        "nbd e1.0 --socket s --lifetime 600001",
+        "nbd e1.0 --socket s --turns 0",
+        "nbd e1.0 --socket s --idle 1000001",
+        "nbd e1.0 --socket s --read-only=1",
+        "nbd e1.0 --socket s --verify",
+        "nbd e1.0 --socket s --tap t",
+    ];
+    refuses(&rt, rt.alloc(), ENDS, &lines)
+}

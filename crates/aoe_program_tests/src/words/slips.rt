@@ -278,3 +278,54 @@ fn says_what_is_wrong_with_actions_and_ports(rt: HostRuntime) -> Result<(), Fail
     ];
     says(&rt, rt.alloc(), &cases)
 }
+
+#[test]
+fn says_what_is_wrong_with_nbd(rt: HostRuntime) -> Result<(), Fail> {
+    let cases = [
+        ("nbd e1.0 --socket s --tap t --read-only", "a command"),
+        ("nbd --socket s --tap t", "DEV is missing"),
+        ("nbd e1.0 --tap t", "--socket is missing"),
+        (
+            "nbd e1.0 --tap t --socket",
+            "--socket: its value is missing",
+        ),
+        (
+            "nbd e1.0 --tap t --socket=",
+            "--socket=: no value behind its =",
+        ),
+        (
+            "nbd e1.0 --tap t --socket ",
+            "a word is empty (cfg DEV clear empties a string)",
+        ),
+        (
+            "nbd e1.0 --socket s",
+            "--local and --peers, or --tap, are missing",
+        ),
+        ("nbd e1.0 s --socket s", "s: one word too many"),
+        (
+            "nbd e1.0 --tap t --socket s --idle 1000001",
+            "--idle: 1000001 isn't a number from 0 to 1000000",
+        ),
+        (
+            "nbd e1.0 --tap t --socket s --once=1",
+            "--once=1: this option has no value",
+        ),
+        (
+            "get e1.0 --tap t --socket s",
+            "--socket: not an option of this command",
+        ),
+    ];
+    says(&rt, rt.alloc(), &cases)
+}
+
+#[test]
+fn says_that_a_path_is_too_long(rt: HostRuntime) -> Result<(), Fail> {
+    let path = long_line(rt.alloc(), "", "s", 108)?;
+    let line = long_line(rt.alloc(), "nbd e1.0 --tap t --socket ", path.as_str(), 1)?;
+    let said = slip(rt.alloc(), line.as_str())?;
+    let wanted = format!(in rt.alloc();
+        "--socket: {path} isn't the path of a socket, of 107 bytes at most"
+    )?;
+    assert!(rt; said.as_str() == wanted.as_str());
+    Ok(())
+}
