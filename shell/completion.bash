@@ -8,11 +8,11 @@ _aoe() {
         return
     fi
     case $before in
-        --tap | --one-tap | --two-tap) # shell/make: options with a file
+        --tap | --one-tap | --two-tap | --socket) # shell/make: options with a file
             mapfile -t COMPREPLY < <(compgen -f -- "$word")
             return
             ;;
-        --durable | --verify | --no-flush | --progress | --long | --sectors) ;; # shell/make: options without a value
+        --durable | --verify | --no-flush | --progress | --long | --sectors | --read-only | --once) ;; # shell/make: options without a value
         --*) return ;;
     esac
     # The words of the synopsis that are no names of values: options and actions.
