@@ -5,7 +5,7 @@ ghost use Rattle.aoe_base.specs.Sizes.{most_copied};
 
 use crate::checks::holds;
 use aoe_base::{Blob, Millis, Span, Ticket};
-use aoe_desk::{Desk, MAX_OPEN, MAX_UNDER_WAY};
+use aoe_desk::{Desk, MAX_OPEN};
 use aoe_initiator::{Done, Op, Outcome};
 use aoe_nbd::NbdError;
 use std::test::Fail;
@@ -340,7 +340,7 @@ fn a_client_that_left_is_not_answered(rt: HostRuntime) -> Result<(), Fail> {
 #[test]
 fn a_desk_is_bounded(rt: HostRuntime) -> Result<(), Fail> {
     let mut requests = desk(&rt)?;
-    for _ in 0..MAX_OPEN {
+    'requests: for _ in 0..MAX_OPEN {
         holds(&rt, refuse(&mut requests, 1), "a request");
     }
     holds(&rt, !requests.has_room(0), "the 129th request");
@@ -348,30 +348,10 @@ fn a_desk_is_bounded(rt: HostRuntime) -> Result<(), Fail> {
     holds(&rt, requests.has_room(0), "after a reply");
 
     let mut bytes = desk(&rt)?;
-    bytes.read(
-        1,
-        Span {
-            at: 0,
-            count: 32_768,
-        },
-    );
-    holds(&rt, bytes.has_room(16_777_216), "16 MiB");
-    bytes.read(
-        2,
-        Span {
-            at: 0,
-            count: 32_768,
-        },
-    );
-    holds(&rt, bytes.has_room(0) && !bytes.has_room(512), "32 MiB");
-
-    for ticket in 1..=u64::from(MAX_UNDER_WAY) {
-        holds(
-            &rt,
-            hand(&mut bytes, ticket) != Next::Nothing,
-            "an operation",
-        );
-    }
+    let are_taken = read(&mut bytes, 1, 0, 32_768) && read(&mut bytes, 2, 0, 32_768);
+    let is_full = bytes.has_room(0) && !bytes.has_room(512);
+    holds(&rt, are_taken && is_full, "32 MiB");
+    holds(&rt, hand_all(&mut bytes, 4_096), "the operations");
     holds(
         &rt,
         hand(&mut bytes, 5_000) == Next::Nothing,
@@ -380,7 +360,7 @@ fn a_desk_is_bounded(rt: HostRuntime) -> Result<(), Fail> {
     let one = ends(&mut bytes, 17, Outcome::AoeError(2));
     holds(
         &rt,
-        one && hand(&mut bytes, 5_000) == Next::Read(8_192, 2),
+        one && hand(&mut bytes, 5_001) == Next::Read(8_192, 2),
         "after an outcome",
     );
     Ok(())
