@@ -166,7 +166,7 @@ clear_set marks s value from from' clear fewer low = λ k le lt. elim (cases_eq 
 module _ (words : List ℕ) (len many from s v : ℕ) (value : Bool) (marks : AreMarks words len many from) (within : s < len)
     (same : eqb (bit_at v (s % 64)) 1 ≡ value) (others : (i : ℕ) → i < 64 → i ≢ s % 64 → bit_at v i ≡ bit_at (get_or words (s / 64) 0) i) where
   pub set_is : bits_of (set words (s / 64) v) len ≡ set (bits_of words len) s value
-  set_is = bits_of-set words len s v value within marks.room same others
+  set_is = bits_of-set words len s v value within (omega (arith, marks.room)) same others
 
   counted_for : (was : Bool) (many' : ℕ) → was ≡ get_or (bits_of words len) s false → many' + cond was 1 0 ≡ many + cond value 1 0
       → many' ≡ count_of (set (bits_of words len) s value)

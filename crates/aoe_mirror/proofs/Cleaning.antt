@@ -1,10 +1,9 @@
 -- The second sector of a mark disk, which says whether the mirror is clean.
-use Rattle.std.proofs.Common.{◌≡◌, ◌≤◌, ◌<◌, ◌*◌, ◌/◌, ◌==◌, ◌⊎◌, ℕ, zero, suc, Bool, true, false, not, Option, None, Some, IfOk, IfSome, option_map, List, [], length, take, drop, replicate, Result, Ok, Err, OnOk, is_err, refl, sym, ap, ◌∙◌, subst, inl, inr, arith, eq-eqb, ne_eqb}
+use Rattle.std.proofs.Common.{◌≡◌, ◌≤◌, ◌<◌, ◌*◌, ◌/◌, ◌⊎◌, ℕ, zero, suc, Bool, true, false, not, Option, None, Some, IfOk, IfSome, option_map, List, [], length, take, drop, replicate, Result, Ok, Err, OnOk, is_err, refl, sym, ap, ◌∙◌, subst, inl, inr, arith, eq-eqb, ne_eqb}
 use Rattle.std.proofs.lemmas.Bool.{OnTrue_at, both_ways, cases_eq, cases_lt}
 use Rattle.std.proofs.lemmas.List.{drop_all, get_or-replicate, length-drop, take_all}
-use Rattle.std.specs.List.{list_all}
 use Rattle.std.specs.Prelude.{slice_set}
-use Rattle.aoe_disk.specs.State.{BothTell, CanLeave, Contents, DiskState, HasShape, IsDisk, is_loose, sector}
+use Rattle.aoe_disk.specs.State.{BothTell, Contents, DiskState, HasShape, IsDisk, is_loose, sector}
 use Rattle.aoe_disk.specs.Calls.{IsRange, IsRun, Puts, Reads, Syncs, SyncsTo, Writes, WritesTo}
 use Rattle.aoe_disk.specs.Sectors.{Calms, IsOutside}
 use Rattle.aoe_disk.proofs.Pieces.{is_loose-replicate}
@@ -14,7 +13,7 @@ use Rattle.aoe_mirror.specs.Calls.{Answer, CopiesAll, CopiesNext, MarkFailed, Mi
 use Rattle.aoe_mirror.specs.Clean.{AreAlike, AreEqual, CrashesTruly, IsClean, IsMarked, KeepsName, KeepsWord, MarksClean, NothingLoose, Says, SaysTruly, TellAlike, clean_at, clean_in}
 use Rattle.aoe_mirror.specs.Marks.{count_of}
 use Rattle.aoe_mirror.specs.Mirror.{FindsMark, ReadsMark, Sees, first_of, found_in, second_of}
-use Rattle.aoe_mirror.specs.Sides.{IsMark, IsMirror, Names, Pair, both, mark_in, named, pair_of, seen, shown, side_in}
+use Rattle.aoe_mirror.specs.Sides.{IsMark, IsMirror, Names, Pair, both, pair_of, seen, shown, side_in}
 use Rattle.aoe_mirror.specs.declared.clean.Found.{Found}
 use Rattle.aoe_mirror.specs.declared.sides.Sides.{Sides}
 use Rattle.aoe_mirror.proofs.Bits.{count_none, next_set, none_count, set_some}
@@ -43,23 +42,23 @@ unfolding clean_in
 is_clean_in zero some = absurd (omega (arith, some))
 is_clean_in (suc n) some = rw (zeros n) refl
 
-none_in : clean_in [] ≡ Some false
+pub none_in : clean_in [] ≡ Some false
 unfolding clean_in
 none_in = refl
 
 -- A CALL OF ANOTHER SECTOR
 
 -- sector t is as it was, and isn't newly loose
-abbrev Kept : ℕ → Contents → Contents → Type 0
+abbrev pub Kept : ℕ → Contents → Contents → Type 0
 Kept t a b = (sector b.bytes t ≡ sector a.bytes t) × (is_loose a.loose t ≡ false → is_loose b.loose t ≡ false)
 
 kept_calm : (t : ℕ) (a b c : Contents) → Kept t a b → Calms b c → Kept t a c
 kept_calm t a b c k m = (ap (λ (l : List ℕ). sector l t) m.bytes ∙ k.0, λ off. m.kept t (k.1 off))
 
-says_kept : (clean : Bool) (a b : Contents) → Says clean a → Kept 1 a b → Says clean b
+pub says_kept : (clean : Bool) (a b : Contents) → Says clean a → Kept 1 a b → Says clean b
 says_kept clean a b s k = record { kept = k.1 s.kept; says = clean_is b.bytes ∙ ap clean_in k.0 ∙ sym (clean_is a.bytes) ∙ s.says }
 
-names_kept : (side : ℕ) (a b : Contents) → Names side a → Kept 0 a b → Names side b
+pub names_kept : (side : ℕ) (a b : Contents) → Names side a → Kept 0 a b → Names side b
 names_kept side a b n k =
     let e : side_in (sector b.bytes 0) ≡ Some side = ap side_in k.0 ∙ sym (mark_is a.bytes) ∙ n.whole in
     record { kept = k.1 n.kept; side = (named_in b.bytes side e).0; whole = mark_is b.bytes ∙ e }
@@ -196,6 +195,10 @@ module _ (a b c : DiskState) (r : Answer) (sync : SyncsTo r a b) (ok : is_err r 
   pub looked_calm : BothTell Calms a.contents c.contents
   looked_calm = rw same (synced_calm r a b sync)
 
+  pub looked_quiet : {E : Type 0} (q : Result (Option Found) E) → OnOk q (IfSome c.contents NothingLoose)
+  looked_quiet (Ok found) = rw same (synced_quiet r a b ok sync)
+  looked_quiet (Err e) = tt
+
   pub looked_run : (bad : Bool) → IsRun 1 bad b c → IsRun 2 bad a c
   looked_run bad run = run_then 1 1 bad a b c (rw ok at sync.call) run
 
@@ -224,7 +227,7 @@ module _ (a b c : DiskState) (r : Answer) (sync : SyncsTo r a b) (ok : is_err r 
 pub none_stale : (n : ℕ) → count_of (replicate n false) ≡ 0
 none_stale n = none_count (replicate n false) (λ s. is_loose-replicate n s)
 
-sector_past : (bytes : List ℕ) (n s : ℕ) → length bytes ≡ 512 * n → n ≤ s → sector bytes s ≡ []
+pub sector_past : (bytes : List ℕ) (n s : ℕ) → length bytes ≡ 512 * n → n ≤ s → sector bytes s ≡ []
 sector_past bytes n s size past = ap (take 512) (drop_all (512 * s) bytes (omega (arith, size, past)))
 
 -- all is stale

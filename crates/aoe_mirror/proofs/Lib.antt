@@ -4,7 +4,7 @@
 -- runs: below a sector at most 64 are stale for each failure so far.
 --
 -- Read `Bits`, `Told`, `Whole`, `Quiet`, `Steps`, then `Reading`, `Writing`, `Syncing`,
--- `Copying`, `Passing`, `Surviving`, `Cleaning`.
+-- `Copying`, `Passing`, `Surviving`, `Cleaning`, `Naming`, `Settling`.
 --
 -- `IsMarked` is apart from it: the mark disk says that a mirror is clean only while it is, and its second
 -- sector is written only then.
@@ -22,5 +22,7 @@ pub mod Copying
 pub mod Passing
 pub mod Surviving
 pub mod Cleaning
+pub mod Naming
+pub mod Settling
 pub mod Covering
 pub mod Telling

@@ -1,24 +1,19 @@
 -- What a crash of all three disks leaves, and a mark disk that is read.
-use Rattle.std.proofs.Common.{◌≡◌, ◌≤◌, ◌<◌, ◌*◌, ◌==◌, ◌⊎◌, ℕ, zero, suc, Bool, true, false, Option, None, Some, IfSome, List, length, take, drop, get_or, replicate, Result, Ok, Err, OnOk, is_err, refl, sym, ap, ◌∙◌, inl, inr, arith, eq-eqb, if◌then◌else◌}
+use Rattle.std.proofs.Common.{◌≡◌, ◌≤◌, ◌<◌, ◌==◌, ◌⊎◌, ℕ, zero, suc, Bool, true, false, Option, None, Some, IfSome, List, length, drop, get_or, replicate, Result, Ok, Err, OnOk, is_err, refl, sym, ap, ◌∙◌, inl, inr, arith, eq-eqb, if◌then◌else◌}
 use Rattle.std.proofs.lemmas.Bool.{both_ways, cases_Bool}
 use Rattle.std.proofs.lemmas.List.{get_or-take}
 use Rattle.std.specs.List.{list_all}
 use Rattle.std.specs.Prelude.{slice_set}
-use Rattle.aoe_disk.specs.State.{CanLeave, Contents, DiskState, HasShape, IsDisk, BothTell, is_loose, sector}
-use Rattle.aoe_disk.specs.Calls.{IsRun, Puts, Reads, Syncs, SyncsTo, Writes, WritesTo}
-use Rattle.aoe_disk.specs.Sectors.{Calms}
-use Rattle.aoe_disk.proofs.Runs.{run_then}
+use Rattle.aoe_disk.specs.State.{CanLeave, Contents, DiskState, HasShape, IsDisk, is_loose, sector}
+use Rattle.aoe_disk.specs.Calls.{Puts, Syncs, SyncsTo, Writes, WritesTo}
 use Rattle.aoe_disk.proofs.Touching.{sector-with_sector, settles_kept}
 use Rattle.aoe_mirror.specs.Sides.{Agree, IsMirror, Names, Pair, Survives, both, mark_in, named, reopened, seen, side_in}
 use Rattle.aoe_mirror.specs.Calls.{Answer}
-use Rattle.aoe_mirror.specs.Mirror.{FindsMark, ReadsMark}
-use Rattle.aoe_mirror.proofs.Told.{and_if, if_mono, told_if, told_mono}
+use Rattle.aoe_mirror.proofs.Told.{told_if, told_mono}
 use Rattle.aoe_mirror.proofs.Whole.{Fit, seen_at}
 use Rattle.aoe_mirror.proofs.Quiet.{parts_in, settled_by}
 use Rattle.aoe_mirror.proofs.Steps.{fit_of}
-use Rattle.aoe_mirror.proofs.Reading.{ok_given}
 use Rattle.aoe_mirror.proofs.Writing.{put_by}
-use Rattle.aoe_mirror.proofs.Syncing.{Quiet, synced_calm, synced_quiet}
 
 -- the first byte of a disk
 first_byte : (bytes : List ℕ) → get_or bytes 0 0 ≡ get_or (sector bytes 0) 0 0

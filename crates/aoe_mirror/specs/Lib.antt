@@ -5,3 +5,4 @@ pub mod Clean
 pub mod Mirror
 pub mod Covering
 pub mod Watching
+pub mod Names

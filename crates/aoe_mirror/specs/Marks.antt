@@ -47,10 +47,10 @@ pub record IsFirstRun (marks : List Bool) (from at n : ℕ) : Type 0 where
 abbrev pub IsNextRun : List Bool → ℕ → ℕ → ℕ → Type 0
 IsNextRun marks from at n = IsFirstRun marks from at n ⊎ (IsClear marks from (length marks) × IsFirstRun marks 0 at n)
 
--- what the fields of a set of marks keep
+-- what the fields of a set of marks keep: they take a bit for each mark, in whole words
 pub record AreMarks (words : List ℕ) (len many from : ℕ) : Type 0 where
   pub bound : len ≤ 2 ^ 40
-  pub room : len ≤ 64 * length words
+  pub room : length words ≡ (len + 63) / 64
   pub low : from ≤ len
   pub count : many ≡ count_of (bits_of words len)
   pub lowest : IsClear (bits_of words len) 0 from

@@ -1,7 +1,8 @@
 //! The second sector of a mark disk, which says whether both sides are equal.
 ghost use Rattle.std.specs.Prelude.{◌≡◌, ◌<◌, IfSome, OnOk, Some, is_err, length};
-ghost use Rattle.aoe_disk.specs.State.{IsDisk};
+ghost use Rattle.aoe_disk.specs.State.{BothTell, IsDisk};
 ghost use Rattle.aoe_disk.specs.Calls.{IsRun};
+ghost use Rattle.aoe_disk.specs.Sectors.{Touches};
 ghost use Rattle.aoe_mirror.specs.Clean.{KeepsName, Says, clean_in};
 
 use crate::sides::are_zeros;
@@ -15,8 +16,8 @@ const CLEAN: u8 = 0xc3;
 /// What was found on a mark disk: the side that leads, and whether the mirror is clean.
 #[derive(Clone, Copy)]
 pub struct Found {
-    pub(crate) side: u8,
-    pub(crate) is_clean: bool,
+    pub side: u8,
+    pub is_clean: bool,
 }
 
 /// What a second sector of a mark disk says, where it is one: whether the mirror is clean.
@@ -58,6 +59,8 @@ pub(crate) fn write_clean<D: Disk>(disk: &mut D, clean: bool) -> Result<(), Fail
     ensures run { IsRun 2 (is_err result) (D.state disk.old) (D.state disk.new) }
     ensures says { OnOk result (IfSome (D.state disk.new).contents (Says clean)) }
     ensures name { KeepsName (D.state disk.old) (D.state disk.new) }
+    ensures touches { BothTell (Touches 1 1)
+        (D.state disk.old).contents (D.state disk.new).contents }
 {
     let marked = sector_of(clean);
     match disk.write(1, &marked) {

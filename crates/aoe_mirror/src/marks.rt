@@ -50,7 +50,7 @@ impl Marks {
         requires { len ≤ 2 ^ 40 }
         ensures { IfOk result (λ marks. marks ≡ replicate len true) }
     {
-        let words = Vec::from_elem(alloc, u64::MAX, len / 64 + 1)?;
+        let words = Vec::from_elem(alloc, u64::MAX, len.div_ceil(64))?;
         Ok(Marks {
             words,
             len,
@@ -64,7 +64,7 @@ impl Marks {
         requires { len ≤ 2 ^ 40 }
         ensures { IfOk result (λ marks. marks ≡ replicate len false) }
     {
-        let words = Vec::from_elem(alloc, 0, len / 64 + 1)?;
+        let words = Vec::from_elem(alloc, 0, len.div_ceil(64))?;
         Ok(Marks {
             words,
             len,

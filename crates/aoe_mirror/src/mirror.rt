@@ -65,13 +65,14 @@ fn read_two<D: Disk>(disk: &mut D) -> Result<Option<Found>, Failed>
     }
 }
 
-// What a mark disk says, after a sync.
-fn read_mark<D: Disk>(disk: &mut D) -> Result<Option<Found>, Failed>
+/// What a mark disk says, after a sync: nothing where one of its first two sectors is no mark's.
+pub fn read_mark<D: Disk>(disk: &mut D) -> Result<Option<Found>, Failed>
     requires room { 0 < (D.state disk.old).sectors }
     requires disk { IsDisk (D.state disk.old) }
     ensures reads { IfOk result (λ found. ReadsMark found (D.state disk.old) (D.state disk.new)) }
     ensures run { IsRun 2 (is_err result) (D.state disk.old) (D.state disk.new) }
     ensures calm { BothTell Calms (D.state disk.old).contents (D.state disk.new).contents }
+    ensures quiet { OnOk result (IfSome (D.state disk.new).contents NothingLoose) }
 {
     if let Err(Failed) = disk.sync() {
         return Err(Failed);

@@ -2,8 +2,9 @@
 ghost use Rattle.std.specs.Prelude.{◌≡◌, ◌≤◌, ◌<◌, ◌+◌, ◌-◌, ◌/◌, ◌==◌, ◌⊎◌, ℕ, length, is_err, IfErr, IfSome, MatchOption, None, OnOk, Some, false, replicate, true};
 ghost use Rattle.std.specs.List.{list_all};
 ghost use Rattle.aoe_base.specs.Sizes.{scratch_bytes};
-ghost use Rattle.aoe_disk.specs.State.{IsDisk};
+ghost use Rattle.aoe_disk.specs.State.{BothTell, IsDisk};
 ghost use Rattle.aoe_disk.specs.Calls.{IsRange, IsRun};
+ghost use Rattle.aoe_disk.specs.Sectors.{Touches};
 ghost use Rattle.aoe_mirror.specs.Sides.{IsMark, IsMirror, Names, both, pair_of, side_in};
 ghost use Rattle.aoe_mirror.specs.Mirror.{first_of, second_of};
 ghost use Rattle.aoe_mirror.specs.Marks.{AreSet, IsNextRun, count_of};
@@ -64,14 +65,16 @@ fn mark_of(side: u8) -> [u8; SECTOR_LEN]
     marked
 }
 
-// Makes the mark disk name this side, so that a crash can't undo it.
-fn write_mark<D: Disk>(disk: &mut D, side: u8) -> Result<(), Failed>
+/// Makes the mark disk name this side, so that a crash can't undo it.
+pub(crate) fn write_mark<D: Disk>(disk: &mut D, side: u8) -> Result<(), Failed>
     requires room { 0 < (D.state disk.old).sectors }
     requires side { side ≤ 1 }
     requires disk { IsDisk (D.state disk.old) }
     ensures run { IsRun 2 (is_err result) (D.state disk.old) (D.state disk.new) }
     ensures named { OnOk result (IfSome (D.state disk.new).contents (Names side)) }
     ensures word { KeepsWord (D.state disk.old) (D.state disk.new) }
+    ensures touches { BothTell (Touches 0 1)
+        (D.state disk.old).contents (D.state disk.new).contents }
 {
     let marked = mark_of(side);
     match disk.write(0, &marked) {

@@ -1,4 +1,4 @@
-use Rattle.std.proofs.Common.{◌≡◌, ◌∙◌, ap, is_err, length, take, drop, arith}
+use Rattle.std.proofs.Common.{◌≡◌, ◌∙◌, ap, is_err, length, take, arith}
 use Rattle.aoe_mirror.specs.Clean.{clean_in}
 use Rattle.aoe_mirror.specs.Mirror.{found_in}
 use Rattle.aoe_mirror.specs.Sides.{side_in}

@@ -1,6 +1,7 @@
 use Rattle.std.proofs.Common.{ap, is_err}
 use Rattle.aoe_mirror.proofs.Cleaning.{word_synced, word_written}
 use Rattle.aoe_mirror.proofs.Surviving.{mark_written_if}
+use Rattle.aoe_mirror.proofs.Naming.{touch_synced, touch_written}
 use Rattle.aoe_mirror.proofs.sides.write_mark.Goals as goal
 
 pub returns-in-Ok-clause-named : goal.returns-in-Ok-clause-named
@@ -17,3 +18,11 @@ pub returns-in-Err-clause-word : goal.returns-in-Err-clause-word
 returns-in-Err-clause-word g c =
     word_written c.mark_of-marked.result c.mark_of-marked.ensures.len (g.D.Disk.state c.args.disk.now) (g.D.Disk.state c.write.new.self) c.write.result
     c.requires.disk c.requires.room c.write.ensures
+
+pub returns-in-Ok-clause-touches : goal.returns-in-Ok-clause-touches
+returns-in-Ok-clause-touches g c = touch_synced 0 c.mark_of-marked.result c.mark_of-marked.ensures.len (g.D.Disk.state c.args.disk.now)
+    (g.D.Disk.state c.write.new.self) c.write.result c.requires.disk c.requires.room c.write.ensures c.sync.result (g.D.Disk.state c.sync.new.self) c.sync.ensures
+
+pub returns-in-Err-clause-touches : goal.returns-in-Err-clause-touches
+returns-in-Err-clause-touches g c = touch_written 0 c.mark_of-marked.result c.mark_of-marked.ensures.len (g.D.Disk.state c.args.disk.now)
+    (g.D.Disk.state c.write.new.self) c.write.result c.requires.disk c.requires.room c.write.ensures

@@ -1,4 +1,4 @@
-use Rattle.std.proofs.Common.{◌+◌, ◌/◌, ◌-◌, ◌^◌, length, sym, ap, arith}
+use Rattle.std.proofs.Common.{◌-◌, ◌^◌, length, sym, ap, arith}
 use Rattle.std.proofs.lemmas.List.{length-replicate}
 use Rattle.aoe_mirror.proofs.Bits.{bits_of_ones, count_all}
 use Rattle.aoe_mirror.proofs.marks.Marks.all.Goals as goal
@@ -8,10 +8,10 @@ invariant_of-result c =
     let words = c.in_ok-words.words.items in
     let n = c.args.len in
     let ones = c.in_ok-words.ensures.items_if_clones_equal (λ y e. e) in
-    let all = bits_of_ones words (n / 64 + 1) n ones (omega arith) in
+    let all = bits_of_ones words c.div_ceil.result n ones (omega (arith, c.div_ceil.ensures)) in
     record {
       bound = c.requires;
-      room = omega (arith, ap length ones, length-replicate (n / 64 + 1) (2 ^ 64 - 1));
+      room = omega (arith, c.div_ceil.ensures, ap length ones, length-replicate c.div_ceil.result (2 ^ 64 - 1));
       low = omega arith;
       count = rw all (sym (count_all n));
       lowest = λ s le lt. absurd (omega arith);
@@ -19,4 +19,4 @@ invariant_of-result c =
 
 pub returns : goal.returns
 returns c =
-    bits_of_ones c.in_ok-words.words.items (c.args.len / 64 + 1) c.args.len (c.in_ok-words.ensures.items_if_clones_equal (λ y e. e)) (omega arith)
+    bits_of_ones c.in_ok-words.words.items c.div_ceil.result c.args.len (c.in_ok-words.ensures.items_if_clones_equal (λ y e. e)) (omega (arith, c.div_ceil.ensures))

@@ -1,4 +1,4 @@
-use Rattle.std.proofs.Common.{◌≡◌, ◌<◌, ◌∙◌, Some, ap, arith, length, not, replicate, rules}
+use Rattle.std.proofs.Common.{◌≡◌, ◌∙◌, Some, ap, arith, length, not, replicate, rules}
 use Rattle.aoe_base.specs.Sizes.{scratch_bytes}
 use Rattle.aoe_mirror.specs.Mirror.{ReadsMark}
 use Rattle.aoe_mirror.proofs.Cleaning.{mounted_alike, mounted_marked, mounted_names}

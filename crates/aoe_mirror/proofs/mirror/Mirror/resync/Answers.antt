@@ -1,6 +1,5 @@
-use Rattle.std.proofs.Common.{◌≡◌, ◌≤◌, ◌++◌, ◌+◌, ◌-◌, ◌∙◌, ap, arith, is_err, length, take, drop}
+use Rattle.std.proofs.Common.{◌≡◌, ◌≤◌, ◌++◌, ◌+◌, ◌-◌, ◌∙◌, ap, arith, is_err, length, drop}
 use Rattle.std.proofs.lemmas.List.{length-append, length-drop, length-take-le}
-use Rattle.aoe_base.specs.Sizes.{scratch_bytes}
 use Rattle.aoe_mirror.specs.Sides.{pair_of}
 use Rattle.aoe_mirror.proofs.Cleaning.{marked_next}
 use Rattle.aoe_mirror.proofs.Copying.{copied_fewer}
