@@ -2,7 +2,7 @@
 use Rattle.std.proofs.Common.{◌≡◌, ◌≤◌, ◌+◌, ◌-◌, ◌^◌, ◌==◌, ◌⊎◌, ℕ, min, zero, suc, Bool, true, false, List, [], ◌∷◌, ◌++◌, length, length-append, Option, Some, None, IfSome, Result, Ok, Err, is_err, is_some, refl, sym, ap, subst, ◌∙◌, inl, inr, arith, eq-eqb, ne_eqb, get_or}
 use Rattle.std.proofs.lemmas.Bool.{both_ways, cases_eq, cases_lt}
 use Rattle.std.proofs.lemmas.Option.{same_Some}
-use Rattle.std.specs.Prelude.{IsSome, OnErr, slice_get}
+use Rattle.std.specs.Prelude.{IfErr, IfOk, IsSome, OnErr, slice_get}
 use Rattle.std.specs.Option.{option_map}
 use Rattle.aoe_base.specs.Faults.{Rose}
 use Rattle.aoe_base.specs.declared.failure.Failed.{Failed}
@@ -12,14 +12,14 @@ use Rattle.aoe_disk.specs.Sectors.{Calms}
 use Rattle.aoe_disk.specs.State.{BothTell, Contents, DiskState, is_loose}
 use Rattle.aoe_disk.proofs.Touching.{settles_calm, settles_kept}
 use Rattle.aoe_keep.specs.Found.{AlwaysFinds}
-use Rattle.aoe_keep.specs.Keep.{Kept}
+use Rattle.aoe_keep.specs.Keep.{HasMounted, Kept}
 use Rattle.aoe_mirror.specs.Calls.{Answer, Blames, CopiesAll, Counts, MirrorSyncs, SideFailed}
 use Rattle.aoe_mirror.specs.Clean.{AreEqual, CrashesTruly, MarksClean, SaysTruly}
 use Rattle.aoe_mirror.specs.Covering.{IsRunning, IsSince, first_count, has_held, is_covered, stored}
 use Rattle.aoe_mirror.specs.Marks.{count_of}
 use Rattle.aoe_mirror.specs.Mirror.{Mirrored, Mounts, first_of, pair, second_of, state_of}
 use Rattle.aoe_mirror.specs.Sides.{IsMirror, Pair, both, disk_of, pair_of, seen, shown, side_of}
-use Rattle.aoe_mirror.specs.Watching.{HasTold, TellsChanges, standing_of}
+use Rattle.aoe_mirror.specs.Watching.{TellsChanges, standing_of}
 use Rattle.aoe_mirror.specs.declared.sides.Sides.{Sides}
 use Rattle.aoe_mirror.specs.declared.watch.MirrorEvent.{MirrorEvent}
 use Rattle.aoe_mirror.specs.declared.watch.Standing.{Standing}
@@ -34,10 +34,12 @@ use Rattle.aoe_mirror.proofs.Told.{told_if, told_mono, told_then, told_to}
 use Rattle.aoe_mirror.proofs.Whole.{seen_at}
 use Rattle.aoe_serve.specs.Arrivals.{at_slot}
 use Rattle.aoe_serve.specs.Exporting.{AtFirst, FindsAll, HasRun, Outside, SyncsSlot, Tells, arrivals_in, first_failed}
-use Rattle.aoe_serve.specs.Mirroring.{AreEqualBut, EndsMirror, HasFailed, IsBegun, IsLeftStale, IsMirrored, IsOf, LeavesAlone, RanMirror, TellsOf, faults_of, has_ended}
+use Rattle.aoe_serve.specs.Mirroring.{AreEqualBut, AreOf, EndsMirror, HasFailed, HasToldSince, IsBegun, IsLeftStale, IsMirrored, IsOf, LeavesAlone, RanCopied, RanMirror, Stops, TellsOf, TellsSince, faults_of, has_ended, whole_under}
 use Rattle.aoe_serve.specs.Slots.{EachSlot, IsServed, Slot, slot_of, slots_of}
 use Rattle.aoe_serve.specs.declared.over_mirror.MirrorDisks.{MirrorDisks}
 use Rattle.aoe_serve.specs.declared.over_mirror.MirrorEnd.{MirrorEnd}
+use Rattle.aoe_serve.specs.declared.over_mirror.MirrorStop.{MirrorStop}
+use Rattle.aoe_serve.specs.declared.over_mirror.MirrorStop.TheVariants as stop
 use Rattle.aoe_serve.specs.declared.plan.Plan.{Plan}
 use Rattle.aoe_serve.specs.declared.plan.RunEnd.{RunEnd}
 use Rattle.aoe_mirror.proofs.Covering.{cause_uncovers, covered_before, covered_by, covered_count, held, least_count, stored_syncs}
@@ -87,11 +89,15 @@ mounted_since state given s m (suc zero) le =
 mounted_since state given s m (suc (suc zero)) le = m.reads.run.later
 mounted_since state given s m (suc (suc (suc k))) le = absurd (omega (arith, le))
 
-pub begun_since : {D : Type 0} (state : D → DiskState) (given : MirrorDisks D) (s : Sides D) (begun : Pair)
-    → Mounts state given.one given.two given.mark s → CopiesAll (pair_of state s) begun → IsSince (faults_of state given) begun
-begun_since state given s begun m c = record {
+pub handed_since : {D : Type 0} (state : D → DiskState) (given : MirrorDisks D) (s : Sides D) (faults : ℕ → ℕ) → faults ≡ faults_of state given
+    → Mounts state given.one given.two given.mark s → IsMirror (pair_of state s) → IsSince faults (pair_of state s)
+handed_since state given s faults same m mirror = subst (λ (f : ℕ → ℕ). IsSince f (pair_of state s)) (sym same)
+    (record { mirror = mirror; counts = mounted_since state given s m })
+
+pub copied_since : (faults : ℕ → ℕ) (p q : Pair) → IsSince faults p → CopiesAll p q → IsSince faults q
+copied_since faults p q s c = record {
   mirror = c.mirror;
-  counts = λ k le. let before = mounted_since state given s m k le in let after = c.counts k le in omega (arith, before, after);
+  counts = λ k le. let before = s.counts k le in let after = c.counts k le in omega (arith, before, after);
 }
 
 -- a run that begins as `faults` and `whole` say
@@ -337,16 +343,27 @@ ran_mirror {D} state name faults whole t p e a b mirror kept back targets target
 
 -- What the watch was told of the run.
 
-pub run_told : (end : RunEnd) (unsynced : Option ℕ) (middle ended : Pair) (was now : Standing) (given old x y : Option (List MirrorEvent)) → given ≡ old
-    → ended.side ≤ 1
-    → HasTold middle was given x → TellsChanges was now x y → now ≡ standing_of ended
-    → TellsOf (record { end = end; unsynced = unsynced; stale = count_of ended.stale; follower = 1 - ended.side }) old y
-run_told end unsynced middle ended was now given old x y same le h t is =
-    let all : TellsChanges h.first now old y = subst (λ (o : Option (List MirrorEvent)). TellsChanges h.first now o y) same
-    (tells_then h.first was now given x y h.tells t) in
-    let then : TellsChanges h.first (standing_of ended) old y = subst (λ (s : Standing). TellsChanges h.first s old y) is all in
+pub tells_on : (lead : ℕ) (old new : Pair) (was now : Standing) (x y z : Option (List MirrorEvent)) → HasToldSince lead old was x y
+    → TellsChanges was now y z → now ≡ standing_of new → HasToldSince lead new now x z
+tells_on lead old new was now x y z h tells is = record { now = is; tells = tells_then (whole_under lead) was now x y z h.tells tells }
+
+pub tells_still : (lead : ℕ) (old new : Pair) (standing : Standing) (x y : Option (List MirrorEvent)) → HasToldSince lead old standing x y
+    → new.side ≡ old.side → new.stale ≡ old.stale → HasToldSince lead new standing x y
+tells_still lead old new standing x y h side stale = record { now = rw (side, stale) h.now; tells = h.tells }
+
+pub tells_side : (lead : ℕ) (p : Pair) (standing : Standing) (x y : Option (List MirrorEvent)) → HasToldSince lead p standing x y → p.side ≤ 1
+    → standing.lead ≤ 1
+tells_side lead p standing x y h le = rw h.now le
+
+pub run_told : (lead : ℕ) (end : RunEnd) (unsynced : Option ℕ) (middle ended : Pair) (was now : Standing) (given old x y : Option (List MirrorEvent))
+    → given ≡ old → ended.side ≤ 1 → HasToldSince lead middle was given x → TellsChanges was now x y → now ≡ standing_of ended
+    → TellsOf lead (record { end = end; unsynced = unsynced; stale = count_of ended.stale; follower = 1 - ended.side }) old y
+run_told lead end unsynced middle ended was now given old x y same le h t is =
+    let all : TellsChanges (whole_under lead) now old y = subst (λ (o : Option (List MirrorEvent)). TellsChanges (whole_under lead) now o y) same
+    (tells_then (whole_under lead) was now given x y h.tells t) in
+    let then : TellsChanges (whole_under lead) (standing_of ended) old y = subst (λ (s : Standing). TellsChanges (whole_under lead) s old y) is all in
     let back : 1 - (1 - ended.side) ≡ ended.side = omega (arith, le) in
-    record { first = h.first; whole = h.whole; tells = rw back then }
+    rw back then
 
 -- Sides that are equal where nothing is stale.
 
@@ -476,14 +493,46 @@ mirrored_since {D} state name t p e a b given back begun kept begins r =
     }
 
 -- where the run began as `faults` and `whole` say
-pub mirrored : {D S K L : Type 0} (state : D → DiskState) (name : ℕ → Station) (faults : ℕ → ℕ) (whole : Bool) (t : Tells S K L) (p : Plan) (e : MirrorEnd)
-    (a b : Outside S K L) (given back : MirrorDisks D) (begun : Pair) (kept : Kept D) → faults ≡ faults_of state given
-    → whole ≡ (count_of begun.stale == 0) → IsBegun state given kept begun
-    → RanMirror state name faults whole t p e a b begun kept back → IsMirrored state name t p e a b given back
-mirrored {D} state name faults whole t p e a b given back begun kept same is begins ran =
-    mirrored_since state name t p e a b given back begun kept begins
-    (subst (λ (w : Bool). RanMirror state name (faults_of state given) w t p e a b begun kept back) is
-    (subst (λ (f : ℕ → ℕ). RanMirror state name f whole t p e a b begun kept back) same ran))
+pub ran_copied : {D S K L : Type 0} (state : D → DiskState) (name : ℕ → Station) (faults given : ℕ → ℕ) (whole : Bool) (t : Tells S K L) (p : Plan)
+    (e : MirrorEnd) (a b : Outside S K L) (mounted begun : Pair) (kept : Kept D) (back : MirrorDisks D) → faults ≡ given
+    → whole ≡ (count_of begun.stale == 0) → CopiesAll mounted begun → RanMirror state name faults whole t p e a b begun kept back
+    → RanCopied state name given t p e a b mounted kept back
+ran_copied state name faults given whole t p e a b mounted begun kept back same is copies ran = record {
+  begun = begun;
+  copies = copies;
+  ran = subst (λ (w : Bool). RanMirror state name given w t p e a b begun kept back) is
+      (subst (λ (f : ℕ → ℕ). RanMirror state name f whole t p e a b begun kept back) same ran);
+}
+
+-- these disks, of which the sides and the keep were mounted
+module _ {D : Type 0} (state : D → DiskState) (given back : MirrorDisks D) (s : Sides D) (kept : Kept D) (mounts : Mounts state given.one given.two given.mark s)
+    (keep : HasMounted (state given.keep) (state kept.disk) kept.lists) where
+  pub mirrored : {S K L : Type 0} (name : ℕ → Station) (faults : ℕ → ℕ) (t : Tells S K L) (p : Plan) (a b : Outside S K L)
+      (r : Result MirrorEnd MirrorStop) → faults ≡ faults_of state given
+      → IfOk r (λ e. RanCopied state name faults t p e a b (pair_of state s) kept back) → IfOk r (λ e. IsMirrored state name t p e a b given back)
+  mirrored name faults t p a b (Err why) same r = tt
+  mirrored name faults t p a b (Ok e) same r =
+      mirrored_since state name t p e a b given back r.begun kept (record { sides = s; mounts = mounts; copies = r.copies; keep = keep })
+      (subst (λ (f : ℕ → ℕ). RanMirror state name f (count_of r.begun.stale == 0) t p e a b r.begun kept back) same r.ran)
+
+  pub closed : (r : Result MirrorEnd MirrorStop) → IfErr r (λ why. (why ≡ stop.NoMemory) × AreOf s kept back)
+      → IfErr r (λ why. Stops state why given back)
+  closed (Ok e) x = tt
+  closed (Err why) x = rw x.0 (record {
+    sides = s;
+    mounts = mounts;
+    kept = kept;
+    keep = keep;
+    same = (x.1.one ∙ mounts.side_one, x.1.two ∙ mounts.side_two);
+    mark = x.1.mark;
+    keep_back = x.1.keep;
+  })
+
+pub tells_since : {D : Type 0} (state : D → DiskState) (given : MirrorDisks D) (s : Sides D) (old new : Option (List MirrorEvent))
+    (r : Result MirrorEnd MirrorStop) → Mounts state given.one given.two given.mark s → IfOk r (λ e. TellsOf s.side e old new)
+    → IfOk r (λ e. TellsSince state given e old new)
+tells_since state given s old new (Err why) mounts tells = tt
+tells_since state given s old new (Ok e) mounts tells = record { sides = s; mounts = mounts; tells = tells }
 
 -- the first of links that were left as they are
 pub same_first : {X : Type 0} (R : X → X → Type 0) (xs : List X) → ((x : X) → R x x) → AtFirst R xs xs

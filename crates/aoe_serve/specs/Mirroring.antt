@@ -11,9 +11,9 @@ use Rattle.aoe_mirror.specs.Calls.{Blames, Cause, CopiesAll, Counts, DiskFailed,
 use Rattle.aoe_mirror.specs.Clean.{AreEqual, CrashesTruly, Says, SaysTruly}
 use Rattle.aoe_mirror.specs.Covering.{IsRunning, is_covered, stored}
 use Rattle.aoe_mirror.specs.Marks.{count_of}
-use Rattle.aoe_mirror.specs.Mirror.{Mirrored, Mounts, Refuses}
+use Rattle.aoe_mirror.specs.Mirror.{Mirrored, Mounts, Refuses, first_of, second_of}
 use Rattle.aoe_mirror.specs.Sides.{IsMirror, Pair, Survives, both, pair_of, shown, side_of}
-use Rattle.aoe_mirror.specs.Watching.{TellsChanges}
+use Rattle.aoe_mirror.specs.Watching.{TellsChanges, standing_of}
 use Rattle.aoe_mirror.specs.declared.sides.Sides.{Sides}
 use Rattle.aoe_mirror.specs.declared.watch.MirrorEvent.{MirrorEvent}
 use Rattle.aoe_mirror.specs.declared.watch.Standing.{Standing}
@@ -133,11 +133,39 @@ pub record RanMirror {D S K L : Type 0} (state : D → DiskState) (name : ℕ �
   pub covered : is_covered faults whole ended ≡ true
       → (count_failed store_failed (at_slot 0 (arrivals_in t p e.end a b (first ∷ []) run.middle run.ran)) ≡ 0) × (e.unsynced ≡ None)
 
--- what a watch has been told of a run that ended so: how the mirror stands, by just the changes since it had nothing stale
-pub record TellsOf (e : MirrorEnd) (old new : Option (List MirrorEvent)) : Type 0 where
-  pub first : Standing
-  pub whole : first.is_whole ≡ true
-  pub tells : TellsChanges first (record { lead = 1 - e.follower; is_whole = e.stale == 0 }) old new
+-- These are the disks of a mirror's sides and of its keep.
+pub record AreOf {D : Type 0} (s : Sides D) (kept : Kept D) (disks : MirrorDisks D) : Type 0 where
+  pub one : disks.one ≡ first_of s
+  pub two : disks.two ≡ second_of s
+  pub mark : disks.mark ≡ s.mark
+  pub keep : disks.keep ≡ kept.disk
+
+-- The plan was run over a mirror that was mounted, after its first copying.
+pub record RanCopied {D S K L : Type 0} (state : D → DiskState) (name : ℕ → Station) (faults : ℕ → ℕ) (t : Tells S K L) (p : Plan)
+    (e : MirrorEnd) (a b : Outside S K L) (mounted : Pair) (kept : Kept D) (back : MirrorDisks D) : Type 0 where
+  pub begun : Pair
+  pub copies : CopiesAll mounted begun
+  pub ran : RanMirror state name faults (count_of begun.stale == 0) t p e a b begun kept back
+
+-- how a mirror stands under this lead where nothing is stale
+abbrev pub whole_under : ℕ → Standing
+whole_under lead = record { lead = lead; is_whole = true }
+
+-- What a watch has been told of a mirror in a run that began under this lead: how it stands, by just the changes since nothing was stale.
+pub record HasToldSince (lead : ℕ) (p : Pair) (standing : Standing) (old new : Option (List MirrorEvent)) : Type 0 where
+  pub now : standing ≡ standing_of p
+  pub tells : TellsChanges (whole_under lead) standing old new
+
+-- what a watch has been told of a run that began under this lead and ended so: how the mirror stands, by just the changes since nothing was
+-- stale
+abbrev pub TellsOf : ℕ → MirrorEnd → Option (List MirrorEvent) → Option (List MirrorEvent) → Type 0
+TellsOf lead e old new = TellsChanges (whole_under lead) (record { lead = 1 - e.follower; is_whole = e.stale == 0 }) old new
+
+-- the same of a run over these disks: the lead at its beginning is the side that the mark disk named
+pub record TellsSince {D : Type 0} (state : D → DiskState) (given : MirrorDisks D) (e : MirrorEnd) (old new : Option (List MirrorEvent)) : Type 0 where
+  pub sides : Sides D
+  pub mounts : Mounts state given.one given.two given.mark sides
+  pub tells : TellsOf sides.side e old new
 
 -- two sides with equal sectors where nothing is stale, which no crash changes
 pub record AreEqualBut (stale : List Bool) (sides : Contents × Contents) : Type 0 where
@@ -183,9 +211,20 @@ pub record IsMirrored {D S K L : Type 0} (state : D → DiskState) (name : ℕ �
 abbrev pub SameSides : {D : Type 0} → MirrorDisks D → MirrorDisks D → Type 0
 SameSides given back = (back.one ≡ given.one) × (back.two ≡ given.two)
 
+-- The mirror and the keep of these disks were mounted, and closed with no sector copied: so the sides have one size, and the mark disk is a
+-- mark.
+pub record ClosesMounted {D : Type 0} (state : D → DiskState) (given back : MirrorDisks D) : Type 0 where
+  pub sides : Sides D
+  pub mounts : Mounts state given.one given.two given.mark sides
+  pub kept : Kept D
+  pub keep : HasMounted (state given.keep) (state kept.disk) kept.lists
+  pub same : SameSides given back
+  pub mark : back.mark ≡ sides.mark
+  pub keep_back : back.keep ≡ kept.disk
+
 -- why nothing was run, and what that leaves of the disks
 abbrev pub Stops : {D : Type 0} → (D → DiskState) → MirrorStop → MirrorDisks D → MirrorDisks D → Type 0
-Stops state stop.NoMemory given back = back ≡ given
+Stops state stop.NoMemory given back = ClosesMounted state given back
 Stops state (stop.Keep refusal) given back = SameSides given back × (back.mark ≡ given.mark) × IsRefused state given.keep refusal back.keep
 Stops state (stop.Mirror refusal) given back = SameSides given back
     × Refuses refusal (state given.one) (state given.two) (state given.mark) (state back.mark)

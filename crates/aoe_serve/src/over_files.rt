@@ -18,6 +18,7 @@ use std::alloc::Global;
 use std::marker::Brand;
 
 /// What the slots have in common.
+#[derive(Drop)]
 pub struct ExportOptions {
     /// The name of the first slot. Those of the others have the same major, and count up its minor.
     pub first: TargetId,

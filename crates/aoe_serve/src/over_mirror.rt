@@ -4,12 +4,12 @@ ghost use Rattle.aoe_base.specs.Faults.{Blamed};
 ghost use Rattle.aoe_mirror.specs.Covering.{IsRunning, IsSince};
 ghost use Rattle.aoe_mirror.specs.Clean.{CrashesTruly, SaysTruly, TellAlike};
 ghost use Rattle.aoe_mirror.specs.Marks.{count_of};
-ghost use Rattle.aoe_mirror.specs.Mirror.{pair, state_of};
+ghost use Rattle.aoe_mirror.specs.Mirror.{Mounts, pair, state_of};
 ghost use Rattle.aoe_mirror.specs.Sides.{IsMirror};
+ghost use Rattle.aoe_keep.specs.Keep.{HasMounted};
 ghost use Rattle.aoe_serve.specs.Exporting.{AtFirst, CanExport, is_served};
 ghost use Rattle.aoe_serve.specs.Files.{named};
-ghost use Rattle.aoe_mirror.specs.Watching.{HasTold};
-ghost use Rattle.aoe_serve.specs.Mirroring.{EndedAs, EndsMirror, IsBegun, IsMirrored, LeavesAlone, RanMirror, Stops, TellsOf, faults_of, has_ended};
+ghost use Rattle.aoe_serve.specs.Mirroring.{AreOf, EndedAs, EndsMirror, HasToldSince, IsMirrored, LeavesAlone, RanCopied, RanMirror, Stops, TellsOf, TellsSince, faults_of, has_ended};
 
 use crate::run::run;
 use crate::{AnswerEnd, ExportOptions, Plan, RunEnd, ServeEnd};
@@ -66,13 +66,15 @@ pub enum MirrorStop {
     Mirror(MirrorRefusal),
 }
 
-/// How a run over a mirror began: the counts of faults of its disks when they were handed in, whether no
-/// sector was stale, and what its watch had been told.
+/// How a run over a mirror began: the counts of faults of its disks when they were handed in, which side
+/// led, whether no sector was stale, and what its watch had been told.
 pub(crate) trait Given {
     ghost use Rattle.std.specs.Prelude.{Bool, List, Option};
     ghost use Rattle.aoe_mirror.specs.declared.watch.MirrorEvent.{MirrorEvent};
 
     ghost faults: { ℕ → ℕ };
+
+    ghost lead: { ℕ };
 
     ghost whole: { Bool };
 
@@ -83,6 +85,8 @@ impl Given for Brand {
     ghost use Rattle.std.specs.Prelude.{None, false};
 
     ghost faults = { λ disk. 0 };
+
+    ghost lead = { 0 };
 
     ghost whole = { false };
 
@@ -105,19 +109,20 @@ pub(crate) struct Counted<D: Disk, G: Given, W: MirrorWatch> {
 impl<D: Disk, G: Given, W: MirrorWatch> Model for Counted<D, G, W> {
     ghost use Rattle.aoe_mirror.specs.Mirror.{Mirrored, pair};
     ghost use Rattle.aoe_mirror.specs.Covering.{IsRunning};
-    ghost use Rattle.aoe_mirror.specs.Watching.{HasTold};
+    ghost use Rattle.aoe_serve.specs.Mirroring.{HasToldSince};
 
     ghost Value = { Mirrored D };
 
     ghost view = { λ c. c.mirror };
 
     ghost invariant = { λ c. IsRunning G.faults G.whole (pair D.state c.mirror)
-        × HasTold (pair D.state c.mirror) c.standing G.told (W.told c.watch) };
+        × HasToldSince G.lead (pair D.state c.mirror) c.standing G.told (W.told c.watch) };
 }
 
 impl<D: Disk, G: Given, W: MirrorWatch> Counted<D, G, W> {
     fn new(mirror: Mirror<D>, watch: W) -> Self
         requires running { IsRunning G.faults G.whole (pair D.state mirror) }
+        requires lead { G.lead ≡ mirror.sides.side }
         requires told { G.told ≡ W.told watch }
         ensures { result ≡ mirror }
     {
@@ -138,7 +143,7 @@ impl<D: Disk, G: Given, W: MirrorWatch> Counted<D, G, W> {
     fn close(self) -> (Mirror<D>, W, Standing)
         ensures mirror { result.0 ≡ self }
         ensures running { IsRunning G.faults G.whole (pair D.state result.0) }
-        ensures told { HasTold (pair D.state result.0) result.2 G.told (W.told result.1) }
+        ensures told { HasToldSince G.lead (pair D.state result.0) result.2 G.told (W.told result.1) }
     {
         (self.mirror, self.watch, self.standing)
     }
@@ -176,16 +181,16 @@ impl<D: Disk, G: Given, W: MirrorWatch> Store for Counted<D, G, W> {
     }
 }
 
-/// Mounts the keep, and then the mirror, whose stale sectors are copied as far as that goes. Where one
-/// of them isn't mounted the disks are given back.
+/// Mounts the keep, and then the mirror. Where one of them isn't mounted the disks are given back.
 fn mount<D: Disk>(
     alloc: Global,
     disks: MirrorDisks<D>,
 ) -> Result<(Mirror<D>, Keep<D>), (MirrorStop, MirrorDisks<D>)>
     requires truly { SaysTruly (D.state disks.one) (D.state disks.two) (D.state disks.mark) }
     requires alike { TellAlike (D.state disks.one) (D.state disks.two) (D.state disks.mark) }
-    ensures begun { IfOk result (λ r. IsBegun D.state disks r.1 (pair D.state r.0)) }
-    ensures since { IfOk result (λ r. IsSince (faults_of D.state disks) (pair D.state r.0)) }
+    ensures mounts { IfOk result (λ r. Mounts D.state disks.one disks.two disks.mark r.0.sides) }
+    ensures keep { IfOk result (λ r. HasMounted (D.state disks.keep) (D.state r.1.disk) r.1.lists) }
+    ensures mirror { IfOk result (λ r. IsMirror (pair D.state r.0)) }
     ensures stopped { IfErr result (λ e. Stops D.state e.0 disks e.1) }
 {
     let MirrorDisks {
@@ -208,7 +213,7 @@ fn mount<D: Disk>(
             ));
         }
     };
-    let mut mirror = match Mirror::mount(alloc, one, two, mark) {
+    let mirror = match Mirror::mount(alloc, one, two, mark) {
         Ok(mirror) => mirror,
         Err((refusal, one, two, mark)) => {
             let keep = keep.close();
@@ -223,8 +228,21 @@ fn mount<D: Disk>(
             ));
         }
     };
-    mirror.resync_all();
     Ok((mirror, keep))
+}
+
+/// The disks of a mirror and its keep.
+fn close<D: Disk>(mirror: Mirror<D>, keep: Keep<D>) -> MirrorDisks<D>
+    ensures disks { AreOf mirror.sides keep result }
+    ensures truly { SaysTruly (D.state result.one) (D.state result.two) (D.state result.mark) }
+{
+    let (one, two, mark) = mirror.close();
+    MirrorDisks {
+        one,
+        two,
+        mark,
+        keep: keep.close(),
+    }
 }
 
 /// Whether the frames ended, and nothing failed.
@@ -286,6 +304,7 @@ fn seat<D: Disk + Drop, G: Given, W: MirrorWatch + Drop>(
     requires empty { shelf.old.targets ≡ [] }
     requires minor { minor < 255 }
     requires running { IsRunning G.faults G.whole (pair D.state mirror) }
+    requires lead { G.lead ≡ mirror.sides.side }
     requires told { G.told ≡ W.told watch }
     ensures targets { shelf.new.targets ≡ record {
       station = named shelf.old.major shelf.old.ports shelf.old.mtu minor (state_of D.state mirror).sectors;
@@ -307,7 +326,7 @@ fn leave<D: Disk + Drop, G: Given, W: MirrorWatch + Drop>(
     requires { length shelf.old.targets ≡ 1 }
     ensures leaves { LeavesAlone result.0 result.3 shelf.old.targets }
     ensures running { IsRunning G.faults G.whole (pair D.state result.0) }
-    ensures told { HasTold (pair D.state result.0) result.2 G.told (W.told result.1) }
+    ensures told { HasToldSince G.lead (pair D.state result.0) result.2 G.told (W.told result.1) }
 {
     let Some((store, keep)) = shelf.take_last() else {
         unreachable!()
@@ -333,8 +352,9 @@ fn run_over<D: Disk + Drop, G: Given, S: Source, K: Sink, L: Link, W: MirrorWatc
     requires minor { minor < 255 }
     requires link { is_served plan ≡ true → 0 < length links.old }
     requires running { IsRunning G.faults G.whole (pair D.state mirror) }
+    requires lead { G.lead ≡ mirror.sides.side }
     requires told { G.told ≡ W.told watch }
-    ensures told { TellsOf result.0 (W.told watch) (W.told result.2) }
+    ensures told { TellsOf G.lead result.0 (W.told watch) (W.told result.2) }
     ensures ran { RanMirror D.state (named shelf.old.major shelf.old.ports shelf.old.mtu minor) G.faults G.whole
         record { left = S.left; held = K.held; turns = L.turns; given = L.given; taken = L.taken } plan result.0
         record { source = source.old; sink = sink.old; links = links.old } record { source = source.new; sink = sink.new; links = links.new }
@@ -355,21 +375,14 @@ fn run_over<D: Disk + Drop, G: Given, S: Source, K: Sink, L: Link, W: MirrorWatc
     let unsynced = finish(&mut mirror, has_ended(end));
     note(&mirror, &mut watch, &mut standing);
     let ended = told(&mirror, end, unsynced);
-    let (one, two, mark) = mirror.close();
-    let disks = MirrorDisks {
-        one,
-        two,
-        mark,
-        keep: keep.close(),
-    };
-    (ended, disks, watch)
+    (ended, close(mirror, keep), watch)
 }
 
 /// Exports a mirror of two disks as the only slot of a shelf, for one run.
 ///
-/// The keep is mounted, and then the mirror (`aoe_mirror`), each run of whose stale sectors is copied,
-/// also behind one of which the copy fails. Where one of the two isn't mounted, nothing is read or
-/// sent. Else the plan is run over the slot, and the mirror is synced, however the run ended. Where
+/// The keep is mounted, and then the mirror (`aoe_mirror`), and last the memory of the shelf is taken.
+/// Where one of these isn't to be had, nothing is copied, read or sent. Else each run of stale sectors
+/// is copied, also behind one of which the copy fails. Then the plan is run over the slot, and the mirror is synced, however the run ended. Where
 /// that and the run went well, what is stale then is copied, too; what stays stale is told. Where nothing
 /// is, the mark disk says so from then on until the first write of the next run, which copies nothing at
 /// its beginning. Each disk is given back, also where nothing was run.
@@ -399,7 +412,7 @@ pub fn export_mirror<D: Disk + Drop, S: Source, K: Sink, L: Link, W: MirrorWatch
         record { source = source.old; sink = sink.old; links = links.old } record { source = source.new; sink = sink.new; links = links.new }
         disks result.1) }
     ensures stopped { IfErr result.0 (λ why. Stops D.state why disks result.1) }
-    ensures told { IfOk result.0 (λ e. TellsOf e (W.told watch) (W.told result.2)) }
+    ensures told { IfOk result.0 (λ e. TellsSince D.state disks e (W.told watch) (W.told result.2)) }
     ensures untold { OnErr result.0 (result.2 ≡ watch) }
     ensures source { OnErr result.0 (source.new ≡ source.old) }
     ensures sink { OnErr result.0 (sink.new ≡ sink.old) }
@@ -414,14 +427,56 @@ pub fn export_mirror<D: Disk + Drop, S: Source, K: Sink, L: Link, W: MirrorWatch
     ensures link_blame { AtFirst (λ a b. Blamed (EndedAs result.0 (RunEnd.Served ServeEnd.LinkFault))
         (L.faults a) (L.faults b)) links.old links.new }
 {
+    export_since::<Brand, D, S, K, L, W>(alloc, options, plan, source, sink, disks, links, watch)
+}
+
+/// The same, where `G` says how many faults the disks had.
+fn export_since<G: Given, D: Disk + Drop, S: Source, K: Sink, L: Link, W: MirrorWatch + Drop>(
+    alloc: Global,
+    options: ExportOptions,
+    plan: Plan,
+    source: &mut S,
+    sink: &mut K,
+    disks: MirrorDisks<D>,
+    links: &mut [L],
+    watch: W,
+) -> (Result<MirrorEnd, MirrorStop>, MirrorDisks<D>, W)
+    requires faults { G.faults ≡ faults_of D.state disks }
+    requires possible { CanExport options plan 2 (length links.old) }
+    requires truly { SaysTruly (D.state disks.one) (D.state disks.two) (D.state disks.mark) }
+    requires alike { TellAlike (D.state disks.one) (D.state disks.two) (D.state disks.mark) }
+    ensures ran { IfOk result.0 (λ e. IsMirrored D.state (named options.first.major options.ports.items options.mtu options.first.minor)
+        record { left = S.left; held = K.held; turns = L.turns; given = L.given; taken = L.taken } plan e
+        record { source = source.old; sink = sink.old; links = links.old } record { source = source.new; sink = sink.new; links = links.new }
+        disks result.1) }
+    ensures stopped { IfErr result.0 (λ why. Stops D.state why disks result.1) }
+    ensures told { IfOk result.0 (λ e. TellsSince D.state disks e (W.told watch) (W.told result.2)) }
+    ensures untold { OnErr result.0 (result.2 ≡ watch) }
+    ensures source { OnErr result.0 (source.new ≡ source.old) }
+    ensures sink { OnErr result.0 (sink.new ≡ sink.old) }
+    ensures links { OnErr result.0 (links.new ≡ links.old) }
+    ensures source_count { S.faults source.old ≤ S.faults source.new }
+    ensures sink_count { K.faults sink.old ≤ K.faults sink.new }
+    ensures link_count { AtFirst (λ a b. L.faults a ≤ L.faults b) links.old links.new }
+    ensures source_blame { Blamed (EndedAs result.0 (RunEnd.Answered AnswerEnd.SourceFault))
+        (S.faults source.old) (S.faults source.new) }
+    ensures sink_blame { Blamed (EndedAs result.0 (RunEnd.Answered AnswerEnd.SinkFault))
+        (K.faults sink.old) (K.faults sink.new) }
+    ensures link_blame { AtFirst (λ a b. Blamed (EndedAs result.0 (RunEnd.Served ServeEnd.LinkFault))
+        (L.faults a) (L.faults b)) links.old links.new }
+{
+    let (mirror, keep) = match mount(alloc, disks) {
+        Ok(mounted) => mounted,
+        Err((why, disks)) => return (Err(why), disks, watch),
+    };
     mirror_at::<Brand, Brand, D, S, K, L, W>(
-        alloc, options, plan, source, sink, disks, links, watch,
+        alloc, options, plan, source, sink, mirror, keep, links, watch,
     )
 }
 
-/// The same, where `A` and `B` say how many faults the disks had. Only after the first copying it is
-/// known whether a sector is stale, and no memory is taken then: so there is a shelf for a mirror that is
-/// whole when its run begins, and one for a mirror that isn't.
+/// The same over a mirror and a keep that are mounted, where `A` and `B` say how the run begins. Only after
+/// the first copying it is known whether a sector is stale, and no memory is taken then: so there is a
+/// shelf for a mirror that is whole when its run begins, and one for a mirror that isn't.
 fn mirror_at<
     A: Given,
     B: Given,
@@ -436,21 +491,22 @@ fn mirror_at<
     plan: Plan,
     source: &mut S,
     sink: &mut K,
-    disks: MirrorDisks<D>,
+    mirror: Mirror<D>,
+    keep: Keep<D>,
     links: &mut [L],
     watch: W,
 ) -> (Result<MirrorEnd, MirrorStop>, MirrorDisks<D>, W)
-    requires whole { (A.faults ≡ faults_of D.state disks) × (A.whole ≡ true) × (A.told ≡ W.told watch) }
-    requires behind { (B.faults ≡ faults_of D.state disks) × (B.whole ≡ false) × (B.told ≡ W.told watch) }
+    requires whole { (A.whole ≡ true) × (A.lead ≡ mirror.sides.side) × (A.told ≡ W.told watch) }
+    requires behind { (B.whole ≡ false) × (B.lead ≡ mirror.sides.side) × (B.told ≡ W.told watch) }
+    requires faults { B.faults ≡ A.faults }
+    requires since { IsSince A.faults (pair D.state mirror) }
     requires possible { CanExport options plan 2 (length links.old) }
-    requires truly { SaysTruly (D.state disks.one) (D.state disks.two) (D.state disks.mark) }
-    requires alike { TellAlike (D.state disks.one) (D.state disks.two) (D.state disks.mark) }
-    ensures ran { IfOk result.0 (λ e. IsMirrored D.state (named options.first.major options.ports.items options.mtu options.first.minor)
-        record { left = S.left; held = K.held; turns = L.turns; given = L.given; taken = L.taken } plan e
+    ensures ran { IfOk result.0 (λ e. RanCopied D.state (named options.first.major options.ports.items options.mtu options.first.minor)
+        A.faults record { left = S.left; held = K.held; turns = L.turns; given = L.given; taken = L.taken } plan e
         record { source = source.old; sink = sink.old; links = links.old } record { source = source.new; sink = sink.new; links = links.new }
-        disks result.1) }
-    ensures stopped { IfErr result.0 (λ why. Stops D.state why disks result.1) }
-    ensures told { IfOk result.0 (λ e. TellsOf e (W.told watch) (W.told result.2)) }
+        (pair D.state mirror) keep result.1) }
+    ensures stopped { IfErr result.0 (λ why. (why ≡ MirrorStop.NoMemory) × AreOf mirror.sides keep result.1) }
+    ensures told { IfOk result.0 (λ e. TellsOf mirror.sides.side e (W.told watch) (W.told result.2)) }
     ensures untold { OnErr result.0 (result.2 ≡ watch) }
     ensures source { OnErr result.0 (source.new ≡ source.old) }
     ensures sink { OnErr result.0 (sink.new ≡ sink.old) }
@@ -479,16 +535,14 @@ fn mirror_at<
         mtu,
     ) {
         Ok(shelf) => shelf,
-        Err(NoMemory) => return (Err(MirrorStop::NoMemory), disks, watch),
+        Err(NoMemory) => return (Err(MirrorStop::NoMemory), close(mirror, keep), watch),
     };
     let mut behind: Shelf<Counted<D, B, W>, D> = match Shelf::new(alloc, first.major, ports, mtu) {
         Ok(shelf) => shelf,
-        Err(NoMemory) => return (Err(MirrorStop::NoMemory), disks, watch),
+        Err(NoMemory) => return (Err(MirrorStop::NoMemory), close(mirror, keep), watch),
     };
-    let (mirror, keep) = match mount(alloc, disks) {
-        Ok(mounted) => mounted,
-        Err((why, disks)) => return (Err(why), disks, watch),
-    };
+    let mut mirror = mirror;
+    mirror.resync_all();
     let minor = first.minor;
     if mirror.stale() == 0 {
         let (end, disks, watch) = run_over(

@@ -1,9 +1,6 @@
-use Rattle.std.proofs.Common.{false, true}
+use Rattle.std.proofs.Common.{None, false}
 use Rattle.aoe_serve.specs.Mirroring.{faults_of}
 use Rattle.aoe_serve.proofs.over_mirror.export_mirror.Given as goal
 
-abbrev pub ghosts-mirror_at-A-Given : goal.ghosts-mirror_at-A-Given
-ghosts-mirror_at-A-Given g a = record { faults = faults_of g.D.Disk.state a.disks; whole = true; told = g.W.MirrorWatch.told a.watch }
-
-abbrev pub ghosts-mirror_at-B-Given : goal.ghosts-mirror_at-B-Given
-ghosts-mirror_at-B-Given g a = record { faults = faults_of g.D.Disk.state a.disks; whole = false; told = g.W.MirrorWatch.told a.watch }
+abbrev pub ghosts-export_since : goal.ghosts-export_since
+ghosts-export_since g a = record { faults = faults_of g.D.Disk.state a.disks; lead = 0; whole = false; told = None }

@@ -22,10 +22,9 @@ returns-clause-ran g c =
       stale = count_of ended.sides.stale;
       follower = 1 - ended.sides.side;
     } in
-    let back : MirrorDisks g.row.D.Denot =
-    record { one = c.close-one.result.0; two = c.close-one.result.1; mark = c.close-one.result.2; keep = c.close.result } in
+    let back : MirrorDisks g.row.D.Denot = c.close.result in
     let of : IsOf state back (pair state ended) =
-    is_of state ended.sides c.finish-unsynced.ensures.mirror.mark.side back c.close-one.ensures.one c.close-one.ensures.two c.close-one.ensures.mark in
+    is_of state ended.sides c.finish-unsynced.ensures.mirror.mark.side back c.close.ensures.disks.one c.close.ensures.disks.two c.close.ensures.disks.mark in
     rw c.told-ended.ensures.told
     (ran_mirror state (named shelf.major shelf.ports shelf.mtu c.args.minor) g.G.Given.faults g.G.Given.whole _ c.args.plan end _ _ c.args.mirror c.args.keep back
     c.seat.new.shelf.targets c.run-end.new.shelf.targets c.requires.running c.seat.ensures.targets c.run-end.ensures.run (record {
@@ -38,8 +37,8 @@ returns-clause-ran g c =
       told = record { stale = refl; follower = refl };
       crash = c.told-ended.ensures.crash;
       disks = of;
-      kept = c.close.ensures;
-      truly = c.close-one.ensures.truly;
+      kept = c.close.ensures.disks.keep;
+      truly = c.close.ensures.truly;
     }))
 
 pub returns-clause-link_blame : goal.returns-clause-link_blame
@@ -50,6 +49,6 @@ returns-clause-told g c =
     let state = g.D.Disk.state in
     let ended = c.finish-unsynced.new.mirror in
     rw c.told-ended.ensures.told
-    (run_told c.run-end.result c.finish-unsynced.result (pair state c.leave-mirror.result.0) (pair state ended) c.leave-mirror.result.2 c.note.new.standing
+    (run_told g.G.Given.lead c.run-end.result c.finish-unsynced.result (pair state c.leave-mirror.result.0) (pair state ended) c.leave-mirror.result.2 c.note.new.standing
     g.G.Given.told (g.W.MirrorWatch.told c.args.watch) (g.W.MirrorWatch.told c.leave-mirror.result.1) (g.W.MirrorWatch.told c.note.new.watch)
     c.requires.told c.finish-unsynced.ensures.mirror.mark.side c.leave-mirror.ensures.told c.note.ensures.tells c.note.ensures.standing)

@@ -1,7 +1,7 @@
 use Rattle.std.proofs.Common.{◌/◌, length}
 use Rattle.aoe_mirror.specs.Mirror.{pair}
 use Rattle.aoe_mirror.proofs.Covering.{read_cause, run_then, stored_reads}
-use Rattle.aoe_mirror.proofs.Telling.{told_same}
+use Rattle.aoe_serve.proofs.MirrorLemmas.{tells_still}
 use Rattle.aoe_serve.proofs.over_mirror.CountedStore.read.Goals as goal
 
 pub invariant_of-self : goal.invariant_of-self
@@ -10,7 +10,7 @@ invariant_of-self g c =
     let new = pair g.D.Disk.state c.read.new.self in
     let m = c.read.ensures.mirror in (
       run_then g.G.Given.faults g.G.Given.whole old new m.mirror m.counts m.keeps c.self.invariant.0,
-      told_same old new c.self.inside.standing g.G.Given.told (g.W.MirrorWatch.told c.self.inside.watch) c.self.invariant.1 m.side m.stale,
+      tells_still g.G.Given.lead old new c.self.inside.standing g.G.Given.told (g.W.MirrorWatch.told c.self.inside.watch) c.self.invariant.1 m.side m.stale,
     )
 
 pub returns-clause-reads : goal.returns-clause-reads
