@@ -1,5 +1,5 @@
 -- When a keep is refused, and when its disk is said to have failed.
-use Rattle.std.proofs.Common.{◌≡◌, ◌≢◌, ◌≤◌, ◌-◌, ◌↔◌, ◌∙◌, ℕ, true, Option, Some, None, IfSome, Result, Ok, Err, ap, arith, refl, sym}
+use Rattle.std.proofs.Common.{◌≡◌, ◌≢◌, ◌≤◌, ◌↔◌, ◌∙◌, ℕ, true, Option, Some, None, IfSome, Result, Ok, Err, ap, arith, refl, sym}
 use Rattle.aoe_base.specs.Faults.{Rose}
 use Rattle.aoe_disk.specs.State.{Contents, DiskState}
 use Rattle.aoe_keep.specs.Found.{found}
