@@ -1,3 +1,4 @@
 -- `StreamLemmas`: what a writer took over several calls, for the loop that makes an interrupted
--- call again.
+-- call again. `NameLemmas`: the parts of a name, one after the other.
 mod StreamLemmas
+mod NameLemmas

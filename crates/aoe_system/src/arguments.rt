@@ -6,14 +6,6 @@ use std::{env, io};
 /// The ends of a link: the option of each, and the variable of the environment that stands for it.
 const ENDS: [(&str, &str); 2] = [("--local", "AOE_LOCAL"), ("--peers", "AOE_PEERS")];
 
-/// Whether the command of this name has one link.
-fn has_link(name: &str) -> bool {
-    matches!(
-        name,
-        "serve" | "nbd" | "discover" | "stat" | "cfg" | "mask" | "reserve" | "flush" | "get" | "put"
-    )
-}
-
 /// Whether a word is this option, or this option with its value.
 fn is_option(word: &str, option: &str) -> bool {
     match word.strip_prefix(option) {
@@ -24,6 +16,27 @@ fn is_option(word: &str, option: &str) -> bool {
 
 fn gives(words: &[String], option: &str) -> bool {
     words.iter().any(|word| is_option(word.as_str(), option))
+}
+
+/// Whether the command of these words has one link. A mirror has one where an end of it is given.
+fn has_link(words: &[String]) -> bool {
+    let Some(name) = words.first() else {
+        return false;
+    };
+    match name.as_str() {
+        "serve"
+        | "nbd"
+        | "discover"
+        | "stat"
+        | "cfg"
+        | "mask"
+        | "reserve"
+        | "flush"
+        | "get"
+        | "put" => true,
+        "mirror" => ENDS.iter().any(|(end, _)| gives(words, end)),
+        _ => false,
+    }
 }
 
 /// What a variable of the environment holds, where it is set and holds something.
@@ -38,11 +51,7 @@ fn variable(rt: &HostRuntime, name: &str) -> io::Result<Option<String>> {
 /// Adds the ends of the link that aren't given, from the environment, where the command has a link that isn't
 /// a tap file.
 fn add_ends(rt: &HostRuntime, words: &mut Vec<String>) -> io::Result<()> {
-    let is_asked = match words.first() {
-        Some(name) => has_link(name.as_str()),
-        None => false,
-    };
-    if !is_asked || gives(words.as_slice(), "--tap") {
+    if !has_link(words.as_slice()) || gives(words.as_slice(), "--tap") {
         return Ok(());
     }
     'ends: for (option, name) in ENDS {
@@ -77,8 +86,7 @@ pub fn words(rt: &HostRuntime) -> io::Result<Vec<String>> {
 /// argument does.
 pub fn variable_of(rt: &HostRuntime, option: &str) -> Option<&'static str> {
     let words = arguments(rt).ok()?;
-    let name = words.first()?;
-    if !has_link(name.as_str()) || gives(words.as_slice(), option) {
+    if !has_link(words.as_slice()) || gives(words.as_slice(), option) {
         return None;
     }
     let (_, variable) = ENDS.iter().find(|(end, _)| *end == option)?;

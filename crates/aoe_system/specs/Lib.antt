@@ -1,0 +1,2 @@
+-- `Names`: the absolute name of a file.
+pub mod Names
