@@ -1,5 +1,5 @@
 -- What is looked for in a list, place by place.
-use Rattle.std.proofs.Common.{◌≡◌, ◌<◌, ◌≤◌, ◌+◌, ◌-◌, ◌==◌, ◌||◌, ◌&&◌, ℕ, Bool, true, false, List, length, drop, get_or, map, Some, None, refl, add-one, drop-cons}
+use Rattle.std.proofs.Common.{◌≡◌, ◌<◌, ◌≤◌, ◌+◌, ◌-◌, ◌==◌, ◌||◌, ◌&&◌, ℕ, Bool, true, false, List, [], ◌∷◌, length, drop, get_or, map, Some, None, refl, ap, add-one, drop-cons}
 use Rattle.std.proofs.Math.ListN.{drop_of_length-le}
 use Rattle.std.specs.Prelude.{find}
 use Rattle.std.specs.List.{list_any}
@@ -62,3 +62,8 @@ module _ {X : Type 0} (read : X → Argument) (xs : List X) (i : ℕ) (name : Te
   pub option_nowhere : length xs ≤ i → option_named (map read (drop i xs)) name ≡ None
   unfolding option_named
   option_nowhere end = find_nowhere read (λ a. bytes_eq a.0 name && is_option a.1) xs i end
+
+-- a test of what is read of each
+pub any_map : {X Y : Type 0} (p : Y → Bool) (read : X → Y) (xs : List X) → list_any p (map read xs) ≡ list_any (λ x. p (read x)) xs
+any_map p read [] = refl
+any_map p read (x ∷ xs) = ap (λ b. p (read x) || b) (any_map p read xs)

@@ -2,7 +2,6 @@
 use Rattle.std.proofs.Common.{◌≡◌, ◌≢◌, ◌∙◌, ◌&&◌, Bool, true, false, cond, refl, sym, subst, List, [], ◌∷◌, Option, Some, None, Result, Ok, Err, inl, inr, arith}
 use Rattle.std.proofs.lemmas.Bool.Decides.{nat_tests}
 use Rattle.std.specs.Prelude.{option_map, Box, IfErr, IfOk, IsErr, IsOkAnd}
-use Rattle.std.specs.List.{list_all}
 use Rattle.std.specs.Box.{box_value}
 use Rattle.std.specs.Borrow.{Bor}
 use Rattle.clap.specs.Matches.{subcommand_name_of}
@@ -17,11 +16,11 @@ use Rattle.clap.specs.declared.parser.matches.ArgMatches.{ArgMatches}
 use Rattle.clap.specs.declared.parser.matches.ArgMatches.TheViews.{out-ArgMatches, out-SubCommand}
 use Rattle.clap.specs.declared.parser.matches.SubCommand.{SubCommand}
 use Rattle.aoe_args.specs.Apps.{aoe_app}
-use Rattle.aoe_args.specs.Words.{IsFoundIn, is_word, parsed}
+use Rattle.aoe_args.specs.Words.{IsFoundIn, are_words, parsed}
 use Rattle.aoe_args.proofs.AppLemmas.{aoe_app_is_simple}
 
--- a word can't stand there
-pub not_words : (words : List Text) → list_all is_word words ≡ false → None ≡ parsed words
+-- the words can't stand there
+pub not_words : (words : List Text) → are_words words ≡ false → None ≡ parsed words
 unfolding parsed
 not_words words e = rw e refl
 
@@ -32,7 +31,7 @@ has_one x xs = grind (arith, nat_tests)
 -- clap finds a fault
 at_fault : (words : List Text) (e : Error) → HasKind (fault_of aoe_app words) e → kind_of e ≢ OutOfMemory → None ≡ parsed words
 unfolding parsed
-at_fault words e kind other = go (list_all is_word words) (fault_of aoe_app words) (subcommand_of aoe_app words) kind
+at_fault words e kind other = go (are_words words) (fault_of aoe_app words) (subcommand_of aoe_app words) kind
   where
     go : (b : Bool) (kinds : Kinds) (found : Option (Text × List Row)) → HasKind kinds e → None ≡ cond (b && is_empty kinds) found None
     go false kinds found h = refl
@@ -41,7 +40,7 @@ at_fault words e kind other = go (list_all is_word words) (fault_of aoe_app word
     go true (k ∷ kinds) found h = rw (has_one k kinds) refl
 
 -- clap finds a command
-found : (words : List Text) (m : ArgMatches) (r : Option (Bor Text × ArgMatches)) → list_all is_word words ≡ true
+found : (words : List Text) (m : ArgMatches) (r : Option (Bor Text × ArgMatches)) → are_words words ≡ true
     → fault_of aoe_app words ≡ [] → HasMatchesOf aoe_app words m → option_map (λ p. p.0.now) r ≡ subcommand_name_of m
     → option_map (λ p. rows_of (found_of p.1)) r ≡ option_map (λ p. p.1) (subcommand_rows (out-ArgMatches m).subcommand)
     → option_map (λ p. (p.0.now, rows_of (found_of p.1))) r ≡ parsed words
@@ -60,7 +59,7 @@ found words m r all clean has name rows =
 
 -- what clap's answer says is what the words spell
 pub asked_value : {E : Type 0} (words : List Text) (answer : Result ArgMatches Error) (r : Result (Option (Bor Text × ArgMatches)) E)
-    → list_all is_word words ≡ true
+    → are_words words ≡ true
     → FailsBy (fault_of aoe_app words) answer → IfOk answer (HasMatchesOf aoe_app words) → IfErr answer (λ e. kind_of e ≡ OutOfMemory → IsErr r)
     → IfErr answer (λ e. kind_of e ≢ OutOfMemory → r ≡ Ok None) → IfOk answer (λ m. IsOkAnd r (IsFoundIn m))
     → IfOk r (λ x. option_map (λ p. (p.0.now, rows_of (found_of p.1))) x ≡ parsed words)

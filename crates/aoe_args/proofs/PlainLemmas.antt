@@ -1,13 +1,13 @@
 -- Words that begin with no hyphen, as clap reads them.
 use Rattle.std.proofs.Common.{◌≡◌, ◌∙◌, ◌==◌, ℕ, Bool, true, false, List, [], ◌∷◌, Some, None, refl, sym, ap, subst, codes, is_some}
-use Rattle.std.specs.List.{list_all}
+use Rattle.std.specs.List.{list_all, list_any}
 use Rattle.clap.specs.Faults.{check_fault, defaults_fault, entered_fault, level_fault, settle_fault, step_fault, walk_fault}
 use Rattle.clap.specs.Kinds.{Kinds, or_else}
 use Rattle.clap.specs.Simple.{Shape, built, built_leaf, entered, names_of}
 use Rattle.clap.specs.Words.{fault_of, subcommand_of}
 use Rattle.clap.specs.Walk.{Held, Names, Row, Rule, Text, Waiting, Walk, arg_by_index, finished, idle, nothing_held, positional, rows_after, settled, to_positional, value, walk, walk_from, walked}
 use Rattle.aoe_args.specs.Apps.{answer_app, aoe_app}
-use Rattle.aoe_args.specs.Words.{is_word, parsed}
+use Rattle.aoe_args.specs.Words.{are_words, is_hyphen, is_word, parsed}
 
 -- between two words, none of which was an option
 abbrev between : Held → Waiting → ℕ → Walk
@@ -45,6 +45,16 @@ level_clean s names h words has below w e f b st d c =
     let rest : P w.held = rw (st, d) c in
     let here : P (walk s.rules names h words).held = subst (λ (v : Walk). P v.held) (sym e) rest in
     rw (f, b) here
+
+-- words behind the name of `answer`, none of which is one hyphen
+answer_words : (words : List Text) → list_all is_word words ≡ true → list_any is_hyphen words ≡ false → are_words (codes "answer" ∷ words) ≡ true
+answer_words words all none = rw (all, none) refl
+
+-- words that can stand there, and in which clap finds no fault
+parsed_by : (words : List Text) (found : Text × List Row) → are_words words ≡ true → fault_of aoe_app words ≡ []
+    → subcommand_of aoe_app words ≡ Some found → parsed words ≡ Some found
+unfolding parsed
+parsed_by words found can clean met = rw (can, clean) met
 
 -- `answer`, as clap has it once it is built
 abbrev pub leaf : Shape
@@ -140,6 +150,5 @@ module _ (x1 x2 x3 x4 : ℕ) (t1 t2 t3 t4 : Text) (p1 : (x1 == 45) ≡ false) (p
       ap (λ (w : Walk). entered (built aoe_app) w.stopped) (top_walk (x1 ∷ t1) (x2 ∷ t2) (x3 ∷ t3) (x4 ∷ t4)) ∙ enters words
       ∙ ap (λ (w : Walk). Some (codes "answer", finished leaf.rules w.held)) leaf_walk
 
-  pub plain_parsed : list_all is_word words ≡ true → parsed (codes "answer" ∷ words) ≡ Some (codes "answer", found)
-  unfolding parsed
-  plain_parsed all = rw (all, top_clean) met
+  pub plain_parsed : list_all is_word words ≡ true → list_any is_hyphen words ≡ false → parsed (codes "answer" ∷ words) ≡ Some (codes "answer", found)
+  plain_parsed all none = parsed_by (codes "answer" ∷ words) (codes "answer", found) (answer_words words all none) top_clean met

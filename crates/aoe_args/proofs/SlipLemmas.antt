@@ -2,7 +2,7 @@
 use Rattle.std.proofs.Common.{ℕ, ◌≡◌, ◌<◌, ◌≤◌, List, length, Option, Some, None, true, false, inr, sym, subst}
 use Rattle.std.specs.Prelude.{is_some, option_map, IsSomeAnd, MatchOption}
 use Rattle.clap.specs.Words.{Text}
-use Rattle.aoe_args.specs.Places.{Form, form_named, word_at}
+use Rattle.aoe_args.specs.Places.{Form, form_by, word_at}
 use Rattle.aoe_args.specs.Slips.{IsSlip, IsSlipIn, IsWrongIn}
 use Rattle.aoe_args.specs.declared.slip.Slip.{Slip}
 use Rattle.aoe_args.specs.declared.slip.Wrong.{Wrong}
@@ -30,12 +30,12 @@ pub some_and : {T : Type 0} (P : T → Type 0) (o : Option T) (x : T) → o ≡ 
 some_and P o x e h = subst (λ o. IsSomeAnd o P) (sym e) h
 
 -- a slip of one of the words of a command is one of the words
-pub slip_in : (form : Form) (words : List Text) (slip : Slip) → form_named (word_at 0 words) ≡ Some form → IsSlipIn form words slip → IsSlip words slip
+pub slip_in : (form : Form) (words : List Text) (slip : Slip) → form_by words ≡ Some form → IsSlipIn form words slip → IsSlip words slip
 slip_in form words slip named h = go slip.word h
   where
     go : (o : Option ℕ) → MatchOption o ⊥ (λ n. (1 ≤ n) × (n < length words) × IsWrongIn form words n slip.wrong) → IsSlip words (record slip { word = o })
     go None h = absurd h
-    go (Some n) h = (h.1, inr (inr (h.0, some_and (λ form. IsWrongIn form words n slip.wrong) (form_named (word_at 0 words)) form named h.2)))
+    go (Some n) h = (h.1, inr (inr (h.0, some_and (λ form. IsWrongIn form words n slip.wrong) (form_by words) form named h.2)))
 
 pub is_in : (form : Form) (words : List Text) (n : ℕ) (reason : Wrong) (slip : Slip) → slip ≡ record { word = Some n; wrong = reason } → 1 ≤ n
     → n < length words → IsWrongIn form words n reason → IsSlipIn form words slip

@@ -75,9 +75,15 @@ serve_app =
 abbrev pub mirror_front : App
 mirror_front = with_rule (with_rule (with_rule (bare (codes "mirror")) (needed (codes "shelf"))) (needed (codes "slot"))) (several (codes "files"))
 
--- with its options
+-- with the options of a target and of a link
+abbrev pub mirror_ports : App
+mirror_ports = with_rule (with_rule (with_link mirror_front) (optional (codes "port"))) (optional (codes "mtu"))
+
+-- with all its options; with the last one it is mirror --check FILE FILE MARK
 abbrev pub mirror_app : App
-mirror_app = with_rule (with_rule mirror_front (optional (codes "port"))) (optional (codes "mtu"))
+mirror_app =
+    with_rule (with_rule (with_rule (with_rule mirror_ports (optional (codes "idle"))) (optional (codes "stop"))) (flag (codes "lead-other")))
+    (flag (codes "check"))
 
 -- audit SHELF SLOT SECTORS KEEP
 abbrev pub audit_front : App

@@ -1,11 +1,11 @@
 -- To which argument of its command each word goes.
-use Rattle.std.specs.Prelude.{ℕ, zero, suc, ◌==◌, ◌+◌, ◌-◌, ◌&&◌, ◌||◌, Bool, true, false, not, is_some, List, [], ◌∷◌, map, count_by, find, get_or, Option, Some, None, if◌then◌else◌, option_and_then, option_map}
+use Rattle.std.specs.Prelude.{ℕ, zero, suc, ◌==◌, ◌+◌, ◌-◌, ◌&&◌, ◌||◌, Bool, true, false, not, is_some, List, [], ◌∷◌, map, count_by, find, get_or, take, codes, Option, Some, None, if◌then◌else◌, option_and_then, option_map}
 use Rattle.std.specs.List.{list_any}
 use Rattle.std.specs.Option.{option_map_or, option_or}
 use Rattle.std.specs.Str.{bytes_eq}
 use Rattle.clap.specs.Lexer.{long_of}
 use Rattle.clap.specs.Words.{Text}
-use Rattle.aoe_args.specs.Words.{attached, is_value}
+use Rattle.aoe_args.specs.Words.{attached, is_hyphen, is_mirror, is_value}
 use Rattle.aoe_args.specs.declared.app.Place.{Place}
 use Rattle.aoe_args.specs.declared.app.Place.TheVariants.{Needed, Several, Allowed, AllowedSeveral, Optional, Flag}
 use Rattle.aoe_args.specs.declared.app.TheConstants.{FORMS}
@@ -25,6 +25,13 @@ forms = map (λ f. (f.0.now, map (λ a. (a.0.now, a.1)) f.1.now)) FORMS
 -- the command of this name
 abbrev pub form_named : Text → Option Form
 form_named name = find (λ f. bytes_eq name f.0) forms
+
+-- mirror --check FILE FILE MARK, whose words go to other arguments than those of a mirror
+abbrev pub check_form : Form
+check_form = (
+  codes "mirror --check",
+  (codes "files", Needed) ∷ (codes "files", Needed) ∷ (codes "mark", Needed) ∷ (codes "check", Flag) ∷ [],
+)
 
 -- the word at this place
 abbrev pub word_at : ℕ → List Text → Text
@@ -51,6 +58,14 @@ option_name word = option_map_or (λ p. p.0) (long_of word) []
 -- an option of this name stands among these words
 abbrev pub is_given : Text → List Text → Bool
 is_given name words = list_any (λ word. bytes_eq (option_name word) name) words
+
+-- the words are those of a check of a mirror
+abbrev pub is_check : List Text → Bool
+is_check words = is_mirror words && is_given (codes "check") words
+
+-- the command that the words name
+abbrev pub form_by : List Text → Option Form
+form_by words = if is_check words then Some check_form else form_named (word_at 0 words)
 
 -- the option that the word at this place is; the first word is the command
 abbrev pub option_at : Form → List Text → ℕ → Option Argument
@@ -112,6 +127,12 @@ is_plain form words n = not (n == 0) && is_value (word_at n words) && not (is_so
 unfoldable pub plain_before : Form → List Text → ℕ → ℕ
 plain_before form words zero = 0
 plain_before form words (suc n) = if is_plain form words n then plain_before form words n + 1 else plain_before form words n
+
+-- the word at this place, one hyphen, stands for a file of a mirror that is gone: it goes by its place to one of the two FILEs, and no other does before it
+abbrev pub is_gone_file : Form → List Text → ℕ → Bool
+is_gone_file form words n =
+    not (is_some (awaits form words n)) && bytes_eq form.0 (codes "mirror")
+    && (plain_before form words n == 2 || plain_before form words n == 3) && not (list_any is_hyphen (take n words))
 
 -- the argument that the word at this place is or has a value for: it is an option, the value of the one before it, or goes by its place among the others
 abbrev pub argument_at : Form → List Text → ℕ → Option Text

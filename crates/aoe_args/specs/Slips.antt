@@ -6,11 +6,11 @@ use Rattle.clap.specs.Words.{Text}
 use Rattle.aoe_base.specs.Names.{device_of, mac_of}
 use Rattle.aoe_base.specs.Sizes.{longest_lifetime, most_cached, most_simulated}
 use Rattle.aoe_args.specs.Lacks.{AreExclusive, IsAlone, IsLacking, IsLastPlain, IsUnlinked, IsUnset, follower, most_words, plain_count}
-use Rattle.aoe_args.specs.Places.{Form, argument_at, awaits, form_named, is_flag, is_given, option_at, option_named, word_at}
+use Rattle.aoe_args.specs.Places.{Form, argument_at, awaits, form_by, is_flag, is_given, is_gone_file, option_at, option_named, word_at}
 use Rattle.aoe_args.specs.Switching.{kind_of}
 use Rattle.aoe_args.specs.Tools.{dir_of, is_socket_path}
 use Rattle.aoe_args.specs.Values.{number_within, port_of, ports_of}
-use Rattle.aoe_args.specs.Words.{attached, is_value, is_word}
+use Rattle.aoe_args.specs.Words.{attached, is_hyphen, is_name, is_value, is_word}
 use Rattle.aoe_args.specs.declared.slip.Actions.{Actions}
 use Rattle.aoe_args.specs.declared.slip.Actions.TheVariants as for
 use Rattle.aoe_args.specs.declared.slip.Slip.{Slip}
@@ -128,12 +128,12 @@ AreRight form words = (n : ℕ) → 1 ≤ n → n < length words → IsRight for
 
 -- ---- what is wrong with one of them
 
--- no command line has this word: it is empty, longer than 4096 bytes or only hyphens, or has no good value behind its `=`
+-- no command line has this word: it is empty, longer than 4096 bytes or two hyphens, or has no name behind its `=`
 abbrev pub IsUnusable : Wrong → Text → Type 0
 IsUnusable wrong.Empty word = word ≡ []
 IsUnusable wrong.Long word = 4096 < length word
-IsUnusable wrong.Hyphens word = (bytes_eq word (codes "-") || bytes_eq word (codes "--")) ≡ true
-IsUnusable wrong.NoText word = IsSomeAnd (attached word) (λ value. is_value value ≡ false)
+IsUnusable wrong.Hyphens word = bytes_eq word (codes "--") ≡ true
+IsUnusable wrong.NoText word = IsSomeAnd (attached word) (λ value. is_name value ≡ false)
 IsUnusable wrong word = ⊥
 
 -- there is no value at this place
@@ -150,6 +150,11 @@ pub record IsUnfit (form : Form) (words : List Text) (n : ℕ) (name : Text) (ki
   pub asked : wanted form.0 name ≡ Some kind
   pub unfit : IsSomeAnd (text_in (word_at n words)) (IsMisfit kind)
 
+-- the word at this place is one hyphen, and stands for no file of a mirror that is gone
+pub record IsMisplaced (form : Form) (words : List Text) (n : ℕ) : Type 0 where
+  pub hyphen : is_hyphen (word_at n words) ≡ true
+  pub misplaced : is_gone_file form words n ≡ false
+
 -- this is wrong with the word at this place, of those behind the command
 abbrev pub IsWrongIn : Form → List Text → ℕ → Wrong → Type 0
 IsWrongIn form words n wrong.Option = (is_value (word_at n words) ≡ false) × (option_at form words n ≡ None)
@@ -157,6 +162,7 @@ IsWrongIn form words n wrong.Twice = IsSomeAnd (option_at form words n) (λ a. i
 IsWrongIn form words n wrong.Flag = IsSomeAnd (option_at form words n) (λ a. (is_flag a.1 ≡ true) × (is_some (attached (word_at n words)) ≡ true))
 IsWrongIn form words n wrong.NoValue = (is_some (awaits form words (n + 1)) ≡ true) × IsNoValue (n + 1) words
 IsWrongIn form words n wrong.Further = (is_value (word_at n words) ≡ true) × (argument_at form words n ≡ None)
+IsWrongIn form words n wrong.Hyphens = IsMisplaced form words n
 IsWrongIn form words n (wrong.Unfit name wanted) = IsUnfit form words n name.now wanted
 IsWrongIn form words n (wrong.Behind name) =
     IsLastPlain form words n × (follower form.0 (plain_count form words) (word_at n words) ≡ Some name.now)
@@ -173,7 +179,7 @@ IsSlipIn form words slip = MatchOption slip.word ⊥ (λ n. (1 ≤ n) × (n < le
 pub record IsGoodEach (words : List Text) : Type 0 where
   pub each : list_all is_word words ≡ true
   pub name : is_command_name (word_at 0 words) ≡ true
-  pub right : IsSomeAnd (form_named (word_at 0 words)) (λ form. AreRight form words)
+  pub right : IsSomeAnd (form_by words) (λ form. AreRight form words)
 
 -- this is wrong with all words of a command; that they don't go together is said of what has no other name
 abbrev pub IsWrongTogether : Form → List Text → Wrong → Type 0
@@ -190,7 +196,7 @@ IsWrongTogether form words wrong = ⊥
 abbrev pub IsWrongOfAll : List Text → Wrong → Type 0
 IsWrongOfAll words reason =
     ((reason ≡ wrong.NoCommand) × (words ≡ []))
-    ⊎ (IsGoodEach words × IsSomeAnd (form_named (word_at 0 words)) (λ form. IsWrongTogether form words reason))
+    ⊎ (IsGoodEach words × IsSomeAnd (form_by words) (λ form. IsWrongTogether form words reason))
 
 -- ---- slips
 
@@ -204,7 +210,7 @@ pub record IsNoCommand (words : List Text) (n : ℕ) (reason : Wrong) : Type 0 w
 abbrev pub IsWrongAt : List Text → ℕ → Wrong → Type 0
 IsWrongAt words n wrong =
     IsUnusable wrong (word_at n words) ⊎ IsNoCommand words n wrong
-    ⊎ ((1 ≤ n) × IsSomeAnd (form_named (word_at 0 words)) (λ form. IsWrongIn form words n wrong))
+    ⊎ ((1 ≤ n) × IsSomeAnd (form_by words) (λ form. IsWrongIn form words n wrong))
 
 -- the reason of a slip holds of the word that it names, which is there, or of all words
 abbrev pub IsSlip : List Text → Slip → Type 0
@@ -212,6 +218,6 @@ IsSlip words slip = MatchOption slip.word (IsWrongOfAll words slip.wrong) (λ n.
 
 -- a name that may be meant by what isn't one: an option of the command, or a command
 abbrev pub IsMeant : List Text → Wrong → Text → Type 0
-IsMeant words wrong.Option name = IsSomeAnd (form_named (word_at 0 words)) (λ form. is_some (option_named form.1 name) ≡ true)
+IsMeant words wrong.Option name = IsSomeAnd (form_by words) (λ form. is_some (option_named form.1 name) ≡ true)
 IsMeant words wrong.Command name = is_command_name name ≡ true
 IsMeant words wrong name = ⊥

@@ -1,6 +1,6 @@
 -- What the words of a command line spell.
-use Rattle.std.specs.Prelude.{ℕ, ◌*◌, ◌/◌, ◌%◌, ◌≡◌, ◌≤◌, Bool, true, false, not, is_some, ◌&&◌, ◌||◌, ◌==◌, List, [], ◌∷◌, length, nat_lt, nat_le, slice_index, Option, Some, None, if◌then◌else◌, option_and_then, option_map, unwrap_or, codes, IfSome}
-use Rattle.std.specs.List.{list_all}
+use Rattle.std.specs.Prelude.{ℕ, ◌+◌, ◌*◌, ◌/◌, ◌%◌, ◌≡◌, ◌≤◌, Bool, true, false, not, is_some, ◌&&◌, ◌||◌, ◌==◌, List, [], ◌∷◌, get_or, length, nat_lt, nat_le, slice_index, Option, Some, None, if◌then◌else◌, option_and_then, option_map, string_bytes, unwrap_or, codes, IfSome}
+use Rattle.std.specs.List.{list_all, list_any}
 use Rattle.std.specs.Option.{option_map_or}
 use Rattle.std.specs.Str.{bytes_eq}
 use Rattle.std.specs.Borrow.{Bor}
@@ -20,6 +20,7 @@ use Rattle.aoe_args.specs.Apps.{aoe_app}
 use Rattle.aoe_args.specs.Values.{default_port, given, given_or, idle_of, is_set, link, number_within, port_of, ports_of, two_ends}
 use Rattle.aoe_args.specs.Switching.{CanSwitch, kinds_of}
 use Rattle.aoe_args.specs.Tools.{CanAsk, CanCfg, CanMask, CanReserve, CanFlush, CanGet, CanNbd, CanPut, IsSocketPath, discover_of, stat_of, cfg_of, mask_of, reserve_of, flush_of, get_of, nbd_of, put_of, socket_path}
+use Rattle.aoe_args.specs.declared.command.Alone.{Alone as Alones}
 use Rattle.aoe_args.specs.declared.command.Answer.{Answer as Answers}
 use Rattle.aoe_args.specs.declared.command.Serve.{Serve as Serves}
 use Rattle.aoe_args.specs.declared.command.Mirror.{Mirror as Mirrors}
@@ -31,25 +32,40 @@ use Rattle.aoe_args.specs.declared.command.KeepAction.{KeepAction}
 use Rattle.aoe_args.specs.declared.command.KeepAction.TheVariants.{Show, Upgrade, Lock, Unlock, ClearConfig, ClearMasks, ClearReserves}
 use Rattle.aoe_args.specs.declared.command.PortWords.{PortWords}
 use Rattle.aoe_args.specs.declared.command.Command.{Command}
-use Rattle.aoe_args.specs.declared.command.Command.TheVariants.{Answer, Serve, Mirror, Audit, Replay, Soak, Live, Switch, Ask, Get, Put, Nbd, Keep}
+use Rattle.aoe_args.specs.declared.command.Command.TheVariants.{Answer, Serve, Mirror, Compare, Audit, Replay, Soak, Live, Switch, Ask, Get, Put, Nbd, Keep}
 use Rattle.aoe_args.specs.declared.command.Tool.{Tool}
 use Rattle.aoe_args.specs.declared.command.Tool.TheVariants.{Discover, Stat, Cfg, Mask, Reserve, Flush}
 
 -- ---- words
 
--- a value is nonempty and doesn't begin with a hyphen (45)
+-- one hyphen, which stands for a file that is gone
+abbrev pub is_hyphen : Text → Bool
+is_hyphen text = bytes_eq text (codes "-")
+
+-- a name is nonempty and doesn't begin with a hyphen (45)
+abbrev pub is_name : Text → Bool
+is_name text = nat_lt 0 (length text) && not (slice_index text 0 == 45)
+
+-- a value is a name, or one hyphen
 abbrev pub is_value : Text → Bool
-is_value text = nat_lt 0 (length text) && not (slice_index text 0 == 45)
+is_value text = is_name text || is_hyphen text
 
 -- what stands behind the first `=` of `--name=value`
 abbrev pub attached : Text → Option Text
 attached word = option_and_then (λ p. p.1) (long_of word)
 
--- a word has 1 to 4096 bytes, is neither one hyphen nor two, and has a good value behind its `=`
+-- a word has 1 to 4096 bytes, isn't two hyphens, and has a name behind its `=`
 abbrev pub is_word : Text → Bool
 is_word word =
-    nat_lt 0 (length word) && nat_le (length word) 4096 && not (bytes_eq word (codes "-")) && not (bytes_eq word (codes "--"))
-    && option_map_or is_value (attached word) true
+    nat_lt 0 (length word) && nat_le (length word) 4096 && not (bytes_eq word (codes "--")) && option_map_or is_name (attached word) true
+
+-- the command that the first word names is `mirror`
+abbrev pub is_mirror : List Text → Bool
+is_mirror words = bytes_eq (get_or words 0 []) (codes "mirror")
+
+-- each can stand there, and one hyphen only among the words of `mirror`
+abbrev pub are_words : List Text → Bool
+are_words words = list_all is_word words && (is_mirror words || not (list_any is_hyphen words))
 
 -- the name of the command that is asked for and what is found for it, as they stand in what clap found
 pub record IsFoundIn (found : ArgMatches) (asked : Option (Bor Text × ArgMatches)) : Type 0 where
@@ -58,7 +74,7 @@ pub record IsFoundIn (found : ArgMatches) (asked : Option (Bor Text × ArgMatche
 
 -- the name of the command that is asked for, and what clap finds for it, where every word can stand there and clap finds no fault
 unfoldable pub parsed : List Text → Option (Text × List Row)
-parsed words = if list_all is_word words && is_empty (fault_of aoe_app words) then subcommand_of aoe_app words else None
+parsed words = if are_words words && is_empty (fault_of aoe_app words) then subcommand_of aoe_app words else None
 
 -- ---- commands
 
@@ -104,11 +120,21 @@ has_slots rows = length (files rows) % 2 == 0 && nat_le 2 (length (files rows)) 
 abbrev pub frames_of : List Row → Option (Option ℕ)
 frames_of = given_or (codes "frames") (λ text. option_map Some (number_within 1 4294967295 text)) None
 
--- the shelf of serve with its addresses, of so many slots
+-- the shelf of serve with its addresses, of so many slots, from slot 0 on
 unfoldable pub serve_with : ℕ → List Row → Option Serves
 serve_with slots rows =
     option_and_then (λ shelf. option_and_then (λ ports. option_and_then (λ mtu. option_and_then (λ cache. option_and_then (λ frames. option_map (λ idle.
-    record { shelf = shelf; slots = slots; ports = record { items = ports }; mtu = mtu; cache = cache; durable = is_durable rows; frames = frames; idle = idle })
+    record {
+      shelf = shelf;
+      slot = 0;
+      slots = slots;
+      ports = record { items = ports };
+      mtu = mtu;
+      cache = cache;
+      durable = is_durable rows;
+      frames = frames;
+      idle = idle;
+    })
     (idle_of rows)) (frames_of rows)) (cache_of rows)) (mtu_of rows)) (given_or (codes "ports") ports_of (default_port ∷ []) rows)) (shelf_of rows)
 
 -- with the ends of its link
@@ -117,13 +143,102 @@ serve_of rows =
     if not (has_slots rows) || holds_back_durably rows then None else
     option_and_then (λ link. serve_with (length (files rows) / 2) rows) (link rows)
 
+-- ---- a mirror
+
+-- the file of this number
+abbrev pub file_at : ℕ → List Row → Text
+file_at n rows = get_or (files rows) n []
+
+-- one hyphen stands in its place
+abbrev pub is_gone : ℕ → List Row → Bool
+is_gone n rows = is_hyphen (file_at n rows)
+
+-- FILE FILE MARK KEEP, of which the first two may be gone, but not both
+abbrev pub has_sides : List Row → Bool
+has_sides rows = length (files rows) == 4 && not (is_gone 0 rows && is_gone 1 rows) && not (is_gone 2 rows) && not (is_gone 3 rows)
+
+-- the side that is there where the other one is gone: 0 for the first file, 1 for the second
+abbrev pub side_of : List Row → Option ℕ
+side_of rows = if is_gone 0 rows then Some 1 else if is_gone 1 rows then Some 0 else None
+
+-- an option is given
+abbrev pub has_option : Text → List Row → Bool
+has_option id rows = is_some (first_of id rows)
+
+-- its value is one hyphen
+abbrev pub has_hyphen : Text → List Row → Bool
+has_hyphen id rows = option_map_or is_hyphen (first_of id rows) false
+
+-- a name beside those of the files is one hyphen
+abbrev pub has_no_name : List Row → Bool
+has_no_name rows =
+    has_hyphen (codes "local") rows || has_hyphen (codes "peers") rows || has_hyphen (codes "tap") rows || has_hyphen (codes "stop") rows
+
+-- an option is given that says something of a link
+abbrev pub has_link_option : List Row → Bool
+has_link_option rows =
+    has_option (codes "local") rows || has_option (codes "peers") rows || has_option (codes "vxlan") rows || has_option (codes "tap") rows
+    || has_option (codes "idle") rows || has_option (codes "stop") rows
+
+-- a mirror is over a link where one is named, and has none of its options elsewhere
+abbrev pub is_served : List Row → Bool
+is_served rows = is_some (link rows)
+
+abbrev pub lacks_link : List Row → Bool
+lacks_link rows = has_link_option rows && not (is_served rows)
+
 -- mirror SHELF SLOT FILE FILE MARK KEEP
 unfoldable pub mirror_of : List Row → Option Mirrors
 mirror_of rows =
-    if not (length (files rows) == 4) then None else
-    option_and_then (λ major. option_and_then (λ minor. option_and_then (λ port. option_map (λ mtu.
-    record { id = record { major = major; minor = minor }; port = port; mtu = mtu })
-    (mtu_of rows)) (given_or (codes "port") port_of default_port rows)) (slot_of rows)) (shelf_of rows)
+    if not (has_sides rows) || has_no_name rows || lacks_link rows then None else
+    option_and_then (λ major. option_and_then (λ minor. option_and_then (λ port. option_and_then (λ mtu. option_map (λ idle.
+    record { id = record { major = major; minor = minor }; port = port; mtu = mtu; is_served = is_served rows; idle = idle })
+    (idle_of rows)) (mtu_of rows)) (given_or (codes "port") port_of default_port rows)) (slot_of rows)) (shelf_of rows)
+
+-- what a mirror one of whose files is gone asks for: the other one by itself
+abbrev pub alone_command : Mirrors → Command
+alone_command asked =
+    if asked.is_served then
+    Serve (record {
+      shelf = asked.id.major;
+      slot = asked.id.minor;
+      slots = 1;
+      ports = record { items = asked.port ∷ [] };
+      mtu = asked.mtu;
+      cache = 0;
+      durable = false;
+      frames = None;
+      idle = asked.idle;
+    })
+    else Answer (record { id = asked.id; port = asked.port; mtu = asked.mtu; cache = 0; captures = false; durable = false })
+
+-- the files of a mirror: those that are named, or the one that is there and KEEP
+abbrev pub mirror_files : List Row → List Text
+mirror_files rows = option_map_or (λ side. file_at side rows ∷ file_at 3 rows ∷ []) (side_of rows) (files rows)
+
+-- mirror --check FILE FILE MARK, whose words stand where those of a mirror do
+abbrev pub compared_with : Text → Text → List Text → Option (List Text)
+compared_with one two (mark ∷ []) = if is_hyphen one || is_hyphen two || is_hyphen mark then None else Some (one ∷ two ∷ mark ∷ [])
+compared_with one two names = None
+
+abbrev pub compared : List Row → Option (List Text)
+compared rows =
+    option_and_then (λ one. option_and_then (λ two. option_and_then (compared_with one two) (all_of (codes "files") rows))
+    (first_of (codes "slot") rows)) (first_of (codes "shelf") rows)
+
+-- an option of a mirror is given, which has no meaning for a check
+abbrev pub has_mirror_option : List Row → Bool
+has_mirror_option rows =
+    has_link_option rows || has_option (codes "port") rows || has_option (codes "mtu") rows || is_set (codes "lead-other") rows
+
+unfoldable pub compare_of : List Row → Option Command
+compare_of rows = if has_mirror_option rows then None else option_map (λ names. Compare) (compared rows)
+
+-- of both
+unfoldable pub mirrored_of : List Row → Option Command
+mirrored_of rows = if is_set (codes "check") rows then compare_of rows else option_map Mirror (mirror_of rows)
+
+-- ---- further commands
 
 -- keep KEEP ACTION [LIST] and audit SHELF SLOT SECTORS KEEP: the file of the keep
 abbrev pub keep_name : List Row → Option Text
@@ -214,7 +329,7 @@ command_of name rows =
     if bytes_eq name (codes "answer") then option_map Answer (answer_of false rows)
     else if bytes_eq name (codes "capture") then option_map Answer (answer_of true rows)
     else if bytes_eq name (codes "serve") then option_map Serve (serve_of rows)
-    else if bytes_eq name (codes "mirror") then option_map Mirror (mirror_of rows)
+    else if bytes_eq name (codes "mirror") then mirrored_of rows
     else if bytes_eq name (codes "audit") then option_map Audit (audit_of rows)
     else if bytes_eq name (codes "replay") then Some Replay
     else if bytes_eq name (codes "soak") then option_map Soak (soak_of rows)
@@ -231,15 +346,33 @@ with_rows name rows = option_map (λ c. (c, rows)) (command_of name rows)
 abbrev pub spelled : List Text → Option (Command × List Row)
 spelled words = option_and_then (λ p. with_rows p.0 p.1) (parsed words)
 
+-- what is run for it: a mirror one of whose files is gone is the other file by itself
+abbrev pub run_of : Command → List Row → Command
+run_of (Answer answer) rows = Answer answer
+run_of (Serve serve) rows = Serve serve
+run_of (Mirror asked) rows = if is_some (side_of rows) then alone_command asked else Mirror asked
+run_of Compare rows = Compare
+run_of (Audit audit) rows = Audit audit
+run_of Replay rows = Replay
+run_of (Soak soak) rows = Soak soak
+run_of (Live live) rows = Live live
+run_of (Switch asked) rows = Switch asked
+run_of (Ask tool) rows = Ask tool
+run_of (Get get) rows = Get get
+run_of (Put put) rows = Put put
+run_of (Nbd nbd) rows = Nbd nbd
+run_of (Keep action) rows = Keep action
+
 -- the command that the words spell, or nothing
 abbrev pub command : List Text → Option Command
-command words = option_map (λ p. p.0) (spelled words)
+command words = option_map (λ p. run_of p.0 p.1) (spelled words)
 
 -- the files that it works on, in their order
 abbrev pub files_of : Command → List Row → List Text
 files_of (Answer answer) rows = files rows
 files_of (Serve serve) rows = files rows
-files_of (Mirror mirror) rows = files rows
+files_of (Mirror asked) rows = mirror_files rows
+files_of Compare rows = unwrap_or (compared rows) []
 files_of (Audit audit) rows = option_map_or (λ name. name ∷ []) (keep_name rows) []
 files_of Replay rows = []
 files_of (Soak soak) rows = []
@@ -259,6 +392,7 @@ abbrev pub socket_in : Command → List Row → Option Text
 socket_in (Answer answer) rows = None
 socket_in (Serve serve) rows = None
 socket_in (Mirror asked) rows = None
+socket_in Compare rows = None
 socket_in (Audit audit) rows = None
 socket_in Replay rows = None
 socket_in (Soak soak) rows = None
@@ -277,7 +411,8 @@ socket_name words = option_and_then (λ p. socket_in p.0 p.1) (spelled words)
 abbrev pub stop_in : Command → List Row → Option Text
 stop_in (Answer answer) rows = None
 stop_in (Serve serve) rows = first_of (codes "stop") rows
-stop_in (Mirror asked) rows = None
+stop_in (Mirror asked) rows = first_of (codes "stop") rows
+stop_in Compare rows = None
 stop_in (Audit audit) rows = None
 stop_in Replay rows = None
 stop_in (Soak soak) rows = None
@@ -297,6 +432,7 @@ abbrev pub is_told_in : Command → List Row → Bool
 is_told_in (Answer answer) rows = false
 is_told_in (Serve serve) rows = false
 is_told_in (Mirror asked) rows = false
+is_told_in Compare rows = false
 is_told_in (Audit audit) rows = false
 is_told_in Replay rows = false
 is_told_in (Soak soak) rows = false
@@ -311,6 +447,53 @@ is_told_in (Keep action) rows = false
 abbrev pub is_told : List Text → Bool
 is_told words = option_map_or (λ p. is_told_in p.0 p.1) (spelled words) false
 
+-- what is said of a mirror one of whose files is gone: MARK, and the side that is there
+abbrev pub alone_words : Alones → Text × ℕ
+alone_words alone = (string_bytes alone.mark, alone.side)
+
+abbrev pub alone_at : List Row → Option (Text × ℕ)
+alone_at rows = option_map (λ side. (file_at 2 rows, side)) (side_of rows)
+
+-- as the command line has it
+abbrev pub alone_in : Command → List Row → Option (Text × ℕ)
+alone_in (Answer answer) rows = None
+alone_in (Serve serve) rows = None
+alone_in (Mirror asked) rows = alone_at rows
+alone_in Compare rows = None
+alone_in (Audit audit) rows = None
+alone_in Replay rows = None
+alone_in (Soak soak) rows = None
+alone_in (Live live) rows = None
+alone_in (Switch asked) rows = None
+alone_in (Ask tool) rows = None
+alone_in (Get get) rows = None
+alone_in (Put put) rows = None
+alone_in (Nbd nbd) rows = None
+alone_in (Keep action) rows = None
+
+abbrev pub alone_of : List Text → Option (Text × ℕ)
+alone_of words = option_and_then (λ p. alone_in p.0 p.1) (spelled words)
+
+-- a side may lead that lacks sectors of the one that led
+abbrev pub leads_other_in : Command → List Row → Bool
+leads_other_in (Answer answer) rows = false
+leads_other_in (Serve serve) rows = false
+leads_other_in (Mirror asked) rows = is_set (codes "lead-other") rows
+leads_other_in Compare rows = false
+leads_other_in (Audit audit) rows = false
+leads_other_in Replay rows = false
+leads_other_in (Soak soak) rows = false
+leads_other_in (Live live) rows = false
+leads_other_in (Switch asked) rows = false
+leads_other_in (Ask tool) rows = false
+leads_other_in (Get get) rows = false
+leads_other_in (Put put) rows = false
+leads_other_in (Nbd nbd) rows = false
+leads_other_in (Keep action) rows = false
+
+abbrev pub leads_other : List Text → Bool
+leads_other words = option_map_or (λ p. leads_other_in p.0 p.1) (spelled words) false
+
 -- what names its links: the one that it has, and two
 abbrev pub one_link : List Row → List PortWords
 one_link rows = option_map_or (λ ends. ends ∷ []) (link rows) []
@@ -321,7 +504,8 @@ two_links rows = option_map_or (λ ends. ends.0 ∷ ends.1 ∷ []) (two_ends row
 abbrev pub links_of : Command → List Row → List PortWords
 links_of (Answer answer) rows = []
 links_of (Serve serve) rows = one_link rows
-links_of (Mirror mirror) rows = []
+links_of (Mirror asked) rows = one_link rows
+links_of Compare rows = []
 links_of (Audit audit) rows = []
 links_of Replay rows = []
 links_of (Soak soak) rows = []
@@ -357,6 +541,7 @@ pub record CanAnswer (answer : Answers) : Type 0 where
 pub record CanServe (serve : Serves) : Type 0 where
   pub shelf : serve.shelf ≤ 65534
   pub slots : (1 ≤ serve.slots) × (serve.slots ≤ 16)
+  pub last : serve.slot + serve.slots ≤ 255
   pub ports : ArePorts serve.ports.items
   pub mtu : (1500 ≤ serve.mtu) × (serve.mtu ≤ 9000)
   pub cache : serve.cache ≤ most_cached
@@ -369,6 +554,7 @@ pub record CanMirror (mirror : Mirrors) : Type 0 where
   pub slot : mirror.id.minor ≤ 254
   pub port : is_individual mirror.port ≡ true
   pub mtu : (1500 ≤ mirror.mtu) × (mirror.mtu ≤ 9000)
+  pub idle : IfSome mirror.idle (λ turns. (1 ≤ turns) × (turns ≤ 1000000))
 
 -- what `audit` asks for is possible
 pub record CanAudit (audit : Audits) : Type 0 where
@@ -402,6 +588,7 @@ abbrev pub IsInRange : Command → Type 0
 IsInRange (Answer answer) = CanAnswer answer
 IsInRange (Serve serve) = CanServe serve
 IsInRange (Mirror mirror) = CanMirror mirror
+IsInRange Compare = Unit
 IsInRange (Audit audit) = CanAudit audit
 IsInRange Replay = Unit
 IsInRange (Soak soak) = CanSoak soak
@@ -418,6 +605,7 @@ abbrev pub file_count : Command → ℕ
 file_count (Answer answer) = 2
 file_count (Serve serve) = 2 * serve.slots
 file_count (Mirror mirror) = 4
+file_count Compare = 3
 file_count (Audit audit) = 1
 file_count Replay = 0
 file_count (Soak soak) = 0
@@ -432,7 +620,8 @@ file_count (Keep action) = 1
 abbrev pub link_count : Command → ℕ
 link_count (Answer answer) = 0
 link_count (Serve serve) = 1
-link_count (Mirror mirror) = 0
+link_count (Mirror mirror) = if mirror.is_served then 1 else 0
+link_count Compare = 0
 link_count (Audit audit) = 0
 link_count Replay = 0
 link_count (Soak soak) = 0
@@ -449,6 +638,7 @@ abbrev pub listens : Command → Bool
 listens (Answer answer) = false
 listens (Serve serve) = false
 listens (Mirror mirror) = false
+listens Compare = false
 listens (Audit audit) = false
 listens Replay = false
 listens (Soak soak) = false
@@ -460,12 +650,12 @@ listens (Put put) = false
 listens (Nbd nbd) = true
 listens (Keep action) = false
 
--- what holds of a command with what clap found for it: it is possible, and has its files, its links and its socket
+-- what holds of a command with what clap found for it: what is run is possible, and has its files, its links and its socket
 pub record Fits (rows : List Row) (c : Command) : Type 0 where
-  pub range : IsInRange c
-  pub files : length (files_of c rows) ≡ file_count c
-  pub links : length (links_of c rows) ≡ link_count c
-  pub socket : is_some (socket_in c rows) ≡ listens c
+  pub range : IsInRange (run_of c rows)
+  pub files : length (files_of c rows) ≡ file_count (run_of c rows)
+  pub links : length (links_of c rows) ≡ link_count (run_of c rows)
+  pub socket : is_some (socket_in c rows) ≡ listens (run_of c rows)
   pub path : IfSome (socket_in c rows) IsSocketPath
 
 -- ---- words without options

@@ -144,7 +144,24 @@ pub(crate) static FORMS: [Form; 19] = [
             DURABLE,
         ],
     ),
-    ("mirror", &[SHELF, ("slot", Needed), FILES, PORT, MTU]),
+    (
+        "mirror",
+        &[
+            SHELF,
+            ("slot", Needed),
+            FILES,
+            LOCAL,
+            PEERS,
+            VXLAN,
+            TAP,
+            PORT,
+            MTU,
+            IDLE,
+            STOP,
+            ("lead-other", Flag),
+            ("check", Flag),
+        ],
+    ),
     (
         "audit",
         &[
@@ -250,6 +267,18 @@ pub(crate) static FORMS: [Form; 19] = [
     ),
     ("keep", &[KEEP, ACTION, LIST]),
 ];
+
+/// `mirror --check FILE FILE MARK`, whose words go to other arguments than those of a mirror. Clap has no
+/// such command: to it they are words of `mirror`.
+pub(crate) const CHECK: Form = (
+    "mirror --check",
+    &[
+        ("files", Needed),
+        ("files", Needed),
+        ("mark", Needed),
+        ("check", Flag),
+    ],
+);
 
 /// Words by their place.
 fn word<'a>(alloc: Global, id: &'a str, action: ArgAction) -> Arg<'a>

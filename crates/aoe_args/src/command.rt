@@ -33,7 +33,10 @@ pub struct Serve {
     /// The shelf's number.
     pub shelf: u16,
 
-    /// How many slots it has, from slot 0 on: each has two of the files.
+    /// The number of its first slot.
+    pub slot: u8,
+
+    /// How many slots it has, from that one on: each has two of the files.
     pub slots: u8,
 
     /// The addresses of the shelf.
@@ -55,8 +58,8 @@ pub struct Serve {
     pub idle: Option<u32>,
 }
 
-/// What `mirror SHELF SLOT FILE FILE MARK KEEP` asks for: to answer the frames of a stream as one
-/// target over two files.
+/// What `mirror SHELF SLOT FILE FILE MARK KEEP` asks for: to answer the frames of a stream, or of a link,
+/// as one target over two files.
 #[derive(Clone, Copy, PartialEq, Eq)]
 pub struct Mirror {
     /// The target's name.
@@ -67,6 +70,13 @@ pub struct Mirror {
 
     /// The greatest length of what an Ethernet frame carries.
     pub mtu: u32,
+
+    /// Whether the frames are those of a link, and not of a stream.
+    pub is_served: bool,
+
+    /// How many turns without a frame, one behind the other, end the run over a link; `None` where none
+    /// do.
+    pub idle: Option<u32>,
 }
 
 /// What `audit SHELF SLOT SECTORS KEEP` asks for: to judge the capture in the source as one of this
@@ -310,6 +320,11 @@ pub enum Command {
     Answer(Answer),
     Serve(Serve),
     Mirror(Mirror),
+
+    /// What `mirror --check FILE FILE MARK` asks for: to compare the two files of a mirror, and to write
+    /// which of their sectors differ.
+    Compare,
+
     Audit(Audit),
 
     /// What `replay` asks for: to run the script that the source spells, and to print its history.
@@ -342,28 +357,47 @@ pub enum PortWords {
     },
 }
 
+/// What is said of a mirror one of whose two files is gone, and whose other file is served by itself.
+#[derive(Drop)]
+pub struct Alone {
+    /// The name of the file that says which side leads.
+    pub mark: String,
+
+    /// The side that is there: 0 for the first file, 1 for the second.
+    pub side: u8,
+}
+
 /// What a command line spells: a command, and what a program opens, looks for and says for it.
 #[derive(Drop)]
 pub struct CommandLine {
     pub command: Command,
 
     /// The names of the files that `answer`, `capture`, `serve`, `mirror`, `audit` or `keep` works on, in
-    /// their order; none for the other commands.
+    /// their order; none for the other commands. Of a mirror with one side gone: the file that is there,
+    /// and its keep.
     pub files: Vec<String>,
 
-    /// What names the links that the command works on: one for `serve`, `nbd` and each tool, two for
-    /// `live`, none for the other commands.
+    /// What names the links that the command works on: one for `serve`, `nbd`, each tool and a `mirror`
+    /// that is served, two for `live`, none for the other commands.
     pub links: Vec<PortWords>,
 
     /// The path of the Unix socket that clients connect to: what `--socket` of `nbd` gives; none for the
     /// other commands.
     pub socket: Option<String>,
 
-    /// The name of the file whose coming ends the run: what `--stop` of `serve` or `nbd` gives, where it
-    /// stands.
+    /// The name of the file whose coming ends the run: what `--stop` of `serve`, `mirror` or `nbd` gives,
+    /// where it stands.
     pub stop: Option<String>,
 
     /// Whether it is told how far a copy has come where standard error is no terminal, too: `--progress`
     /// of `get` and `put`.
     pub is_told: bool,
+
+    /// What is said of a mirror with one side gone: what `mirror` with `-` in place of a file gives; none
+    /// for the other commands.
+    pub alone: Option<Alone>,
+
+    /// Whether a side may lead from now on that lacks sectors of the one that led: `--lead-other` of
+    /// `mirror`.
+    pub lead_other: bool,
 }

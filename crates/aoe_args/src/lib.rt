@@ -9,19 +9,24 @@
 //! goes to which place is the work of the crate `clap`; numbers and addresses are read as
 //! everywhere.
 //!
+//! A single hyphen stands for a file of a mirror that is gone: of `mirror SHELF SLOT FILE FILE MARK KEEP`
+//! one FILE may be it, and nothing else, nowhere else. Then the command is that of the other FILE by
+//! itself, with what the mirror says of it ([`Alone`]).
+//!
 //! It opens nothing. Arguments are a command or none; [`slip_of`] says what is wrong with those that
 //! are none, [`meant`] which option or command may be meant by a word that is none, and [`SlipText`]
 //! is what a program says of both.
 //!
 //! Promised: unless memory is short, `read_words` returns the command that the arguments spell by
-//! `command`, and none exactly where they spell none; with it the files (`file_names`), the links
-//! (`port_words`), the socket (`socket_name`), the stop file (`stop_name`) and `is_told`. Its numbers
-//! are in their ranges (`IsInRange`), and the path of a socket has 1 to 107 bytes (`IsSocketPath`).
-//! `slip_of` returns none exactly for a command; else the argument that it names is there, and its
-//! reason holds of it or of all of them (`IsSlip`): an option is the command's or isn't (`option_at`),
-//! a text isn't what the argument that it goes to has to be (`IsUnfit`), what is missing is missing
-//! (`IsLacking`, `follower`, `IsAlone`, `IsUnlinked`, `IsUnset`), and two options exclude each other
-//! (`AreExclusive`). Law `plain_words_law` has the four arguments of `answer`.
+//! `command`, and none exactly where they spell none; with it files (`file_names`), links (`port_words`),
+//! socket (`socket_name`), stop file (`stop_name`), `is_told`, the side of a mirror that is there
+//! (`alone_of`) and `leads_other`. Numbers are in their ranges (`IsInRange`), and the path of a socket has
+//! 1 to 107 bytes (`IsSocketPath`). `slip_of` returns none exactly for a command; else the argument that it
+//! names is there, and its reason holds of it or of all (`IsSlip`): an option is the command's or isn't
+//! (`option_at`), a text isn't what its argument has to be (`IsUnfit`), what is missing is missing
+//! (`IsLacking`, `follower`, `IsAlone`, `IsUnlinked`, `IsUnset`), two options exclude each other
+//! (`AreExclusive`), and a hyphen stands for no file that is gone (`IsMisplaced`). Law `plain_words_law` has
+//! the four arguments of `answer`.
 //!
 //! Only tested: tables of arguments that are a command, and of those that are none, with what is
 //! said of them (`words` of aoe_program_tests, `tests/check`). Which of several slips is named, that
@@ -36,6 +41,7 @@ mod lack;
 mod law;
 mod link;
 mod lists;
+mod mirror;
 mod nearest;
 mod ports;
 mod read;
@@ -47,8 +53,8 @@ mod values;
 mod word;
 
 pub use command::{
-    Answer, Asking, Audit, Cfg, Command, CommandLine, Discover, Flush, Get, KeepAction, Live, Mask,
-    Mirror, Nbd, PortKinds, PortWords, Put, Reserve, Serve, Soak, Stat, Switch, Tool,
+    Alone, Answer, Asking, Audit, Cfg, Command, CommandLine, Discover, Flush, Get, KeepAction,
+    Live, Mask, Mirror, Nbd, PortKinds, PortWords, Put, Reserve, Serve, Soak, Stat, Switch, Tool,
 };
 pub use law::plain_words_law;
 pub use nearest::meant;

@@ -5,7 +5,7 @@ ghost use Rattle.aoe_args.specs.Places.{option_named};
 ghost use Rattle.aoe_args.specs.Slips.{IsMeant, is_command_name};
 
 use crate::app::{FORMS, Form};
-use crate::slip::{Slip, Wrong, form_of, option_in};
+use crate::slip::{Slip, Wrong, form_by, form_of, option_in};
 use aoe_base::NoMemory;
 use std::alloc::Global;
 use strsim::levenshtein;
@@ -90,13 +90,13 @@ pub fn meant(alloc: Global, words: &[String], slip: Slip) -> Result<Option<&'sta
     ensures { IfOk result (λ name. IfSome name
         (λ n. IsMeant (map string_bytes words.now) slip.wrong n.now)) }
 {
-    let (Some(first), Some(place)) = (words.first(), slip.word) else {
+    let Some(place) = slip.word else {
         return Ok(None);
     };
     let Some(word) = words.get(place) else {
         return Ok(None);
     };
-    match (slip.wrong, form_of(first.as_str())) {
+    match (slip.wrong, form_by(words)) {
         (Wrong::Command, _) => nearest_command(alloc, word.as_str()),
         (Wrong::Option, Some(form)) => nearest_option(alloc, form, name_in(word.as_str())),
         _ => Ok(None),

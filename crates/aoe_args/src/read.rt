@@ -1,9 +1,9 @@
 //! What arguments spell.
 ghost use Rattle.std.specs.Prelude.{◌≡◌, ◌≢◌, ◌≤◌, length, false, is_some, map, option_map, string_bytes, IfErr, IfOk, IfSome, IsErr, IsOkAnd, IsSome, None, Ok};
-ghost use Rattle.std.specs.List.{list_all};
+ghost use Rattle.std.specs.List.{list_all, list_any};
 ghost use Rattle.clap.specs.Values.{kind_of};
 ghost use Rattle.clap.specs.Words.{found_of, rows_of};
-ghost use Rattle.aoe_args.specs.Words.{CanRun, CanServe, Fits, IsFoundIn, IsInRange, answer_of, asked_of, audit_of, command, command_of, file_count, file_names, files_of, holds_back_durably, is_durable, is_told, is_told_in, is_word, clear_action, plain_action, keep_name, keep_of, link_count, links_of, list_tool_of, listens, live_of, mirror_of, parsed, port_words, serve_of, serve_with, soak_of, socket_in, socket_name, stop_in, stop_name, switch_of, tool_of};
+ghost use Rattle.aoe_args.specs.Words.{CanRun, CanServe, Fits, IsFoundIn, IsInRange, alone_in, alone_of, alone_words, answer_of, are_words, asked_of, audit_of, command, command_of, file_count, file_names, files_of, holds_back_durably, is_durable, is_hyphen, is_mirror, is_told, is_told_in, is_word, clear_action, plain_action, keep_name, keep_of, leads_other, leads_other_in, link_count, links_of, list_tool_of, listens, live_of, parsed, port_words, run_of, serve_of, serve_with, soak_of, socket_in, socket_name, stop_in, stop_name, switch_of, tool_of};
 ghost use Rattle.aoe_args.specs.Values.{idle_of, link};
 ghost use Rattle.aoe_args.specs.Tools.{IsSocketPath};
 
@@ -13,6 +13,7 @@ use crate::bounds::{
     SOAK_COMMANDS, TURNS,
 };
 use crate::link::{all_links, link, two_ends};
+use crate::mirror::{alone_command, compared, mirror_alone, mirror_files, mirrored_of, side_of};
 use crate::switch::read_kinds;
 use crate::tools::{
     cfg_of, discover_of, flush_of, get_of, mask_of, nbd_of, put_of, reserve_of, socket_path,
@@ -22,9 +23,9 @@ use crate::values::{
     DEFAULT_PORT, idle_of, is_set, number, number_from, number_if_given, number_or,
     port_or_default, ports_or_default, text, texts,
 };
-use crate::word::is_word;
+use crate::word::{is_hyphen, is_word};
 use crate::{
-    Answer, Audit, Command, CommandLine, KeepAction, Live, Mirror, PortWords, Serve, Soak, Switch,
+    Alone, Answer, Audit, Command, CommandLine, KeepAction, Live, PortWords, Serve, Soak, Switch,
     Tool,
 };
 use aoe_base::{LAST_MAJOR, LAST_MINOR, NoMemory, TargetId};
@@ -35,14 +36,11 @@ use std::alloc::Global;
 /// How many files `answer` and `capture` work on.
 const ANSWER_FILES: usize = 2;
 
-/// How many files `mirror` works on: two sides, what says which of them leads, and a keep.
-const MIRROR_FILES: usize = 4;
-
 /// The most files that `serve` works on.
 const MOST_FILES: usize = 32;
 
 /// What an Ethernet frame carries where nothing is said of it.
-const DEFAULT_MTU: u32 = 1500;
+pub(crate) const DEFAULT_MTU: u32 = 1500;
 
 /// How many sectors a slot buffers where nothing is said of it.
 const DEFAULT_CACHE: u32 = 0;
@@ -51,10 +49,34 @@ const DEFAULT_CACHE: u32 = 0;
 const LIVE_TURNS: u32 = 5000;
 
 /// Whether every word can stand on a command line.
-fn are_words(words: &[String]) -> bool
+fn are_each_words(words: &[String]) -> bool
     ensures { result ≡ list_all is_word (map string_bytes words.now) }
 {
     words.iter().all(|word| is_word(word.as_bytes()))
+}
+
+/// Whether one of the words is one hyphen.
+pub(crate) fn have_hyphen(words: &[String]) -> bool
+    ensures { result ≡ list_any is_hyphen (map string_bytes words.now) }
+{
+    words.iter().any(|word| is_hyphen(word.as_bytes()))
+}
+
+/// Whether the first word names the command `mirror`.
+pub(crate) fn is_mirror(words: &[String]) -> bool
+    ensures { result ≡ is_mirror (map string_bytes words.now) }
+{
+    match words.first() {
+        Some(name) => name.as_str() == "mirror",
+        None => false,
+    }
+}
+
+/// Whether every word can stand there, and one hyphen only behind `mirror`.
+fn are_words(words: &[String]) -> bool
+    ensures { result ≡ are_words (map string_bytes words.now) }
+{
+    are_each_words(words) && (is_mirror(words) || !have_hyphen(words))
 }
 
 /// What a refusal of clap's says: nothing where the words are at fault, and whatever else it refuses
@@ -94,7 +116,7 @@ fn parsed<'a>(
 ) -> Result<Option<(&'a str, ArgMatches<'a>)>, NoMemory>
     ensures value { IfOk result (λ r. option_map (λ p. (p.0.now, rows_of (found_of p.1))) r
         ≡ parsed (map string_bytes words.entry.now)) }
-    ensures words { list_all is_word (map string_bytes words.entry.now) ≡ false → result ≡ Ok None }
+    ensures words { are_words (map string_bytes words.entry.now) ≡ false → result ≡ Ok None }
 {
     if !are_words(words) {
         return Ok(None);
@@ -148,6 +170,7 @@ fn serve_with(found: &ArgMatches, slots: u8) -> Option<Serve>
 {
     Some(Serve {
         shelf: number(found, "shelf", LAST_MAJOR)? as u16,
+        slot: 0,
         slots,
         ports: ports_or_default(found, "ports")?,
         mtu: number_or(found, "mtu", MTU, DEFAULT_MTU)?,
@@ -170,25 +193,6 @@ fn serve_of(found: &ArgMatches) -> Option<Command>
     }
     let _link = link(found)?;
     Some(Command::Serve(serve_with(found, (files / 2) as u8)?))
-}
-
-/// What the arguments of `mirror` ask for.
-#[tactic(auto, unfolding(crate::specs::Words::mirror_of))]
-fn mirror_of(found: &ArgMatches) -> Option<Command>
-    ensures value { result ≡ option_map Command.Mirror (mirror_of (rows_of (found_of found.now))) }
-    ensures fits { IfSome result (Fits (rows_of (found_of found.now))) }
-{
-    if texts(found, "files")?.len() != MIRROR_FILES {
-        return None;
-    }
-    Some(Command::Mirror(Mirror {
-        id: TargetId {
-            major: number(found, "shelf", LAST_MAJOR)? as u16,
-            minor: number(found, "slot", LAST_MINOR)? as u8,
-        },
-        port: port_or_default(found, "port", DEFAULT_PORT)?,
-        mtu: number_or(found, "mtu", MTU, DEFAULT_MTU)?,
-    }))
 }
 
 /// The name of a keep's file.
@@ -350,7 +354,7 @@ fn command_of(name: &str, found: &ArgMatches) -> Option<Command>
         "answer" => answer_of(found, false),
         "capture" => answer_of(found, true),
         "serve" => serve_of(found),
-        "mirror" => mirror_of(found),
+        "mirror" => mirrored_of(found),
         "audit" => audit_of(found),
         "replay" => Some(Command::Replay),
         "soak" => soak_of(found),
@@ -361,8 +365,18 @@ fn command_of(name: &str, found: &ArgMatches) -> Option<Command>
     }
 }
 
+/// What is run for a command: of a mirror one of whose files is gone the other one by itself.
+fn run_of(command: Command, found: &ArgMatches) -> Command
+    ensures { result ≡ run_of command (rows_of (found_of found.now)) }
+{
+    match command {
+        Command::Mirror(asked) if side_of(found).is_some() => alone_command(asked),
+        command => command,
+    }
+}
+
 /// Copies of texts.
-fn copies(alloc: Global, texts: &[&str]) -> Result<Vec<String>, NoMemory>
+pub(crate) fn copies(alloc: Global, texts: &[&str]) -> Result<Vec<String>, NoMemory>
     ensures { IfOk result (λ names. map string_bytes names.items
         ≡ map (λ text. text.now) texts.now) }
 {
@@ -379,8 +393,13 @@ fn files_of(alloc: Global, command: &Command, found: &ArgMatches) -> Result<Vec<
         ≡ files_of command.now (rows_of (found_of found.now))) }
 {
     match command {
-        Command::Answer(_) | Command::Serve(_) | Command::Mirror(_) => match texts(found, "files") {
+        Command::Answer(_) | Command::Serve(_) => match texts(found, "files") {
             Some(texts) => copies(alloc, texts),
+            None => Ok(Vec::new(alloc)),
+        },
+        Command::Mirror(_) => mirror_files(alloc, found),
+        Command::Compare => match compared(found) {
+            Some((one, two, mark)) => copies(alloc, &[one, two, mark]),
             None => Ok(Vec::new(alloc)),
         },
         Command::Audit(_) | Command::Keep(_) => match keep_name(found) {
@@ -402,7 +421,7 @@ fn links_of(
 {
     match command {
         Command::Answer(_)
-        | Command::Mirror(_)
+        | Command::Compare
         | Command::Audit(_)
         | Command::Replay
         | Command::Soak(_)
@@ -412,11 +431,15 @@ fn links_of(
             Some((one, two)) => all_links(alloc, &[one, two]),
             None => Ok(Vec::new(alloc)),
         },
-        Command::Serve(_) | Command::Ask(_) | Command::Get(_) | Command::Put(_) | Command::Nbd(_) =>
-            match link(found) {
-                Some(link) => all_links(alloc, &[link]),
-                None => Ok(Vec::new(alloc)),
-            },
+        Command::Serve(_)
+        | Command::Mirror(_)
+        | Command::Ask(_)
+        | Command::Get(_)
+        | Command::Put(_)
+        | Command::Nbd(_) => match link(found) {
+            Some(link) => all_links(alloc, &[link]),
+            None => Ok(Vec::new(alloc)),
+        },
     }
 }
 
@@ -452,7 +475,10 @@ fn stop_of(alloc: Global, command: &Command, found: &ArgMatches) -> Result<Optio
         ≡ stop_in command.now (rows_of (found_of found.now))) }
 {
     match command {
-        Command::Serve(_) | Command::Nbd(_) => copy(alloc, text(found, "stop")),
+        Command::Serve(_) | Command::Mirror(_) | Command::Nbd(_) => copy(
+            alloc,
+            text(found, "stop"),
+        ),
         _ => Ok(None),
     }
 }
@@ -463,6 +489,28 @@ fn is_told_in(command: &Command, found: &ArgMatches) -> bool
 {
     match command {
         Command::Get(_) | Command::Put(_) => is_set(found, "progress"),
+        _ => false,
+    }
+}
+
+/// What is said of a mirror one of whose files is gone.
+fn alone_of(alloc: Global, command: &Command, found: &ArgMatches) -> Result<Option<Alone>, NoMemory>
+    ensures value { IfOk result (λ alone. option_map alone_words alone
+        ≡ alone_in command.now (rows_of (found_of found.now))) }
+    ensures side { IfOk result (λ alone. IfSome alone (λ a. a.side ≤ 1)) }
+{
+    match command {
+        Command::Mirror(_) => mirror_alone(alloc, found),
+        _ => Ok(None),
+    }
+}
+
+/// Whether a side may lead that lacks sectors of the one that led.
+fn leads_other_in(command: &Command, found: &ArgMatches) -> bool
+    ensures { result ≡ leads_other_in command.now (rows_of (found_of found.now)) }
+{
+    match command {
+        Command::Mirror(_) => is_set(found, "lead-other"),
         _ => false,
     }
 }
@@ -491,6 +539,11 @@ pub fn read_words(alloc: Global, words: &[String]) -> Result<Option<CommandLine>
         ≡ stop_name (map string_bytes words.now))) }
     ensures told { IfOk result (λ r. IfSome r (λ line. line.is_told
         ≡ is_told (map string_bytes words.now))) }
+    ensures alone { IfOk result (λ r. IfSome r (λ line. option_map alone_words line.alone
+        ≡ alone_of (map string_bytes words.now))) }
+    ensures side { IfOk result (λ r. IfSome r (λ line. IfSome line.alone (λ a. a.side ≤ 1))) }
+    ensures leads_other { IfOk result (λ r. IfSome r (λ line. line.lead_other
+        ≡ leads_other (map string_bytes words.now))) }
     ensures words { list_all is_word (map string_bytes words.now) ≡ false → result ≡ Ok None }
 {
     let Some((name, found)) = parsed(alloc, words)? else {
@@ -505,6 +558,8 @@ pub fn read_words(alloc: Global, words: &[String]) -> Result<Option<CommandLine>
         socket: socket_of(alloc, &command, &found)?,
         stop: stop_of(alloc, &command, &found)?,
         is_told: is_told_in(&command, &found),
-        command,
+        alone: alone_of(alloc, &command, &found)?,
+        lead_other: leads_other_in(&command, &found),
+        command: run_of(command, &found),
     }))
 }

@@ -3,13 +3,13 @@ ghost use Rattle.std.specs.Prelude.{◌≡◌, ◌<◌, ◌≤◌, ◌+◌, ◌&
 ghost use Rattle.std.specs.List.{list_all, list_any};
 ghost use Rattle.std.specs.Str.{bytes_eq};
 ghost use Rattle.aoe_args.specs.Apps.{argument as told, form as told_form};
-ghost use Rattle.aoe_args.specs.Places.{argument_at, argument_behind, awaits, form_named, is_flag, is_given, is_option, option_at, option_named, takes_several, word_at};
+ghost use Rattle.aoe_args.specs.Places.{argument_at, argument_behind, awaits, form_by, form_named, is_check, is_flag, is_given, is_gone_file, is_option, option_at, option_named, takes_several, word_at};
 ghost use Rattle.aoe_args.specs.Slips.{AreRight, IsFit, IsMisfit, IsRight, IsSlip, IsSlipIn, IsUnusable, actions_of, is_action, is_command_name, is_list, number_wanted, text_in, wanted};
 ghost use Rattle.aoe_args.specs.Walks.{IsWalked};
 ghost use Rattle.aoe_args.specs.Values.{number_within};
-ghost use Rattle.aoe_args.specs.Words.{attached, command, is_value, is_word};
+ghost use Rattle.aoe_args.specs.Words.{attached, command, is_hyphen, is_name, is_value, is_word};
 
-use crate::app::{Argument, FORMS, Form, Place};
+use crate::app::{Argument, CHECK, FORMS, Form, Place};
 use crate::bounds::{
     CACHE, FRAMES, IDLE, LAST_SECTOR, LAST_SEED, LIFETIME, LIVE_COMMANDS, LIVE_SECTORS,
     MOST_CAPTURED_SECTORS, MOST_GET_SECTORS, MTU, SOAK_COMMANDS, TURNS, VXLAN,
@@ -17,10 +17,10 @@ use crate::bounds::{
 use crate::lack::{count_slip, lacking, options_wrong};
 use crate::lists::read_dir;
 use crate::ports::{read_port, read_ports};
-use crate::read_words;
+use crate::read::{have_hyphen, is_mirror, read_words};
 use crate::switch::read_kind;
 use crate::tools::is_socket_path;
-use crate::word::{LONGEST_WORD, attached, is_value, option_name};
+use crate::word::{LONGEST_WORD, attached, is_hyphen, is_name, is_value, option_name};
 use aoe_base::{LAST_MAJOR, LAST_MINOR, NoMemory, read_device, read_mac, read_number};
 use std::alloc::Global;
 use thiserror::Error;
@@ -570,6 +570,43 @@ fn word_slip(form: Form, words: &[String], place: usize, name: Option<&'static s
     }
 }
 
+/// Whether one of the words before this place is one hyphen.
+fn have_hyphen_before(words: &[String], place: usize) -> bool
+    requires { place < length words.now }
+    ensures { result ≡ list_any is_hyphen (take place (map string_bytes words.now)) }
+{
+    have_hyphen(&words[..place])
+}
+
+/// Whether one hyphen at this place stands for a file of a mirror that is gone.
+fn is_gone_file(form: Form, words: &[String], place: usize, walked: Walked) -> bool
+    requires place { (1 ≤ place) × (place < length words.now) }
+    requires walked { IsWalked (told_form form) (map string_bytes words.now) place walked }
+    ensures { result ≡ is_gone_file (told_form form.entry) (map string_bytes words.now) place }
+{
+    match walked.awaited {
+        Some(_) => false,
+        None => {
+            form.0 == "mirror"
+                && (walked.before == 2 || walked.before == 3)
+                && !have_hyphen_before(words, place)
+        }
+    }
+}
+
+/// What is wrong with the word at this place where it is one hyphen.
+fn hyphen_slip(form: Form, words: &[String], place: usize, walked: Walked) -> Option<Slip>
+    requires place { (1 ≤ place) × (place < length words.now) }
+    requires walked { IsWalked (told_form form) (map string_bytes words.now) place walked }
+    ensures { IfSome result (IsSlipIn (told_form form.entry) (map string_bytes words.now)) }
+{
+    if is_hyphen(word_at(words, place)) && !is_gone_file(form, words, place, walked) {
+        Some(at(place, Wrong::Hyphens))
+    } else {
+        None
+    }
+}
+
 /// What the words up to the one behind this place tell; or what is wrong with the word at this place.
 fn step(form: Form, words: &[String], place: usize, walked: Walked) -> Result<Walked, Slip>
     requires place { (1 ≤ place) × (place < length words.now) }
@@ -578,6 +615,9 @@ fn step(form: Form, words: &[String], place: usize, walked: Walked) -> Result<Wa
     ensures walked { IfOk result (IsWalked (told_form form.entry) (map string_bytes words.now) (place + 1)) }
     ensures right { IfOk result (λ r. IsRight (told_form form.entry) (map string_bytes words.now) place) }
 {
+    if let Some(slip) = hyphen_slip(form, words, place, walked) {
+        return Err(slip);
+    }
     if !is_value(word_at(words, place)) {
         let awaited = option_slip(form, words, place)?;
         return Ok(Walked { awaited, ..walked });
@@ -624,7 +664,7 @@ fn walk(form: Form, words: &[String]) -> Result<Walked, Slip>
 fn lack(form: Form, words: &[String], walked: Walked) -> Slip
     requires words { list_all is_word (map string_bytes words.now) ≡ true }
     requires name { is_command_name (word_at 0 (map string_bytes words.now)) ≡ true }
-    requires form { form_named (word_at 0 (map string_bytes words.now)) ≡ Some (told_form form) }
+    requires form { form_by (map string_bytes words.now) ≡ Some (told_form form) }
     requires right { AreRight (told_form form) (map string_bytes words.now) }
     requires walked { IsWalked (told_form form) (map string_bytes words.now) (length words.now) walked }
     ensures { IsSlip (map string_bytes words.now) result }
@@ -663,6 +703,23 @@ pub(crate) fn form_of(name: &str) -> Option<Form>
     form_in(&FORMS, name)
 }
 
+/// Whether the words are those of a check of a mirror.
+fn is_check(words: &[String]) -> bool
+    ensures { result ≡ is_check (map string_bytes words.now) }
+{
+    is_mirror(words) && is_given(words, "check")
+}
+
+/// The form of the command that the words name.
+pub(crate) fn form_by(words: &[String]) -> Option<Form>
+    ensures there { is_some result ≡ is_command_name (word_at 0 (map string_bytes words.now)) }
+    ensures form { IfSome result
+        (λ form. form_by (map string_bytes words.now) ≡ Some (told_form form)) }
+{
+    let form = form_of(words.first()?.as_str())?;
+    Some(if is_check(words) { CHECK } else { form })
+}
+
 /// Whether a command has this name.
 pub fn is_command(name: &str) -> bool
     ensures { result ≡ is_command_name name.now }
@@ -681,11 +738,11 @@ fn unusable(word: &[u8]) -> Option<Wrong>
     if word.len() > LONGEST_WORD {
         return Some(Wrong::Long);
     }
-    if word == b"-".as_slice() || word == b"--".as_slice() {
+    if word == b"--".as_slice() {
         return Some(Wrong::Hyphens);
     }
     match attached(word) {
-        Some(value) if !is_value(value) => Some(Wrong::NoText),
+        Some(value) if !is_name(value) => Some(Wrong::NoText),
         _ => None,
     }
 }
@@ -710,10 +767,10 @@ fn first_slip(words: &[String]) -> Slip
     if let Some(slip) = first_unusable(words) {
         return slip;
     }
-    let Some(name) = words.first() else {
+    if words.is_empty() {
         return of_all(Wrong::NoCommand);
-    };
-    let Some(form) = form_of(name.as_str()) else {
+    }
+    let Some(form) = form_by(words) else {
         return at(0, Wrong::Command);
     };
     match walk(form, words) {

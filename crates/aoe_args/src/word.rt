@@ -2,16 +2,30 @@
 ghost use Rattle.std.specs.Prelude.{◌≡◌, ◌==◌, option_and_then, option_map, position};
 ghost use Rattle.clap.specs.Lexer.{strip_byte};
 ghost use Rattle.aoe_args.specs.Places.{option_name};
-ghost use Rattle.aoe_args.specs.Words.{attached, is_value, is_word};
+ghost use Rattle.aoe_args.specs.Words.{attached, is_hyphen, is_name, is_value, is_word};
 
 /// The greatest length of a word, in bytes.
 pub(crate) const LONGEST_WORD: usize = 4096;
 
-/// Whether a text can be the value of an option: it is nonempty and doesn't begin with a hyphen.
+/// Whether a text is one hyphen, which stands for a file that is gone.
+pub(crate) fn is_hyphen(text: &[u8]) -> bool
+    ensures { result ≡ is_hyphen text.now }
+{
+    text == b"-".as_slice()
+}
+
+/// Whether a text can be a name: it is nonempty and doesn't begin with a hyphen.
+pub(crate) fn is_name(text: &[u8]) -> bool
+    ensures { result ≡ is_name text.now }
+{
+    !text.is_empty() && text[0] != b'-'
+}
+
+/// Whether a word is no option: it can be a name, or is one hyphen.
 pub(crate) fn is_value(text: &[u8]) -> bool
     ensures { result ≡ is_value text.now }
 {
-    !text.is_empty() && text[0] != b'-'
+    is_name(text) || is_hyphen(text)
 }
 
 /// Where a byte stands first in a text.
@@ -55,20 +69,16 @@ pub(crate) fn option_name(word: &[u8]) -> &[u8]
     }
 }
 
-/// Whether a word can stand on a command line: it has 1 to 4096 bytes, is neither one hyphen nor
-/// two, and has a value behind its `=` where it is an option with one.
+/// Whether a word can stand on a command line: it has 1 to 4096 bytes, isn't two hyphens, and has a name
+/// behind its `=` where it is an option with one.
 pub(crate) fn is_word(word: &[u8]) -> bool
     ensures { result ≡ is_word word.now }
 {
-    if word.is_empty()
-        || word.len() > LONGEST_WORD
-        || word == b"-".as_slice()
-        || word == b"--".as_slice()
-    {
+    if word.is_empty() || word.len() > LONGEST_WORD || word == b"--".as_slice() {
         return false;
     }
     match attached(word) {
-        Some(value) => is_value(value),
+        Some(value) => is_name(value),
         None => true,
     }
 }

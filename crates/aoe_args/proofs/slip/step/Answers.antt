@@ -12,7 +12,7 @@ returns-then-not-is_value-clause-walked c =
 pub returns-in-None-clause-walked : goal.returns-in-None-clause-walked
 returns-in-None-clause-walked c =
     same_count (form c.args.form) (map string_bytes c.args.words.now) c.args.place c.args.walked c.requires.place.0 c.requires.walked None
-    (before_value (form c.args.form) (map string_bytes c.args.words.now) c.args.place c.requires.place.0 c.in-Some.name.now (search rules) (search rules))
+    (before_value (form c.args.form) (map string_bytes c.args.words.now) c.args.place c.requires.place.0 c.in-Some-awaited.name.now (search rules) (search rules))
     (sym (next_none (form c.args.form) (map string_bytes c.args.words.now) c.args.place c.requires.place.0 (search rules)))
 
 pub returns-in-None-word_slip-clause-walked : goal.returns-in-None-word_slip-clause-walked

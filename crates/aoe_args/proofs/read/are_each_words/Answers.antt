@@ -4,7 +4,7 @@ use Rattle.std.proofs.lemmas.Iterator.{YieldsList-from_slice}
 use Rattle.std.proofs.lemmas.Iterator.Search.{all_from_yields_List}
 use Rattle.std.proofs.lemmas.List.Folds.{list_all-map}
 use Rattle.aoe_args.specs.Words.{is_word}
-use Rattle.aoe_args.proofs.read.are_words.Goals as goal
+use Rattle.aoe_args.proofs.read.are_each_words.Goals as goal
 
 pub returns : goal.returns
 returns c =
