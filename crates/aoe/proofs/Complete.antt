@@ -111,6 +111,7 @@ all-synced-same (status.MirrorSides first second) None e = refl
 all-synced-same status.MirrorMark None e = refl
 all-synced-same (status.Stale file sectors) None e = refl
 all-synced-same status.NotMark None e = refl
+all-synced-same (status.Differ sectors) None e = refl
 
 module _ {D S K L : Type 0} (state : D → DiskState) (t : Tells S K L) (s : Status) (a b : Outside S K L) (disks disks' : List (Option D))
     (fine : (slot : ℕ) → OnSlot (λ file file' _ _. IsFaultless (state file).faults (state file').faults) slot disks disks') where

@@ -14,3 +14,4 @@ mod Switched
 mod Mirrors
 mod Upkeeps
 mod Audits
+mod Comparisons

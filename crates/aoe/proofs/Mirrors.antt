@@ -1,5 +1,5 @@
 -- A run over a mirror, by its status.
-use Rattle.std.proofs.Common.{◌≡◌, ◌≢◌, ◌≤◌, ◌<◌, ◌⊎◌, ℕ, zero, suc, true, List, length, Option, Some, None, IfSome, Result, Ok, Err, refl, sym, ap, subst, ◌∙◌, inl, inr, arith, eq-eqb, ne_eqb}
+use Rattle.std.proofs.Common.{◌≡◌, ◌≢◌, ◌≤◌, ◌<◌, ◌⊎◌, ℕ, zero, suc, Bool, true, false, List, length, Option, Some, None, IfSome, Result, Ok, Err, refl, sym, ap, subst, ◌∙◌, inl, inr, arith, eq-eqb, ne_eqb}
 use Rattle.std.proofs.lemmas.Bool.{OnTrue_at, cases_eq}
 use Rattle.std.specs.Prelude.{◌↔◌, All, IfErr, IfOk, IsSome, OnErr}
 use Rattle.aoe_base.specs.Faults.{Rose}
@@ -10,7 +10,7 @@ use Rattle.aoe_mirror.specs.declared.refusal.MirrorRefusal.TheVariants as mirror
 use Rattle.aoe_mirror.specs.Clean.{AreEqual}
 use Rattle.aoe_mirror.specs.Mirror.{ReadsMark}
 use Rattle.aoe_mirror.specs.Sides.{both}
-use Rattle.aoe_serve.specs.Exporting.{HasRun, Outside, Tells}
+use Rattle.aoe_serve.specs.Exporting.{HasRun, Outside, Tells, is_served}
 use Rattle.aoe_serve.specs.Mirroring.{EndedAs, HasFailed, IsMirrored, SameSides, Stops, has_ended}
 use Rattle.aoe_serve.specs.Slots.{Slot}
 use Rattle.aoe_serve.specs.declared.over_link.ServeEnd.TheVariants as serve
@@ -19,7 +19,7 @@ use Rattle.aoe_serve.specs.declared.over_mirror.MirrorEnd.{MirrorEnd}
 use Rattle.aoe_serve.specs.declared.over_mirror.MirrorStop.{MirrorStop}
 use Rattle.aoe_serve.specs.declared.over_mirror.MirrorStop.TheVariants as stop
 use Rattle.aoe_serve.specs.declared.over_stream.AnswerEnd.TheVariants as answer
-use Rattle.aoe_serve.specs.declared.over_stream.Format.TheVariants as format
+use Rattle.aoe_serve.specs.declared.plan.Plan.{Plan}
 use Rattle.aoe_serve.specs.declared.plan.Plan.TheVariants as plan
 use Rattle.aoe_serve.specs.declared.plan.RunEnd.{RunEnd}
 use Rattle.aoe_serve.specs.declared.plan.RunEnd.TheVariants.{Answered, Served}
@@ -27,9 +27,9 @@ use Rattle.aoe_target.specs.declared.station.Station.{Station}
 use Rattle.aoe_args.specs.declared.command.Command.{Command}
 use Rattle.aoe_args.specs.declared.command.Command.TheVariants as command
 use Rattle.aoe_args.specs.declared.command.Mirror.{Mirror}
-use Rattle.aoe.specs.Commands.{is_mirror, mirror_options, target_of}
+use Rattle.aoe.specs.Commands.{has_sides, mirror_options, mirror_plan, target_of}
 use Rattle.aoe.specs.Ending.{after_sync, ended_by, kept_out, left_stale, mirrored_as, stopped_by}
-use Rattle.aoe.specs.Mirror.{ComesToSides, HasSides, LeavesStale, RunsMirror, faults_at, four_of, is_kept_out, is_mirror_status}
+use Rattle.aoe.specs.Mirror.{ComesToSides, HasSides, LeavesOthers, LeavesStale, RunsMirror, faults_at, four_of, is_kept_out, is_mirror_status}
 use Rattle.aoe.specs.declared.status.Status.{Status}
 use Rattle.aoe.specs.declared.status.Status.TheVariants as status
 
@@ -137,6 +137,7 @@ left-is (status.MirrorSides first second) file sectors = inl (refl, λ e. absurd
 left-is status.MirrorMark file sectors = inl (refl, λ e. absurd cc)
 left-is (status.Stale k n) file sectors = inl (refl, λ e. absurd cc)
 left-is status.NotMark file sectors = inl (refl, λ e. absurd cc)
+left-is (status.Differ n) file sectors = inl (refl, λ e. absurd cc)
 
 -- where another status is told, nothing is told as stale
 pub left-told : (s told : Status) (file sectors : ℕ) → ((k n : ℕ) → told ≢ status.Stale k n) → left_stale s file sectors ≡ told → s ≡ told
@@ -155,9 +156,43 @@ blamed-disk : (P : ℕ → Type 0) (unsynced : Option ℕ) (disk : ℕ) → IfSo
 blamed-disk P None disk p e = absurd cc
 blamed-disk P (Some k) disk p e = let same : k ≡ disk = cc in subst P same p
 
-module _ {D S K L : Type 0} (state : D → DiskState) (name : ℕ → Station) (t : Tells S K L) (a b : Outside S K L) (given back : MirrorDisks D) where
+-- What a plan that was run can end with, and what it doesn't touch.
+
+ended-status : {S K L : Type 0} (t : Tells S K L) (p : Plan) (a b : Outside S K L) (end : RunEnd) (unsynced : Option ℕ) (old new : List Slot)
+    → HasRun t p end a b old new → is_mirror_status (is_served p) (after_sync (ended_by end) unsynced) ≡ true
+ended-status t (plan.Answer f) a b (Answered answer.Ended) None old new ran = refl
+ended-status t (plan.Answer f) a b (Answered answer.Ended) (Some k) old new ran = refl
+ended-status t (plan.Answer f) a b (Answered answer.SourceFault) unsynced old new ran = refl
+ended-status t (plan.Answer f) a b (Answered answer.SinkFault) unsynced old new ran = refl
+ended-status t (plan.Answer f) a b (Answered (answer.Stream at)) unsynced old new ran = refl
+ended-status t (plan.Answer f) a b (Answered answer.Limit) unsynced old new ran = refl
+ended-status t (plan.Answer f) a b (Served x) unsynced old new ran = absurd ran
+ended-status t (plan.Serve frames idle) a b (Answered x) unsynced old new ran = absurd ran
+ended-status t (plan.Serve frames idle) a b (Served serve.Ended) None old new ran = refl
+ended-status t (plan.Serve frames idle) a b (Served serve.Ended) (Some k) old new ran = refl
+ended-status t (plan.Serve frames idle) a b (Served serve.LinkFault) unsynced old new ran = refl
+
+ran-others : {S K L : Type 0} (t : Tells S K L) (p : Plan) (a b : Outside S K L) (end : RunEnd) (old new : List Slot) → HasRun t p end a b old new
+    → LeavesOthers p a b
+ran-others t (plan.Answer f) a b (Answered x) old new ran = ran.links
+ran-others t (plan.Answer f) a b (Served x) old new ran = absurd ran
+ran-others t (plan.Serve frames idle) a b (Answered x) old new ran = absurd ran
+ran-others t (plan.Serve frames idle) a b (Served x) old new ran = (ran.source, ran.sink)
+
+same-others : {S K L : Type 0} (p : Plan) (a b : Outside S K L) → b.source ≡ a.source → b.sink ≡ a.sink → b.links ≡ a.links → LeavesOthers p a b
+same-others (plan.Answer f) a b source sink links = links
+same-others (plan.Serve frames idle) a b source sink links = (source, sink)
+
+-- where it stopped, nothing outside its disks moved
+pub record StaysOutside {S K L : Type 0} (r : Result MirrorEnd MirrorStop) (a b : Outside S K L) : Type 0 where
+  pub source : OnErr r (b.source ≡ a.source)
+  pub sink : OnErr r (b.sink ≡ a.sink)
+  pub links : OnErr r (b.links ≡ a.links)
+
+module _ {D S K L : Type 0} (state : D → DiskState) (name : ℕ → Station) (t : Tells S K L) (p : Plan) (a b : Outside S K L)
+    (given back : MirrorDisks D) where
   abbrev pub Law : Result MirrorEnd MirrorStop → Type 0
-  Law (Ok e) = IsMirrored state name t (plan.Answer format.Replies) e a b given back
+  Law (Ok e) = IsMirrored state name t p e a b given back
   Law (Err why) = Stops state why given back
 
   pub unequal : (r : Result MirrorEnd MirrorStop) → Law r → (first second : ℕ) → (mirrored_as r ≡ status.MirrorSides first second)
@@ -257,7 +292,7 @@ module _ {D S K L : Type 0} (state : D → DiskState) (name : ℕ → Station) (
   Leaves file sectors = (file ≤ 1) × (0 < sectors) × LeavesStale sectors (both (state back.one).contents (state back.two).contents)
       × (Rose (state given.one).faults (state back.one).faults ⊎ Rose (state given.two).faults (state back.two).faults)
 
-  left-over : (e : MirrorEnd) → IsMirrored state name t (plan.Answer format.Replies) e a b given back
+  left-over : (e : MirrorEnd) → IsMirrored state name t p e a b given back
       → after_sync (ended_by e.end) e.unsynced ≡ status.Ok → e.stale ≢ 0 → Leaves e.follower e.stale
   left-over e law ok some =
       let well = ran-well e.end e.unsynced ok in
@@ -287,31 +322,21 @@ module _ {D S K L : Type 0} (state : D → DiskState) (name : ℕ → Station) (
   stale (Err (stop.Mirror mirror.Failed)) law file sectors told = absurd cc
   stale (Err (stop.Mirror mirror.NoMemory)) law file sectors told = absurd cc
 
-  pub law-of : (r : Result MirrorEnd MirrorStop) → IfOk r (λ e. IsMirrored state name t (plan.Answer format.Replies) e a b given back)
+  pub law-of : (r : Result MirrorEnd MirrorStop) → IfOk r (λ e. IsMirrored state name t p e a b given back)
       → IfErr r (λ why. Stops state why given back) → Law r
   law-of (Ok e) ran stopped = ran
   law-of (Err why) ran stopped = stopped
 
-  -- its frames come as a stream
-  ended-status : (end : RunEnd) (unsynced : Option ℕ) (old new : List Slot) → HasRun t (plan.Answer format.Replies) end a b old new
-      → is_mirror_status (after_sync (ended_by end) unsynced) ≡ true
-  ended-status (Answered answer.Ended) None old new ran = refl
-  ended-status (Answered answer.Ended) (Some k) old new ran = refl
-  ended-status (Answered answer.SourceFault) unsynced old new ran = refl
-  ended-status (Answered answer.SinkFault) unsynced old new ran = refl
-  ended-status (Answered (answer.Stream at)) unsynced old new ran = refl
-  ended-status (Answered answer.Limit) unsynced old new ran = refl
-  ended-status (Served x) unsynced old new ran = absurd ran
-
-  left-status : (s : Status) (file sectors : ℕ) → is_mirror_status s ≡ true → is_mirror_status (left_stale s file sectors) ≡ true
+  left-status : (s : Status) (file sectors : ℕ) → is_mirror_status (is_served p) s ≡ true → is_mirror_status (is_served p) (left_stale s file sectors) ≡ true
   left-status s file sectors is = elim (left-is s file sectors) [
     | inl same ↦ rw same.0 is
     | inr left ↦ rw left.2 refl
   ]
 
-  pub mirror-status : (r : Result MirrorEnd MirrorStop) → IfOk r (λ e. IsMirrored state name t (plan.Answer format.Replies) e a b given back)
-      → is_mirror_status (mirrored_as r) ≡ true
-  mirror-status (Ok e) ran = left-status (after_sync (ended_by e.end) e.unsynced) e.follower e.stale (ended-status e.end e.unsynced _ _ ran.run.ran)
+  pub mirror-status : (r : Result MirrorEnd MirrorStop) → IfOk r (λ e. IsMirrored state name t p e a b given back)
+      → is_mirror_status (is_served p) (mirrored_as r) ≡ true
+  mirror-status (Ok e) ran =
+      left-status (after_sync (ended_by e.end) e.unsynced) e.follower e.stale (ended-status t p a b e.end e.unsynced _ _ ran.run.ran)
   mirror-status (Err stop.NoMemory) ran = refl
   mirror-status (Err (stop.Keep refusal.Failed)) ran = refl
   mirror-status (Err (stop.Keep (refusal.TooSmall sectors))) ran = refl
@@ -322,14 +347,9 @@ module _ {D S K L : Type 0} (state : D → DiskState) (name : ℕ → Station) (
   mirror-status (Err (stop.Mirror mirror.Failed)) ran = refl
   mirror-status (Err (stop.Mirror mirror.NoMemory)) ran = refl
 
-  answered-links : (end : RunEnd) (old new : List Slot) → HasRun t (plan.Answer format.Replies) end a b old new → b.links ≡ a.links
-  answered-links (Answered x) old new ran = ran.links
-  answered-links (Served x) old new ran = absurd ran
-
-  pub same-links : (r : Result MirrorEnd MirrorStop) → IfOk r (λ e. IsMirrored state name t (plan.Answer format.Replies) e a b given back)
-      → OnErr r (b.links ≡ a.links) → b.links ≡ a.links
-  same-links (Ok e) ran links = answered-links e.end _ _ ran.run.ran
-  same-links (Err why) ran links = links
+  pub leaves-others : (r : Result MirrorEnd MirrorStop) → IfOk r (λ e. IsMirrored state name t p e a b given back) → StaysOutside r a b → LeavesOthers p a b
+  leaves-others (Ok e) ran stays = ran-others t p a b e.end _ _ ran.run.ran
+  leaves-others (Err why) ran stays = same-others p a b stays.source stays.sink stays.links
 
 -- What a status tells of source, sink and memory.
 
@@ -344,9 +364,9 @@ ran-memory (Served serve.Ended) None e = cc
 ran-memory (Served serve.Ended) (Some k) e = cc
 ran-memory (Served serve.LinkFault) unsynced e = cc
 
-pub wanted-memory : {P Q : Type 0} (s : Status) (r : Result MirrorEnd MirrorStop) → s ≡ mirrored_as r → OnErr r P → OnErr r Q → s ≡ status.NoMemory → P × Q
-wanted-memory s (Ok e) is p q told = absurd (ran-memory e.end e.unsynced (left-told _ _ e.follower e.stale (λ k n x. cc) (sym is ∙ told)))
-wanted-memory s (Err why) is p q told = (p, q)
+pub wanted-memory : {P : Type 0} (s : Status) (r : Result MirrorEnd MirrorStop) → s ≡ mirrored_as r → OnErr r P → s ≡ status.NoMemory → P
+wanted-memory s (Ok e) is p told = absurd (ran-memory e.end e.unsynced (left-told _ _ e.follower e.stale (λ k n x. cc) (sym is ∙ told)))
+wanted-memory s (Err why) is p told = p
 
 module _ (end : RunEnd) (unsynced : Option ℕ) (file sectors : ℕ) where
   ended-source : (left_stale (after_sync (ended_by end) unsynced) file sectors ≡ status.SourceFault) ↔ (end ≡ Answered answer.SourceFault)
@@ -358,6 +378,12 @@ module _ (end : RunEnd) (unsynced : Option ℕ) (file sectors : ℕ) where
   ended-sink : (left_stale (after_sync (ended_by end) unsynced) file sectors ≡ status.SinkFault) ↔ (end ≡ Answered answer.SinkFault)
   ended-sink = (
     λ told. let synced = left-told (after_sync (ended_by end) unsynced) status.SinkFault file sectors (λ k n x. cc) told in grind (arith, synced),
+    λ e. ap (λ (y : RunEnd). left_stale (after_sync (ended_by y) unsynced) file sectors) e,
+  )
+
+  ended-link : (left_stale (after_sync (ended_by end) unsynced) file sectors ≡ status.LinkFault 0) ↔ (end ≡ Served serve.LinkFault)
+  ended-link = (
+    λ told. let synced = left-told (after_sync (ended_by end) unsynced) (status.LinkFault 0) file sectors (λ k n x. cc) told in grind (arith, synced),
     λ e. ap (λ (y : RunEnd). left_stale (after_sync (ended_by y) unsynced) file sectors) e,
   )
 
@@ -383,6 +409,17 @@ stopped-sink (stop.Mirror mirror.NotMark) e = cc
 stopped-sink (stop.Mirror mirror.Failed) e = cc
 stopped-sink (stop.Mirror mirror.NoMemory) e = cc
 
+stopped-link : (why : MirrorStop) → stopped_by why ≢ status.LinkFault 0
+stopped-link stop.NoMemory e = cc
+stopped-link (stop.Keep refusal.Failed) e = cc
+stopped-link (stop.Keep (refusal.TooSmall sectors)) e = cc
+stopped-link (stop.Keep (refusal.BadKeep k)) e = cc
+stopped-link (stop.Mirror (mirror.Unequal one two)) e = cc
+stopped-link (stop.Mirror mirror.NoMark) e = cc
+stopped-link (stop.Mirror mirror.NotMark) e = cc
+stopped-link (stop.Mirror mirror.Failed) e = cc
+stopped-link (stop.Mirror mirror.NoMemory) e = cc
+
 pub source-told : (s : Status) (r : Result MirrorEnd MirrorStop) → s ≡ mirrored_as r → (s ≡ status.SourceFault) ↔ EndedAs r (Answered answer.SourceFault)
 source-told s (Ok e) is = (λ told. (ended-source e.end e.unsynced e.follower e.stale).0 (sym is ∙ told), λ ended. is ∙ (ended-source e.end e.unsynced e.follower e.stale).1 ended)
 source-told s (Err why) is = (λ told. absurd (stopped-source why (sym is ∙ told)), λ ended. absurd ended)
@@ -390,6 +427,18 @@ source-told s (Err why) is = (λ told. absurd (stopped-source why (sym is ∙ to
 pub sink-told : (s : Status) (r : Result MirrorEnd MirrorStop) → s ≡ mirrored_as r → (s ≡ status.SinkFault) ↔ EndedAs r (Answered answer.SinkFault)
 sink-told s (Ok e) is = (λ told. (ended-sink e.end e.unsynced e.follower e.stale).0 (sym is ∙ told), λ ended. is ∙ (ended-sink e.end e.unsynced e.follower e.stale).1 ended)
 sink-told s (Err why) is = (λ told. absurd (stopped-sink why (sym is ∙ told)), λ ended. absurd ended)
+
+pub link-told : (s : Status) (r : Result MirrorEnd MirrorStop) → s ≡ mirrored_as r → (s ≡ status.LinkFault 0) ↔ EndedAs r (Served serve.LinkFault)
+link-told s (Ok e) is = (λ told. (ended-link e.end e.unsynced e.follower e.stale).0 (sym is ∙ told), λ ended. is ∙ (ended-link e.end e.unsynced e.follower e.stale).1 ended)
+link-told s (Err why) is = (λ told. absurd (stopped-link why (sym is ∙ told)), λ ended. absurd ended)
+
+-- its frames come by a link just where one is served
+pub plan-served : (asked : Mirror) → is_served (mirror_plan asked) ≡ asked.is_served
+plan-served asked = by asked.is_served refl
+  where
+    by : (x : Bool) → asked.is_served ≡ x → is_served (mirror_plan asked) ≡ asked.is_served
+    by true e = rw e refl
+    by false e = rw e refl
 
 -- The four disks.
 
@@ -400,12 +449,6 @@ all-four d (suc (suc zero)) x below = refl
 all-four d (suc (suc (suc zero))) x below = refl
 all-four d (suc (suc (suc (suc k)))) x below = absurd (omega (arith, below))
 
--- where it stopped, nothing outside its disks moved
-pub record StaysOutside {S K L : Type 0} (r : Result MirrorEnd MirrorStop) (a b : Outside S K L) : Type 0 where
-  pub source : OnErr r (b.source ≡ a.source)
-  pub sink : OnErr r (b.sink ≡ a.sink)
-  pub links : OnErr r (b.links ≡ a.links)
-
 stopped-same : {S K L : Type 0} (P : MirrorStop → Type 0) (a b : Outside S K L) (r : Result MirrorEnd MirrorStop) → IfErr r P → StaysOutside r a b
     → IfErr r (λ why. P why × (b.source ≡ a.source) × (b.sink ≡ a.sink) × (b.links ≡ a.links))
 stopped-same P a b (Ok e) p stays = tt
@@ -413,11 +456,11 @@ stopped-same P a b (Err why) p stays = (p, stays.source, stays.sink, stays.links
 
 pub runs-mirror : {D S K L : Type 0} (state : D → DiskState) (asked : Mirror) (t : Tells S K L) (a b : Outside S K L) (r : Result MirrorEnd MirrorStop)
     (given back : MirrorDisks D) (disks disks' : List (Option D)) → disks ≡ four_of given → disks' ≡ four_of back
-    → IfOk r (λ e. IsMirrored state (target_of (mirror_options asked) asked.id.minor) t (plan.Answer format.Replies) e a b given back)
+    → IfOk r (λ e. IsMirrored state (target_of (mirror_options asked) asked.id.minor) t (mirror_plan asked) e a b given back)
     → IfErr r (λ why. Stops state why given back) → StaysOutside r a b → RunsMirror state asked t (mirrored_as r) a b disks disks'
 runs-mirror state asked t a b r given back disks disks' were are ran stopped stays =
     let name = target_of (mirror_options asked) asked.id.minor in
-    let law = law-of state name t a b given back r ran stopped in
+    let law = law-of state name t (mirror_plan asked) a b given back r ran stopped in
     record {
       given = given;
       back = back;
@@ -427,36 +470,32 @@ runs-mirror state asked t a b r given back disks disks' were are ran stopped sta
       ends = refl;
       ran = ran;
       stopped = stopped-same (λ why. Stops state why given back) a b r stopped stays;
-      unequal = unequal state name t a b given back r law;
-      unmarked = unmarked state name t a b given back r law;
-      other = other state name t a b given back r law;
-      blames = blames state name t a b given back r law;
-      equal = equal state name t a b given back r law;
-      stale = stale state name t a b given back r law;
+      unequal = unequal state name t (mirror_plan asked) a b given back r law;
+      unmarked = unmarked state name t (mirror_plan asked) a b given back r law;
+      other = other state name t (mirror_plan asked) a b given back r law;
+      blames = blames state name t (mirror_plan asked) a b given back r law;
+      equal = equal state name t (mirror_plan asked) a b given back r law;
+      stale = stale state name t (mirror_plan asked) a b given back r law;
     }
 
--- A command that is a mirror has four disks.
+-- A command with sides is a mirror or compares them.
 
-of-mirror : {P : Mirror → Type 0} (c : Command) → is_mirror c ≡ true → ((asked : Mirror) → c ≡ command.Mirror asked → P asked)
-    → (asked : Mirror) × P asked
-of-mirror (command.Answer x) e p = absurd cc
-of-mirror (command.Serve x) e p = absurd cc
-of-mirror (command.Mirror asked) e p = (asked, p asked refl)
-of-mirror command.Replay e p = absurd cc
-of-mirror (command.Soak x) e p = absurd cc
-of-mirror (command.Ask x) e p = absurd cc
-of-mirror (command.Get x) e p = absurd cc
-of-mirror (command.Put x) e p = absurd cc
-of-mirror (command.Nbd x) e p = absurd cc
-of-mirror (command.Live x) e p = absurd cc
-of-mirror (command.Switch x) e p = absurd cc
-of-mirror (command.Keep x) e p = absurd cc
-of-mirror (command.Audit x) e p = absurd cc
+pub of-sides : {P : Type 0} (c : Command) → has_sides c ≡ true → ((asked : Mirror) → c ≡ command.Mirror asked → P) → (c ≡ command.Compare → P) → P
+of-sides (command.Answer x) e p q = absurd cc
+of-sides (command.Serve x) e p q = absurd cc
+of-sides (command.Mirror asked) e p q = p asked refl
+of-sides command.Replay e p q = absurd cc
+of-sides (command.Soak x) e p q = absurd cc
+of-sides (command.Ask x) e p q = absurd cc
+of-sides (command.Get x) e p q = absurd cc
+of-sides (command.Put x) e p q = absurd cc
+of-sides (command.Nbd x) e p q = absurd cc
+of-sides (command.Live x) e p q = absurd cc
+of-sides (command.Switch x) e p q = absurd cc
+of-sides (command.Keep x) e p q = absurd cc
+of-sides (command.Audit x) e p q = absurd cc
+of-sides command.Compare e p q = q refl
 
-pub within-mirror : {D S K L : Type 0} (state : D → DiskState) (c : Command) (t : Tells S K L) (s : Status) (a b : Outside S K L)
-    (disks disks' : List (Option D)) → ((asked : Mirror) → c ≡ command.Mirror asked → RunsMirror state asked t s a b disks disks')
-    → is_mirror c ≡ true → (disk : ℕ) → s ≡ status.DiskFault disk → disk < length disks
-within-mirror state c t s a b disks disks' mirrors is disk e =
-    let r = (of-mirror {P = λ asked. RunsMirror state asked t s a b disks disks'} c is mirrors).1 in
-    let few = (r.blames disk e).0 in
-    omega (arith, few, ap length r.were)
+pub within-four : {D S K L : Type 0} (state : D → DiskState) (asked : Mirror) (t : Tells S K L) (s : Status) (a b : Outside S K L)
+    (disks disks' : List (Option D)) → RunsMirror state asked t s a b disks disks' → (disk : ℕ) → s ≡ status.DiskFault disk → disk < length disks
+within-four state asked t s a b disks disks' r disk e = let few = (r.blames disk e).0 in omega (arith, few, ap length r.were)

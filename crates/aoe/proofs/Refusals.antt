@@ -27,7 +27,7 @@ use Rattle.aoe_args.specs.Words.{file_count}
 use Rattle.aoe_args.specs.declared.command.Command.{Command}
 use Rattle.aoe_args.specs.declared.command.Command.TheVariants as command
 use Rattle.aoe_world.specs.Replay.{IsFaultless}
-use Rattle.aoe.specs.Commands.{exports, is_mirror}
+use Rattle.aoe.specs.Commands.{exports, has_sides}
 use Rattle.aoe.specs.Ending.{after_syncs, ended_by, file_at, keep_at, refused_as, refused_slot, replayed_as, slot_of_keep, switched_as}
 use Rattle.aoe.specs.Run.{HasLists, IsBad, IsSmall, NothingLoose, OnSlot, Ran, RanFiles, Refused, refused_before}
 use Rattle.aoe.specs.Live.{is_live_status}
@@ -342,6 +342,7 @@ memory-wanting (status.MirrorSides first second) e = absurd cc
 memory-wanting status.MirrorMark e = absurd cc
 memory-wanting (status.Stale file sectors) e = absurd cc
 memory-wanting status.NotMark e = absurd cc
+memory-wanting (status.Differ sectors) e = absurd cc
 
 -- A run of a command.
 
@@ -369,11 +370,12 @@ data Runs {D S K L : Type 0} (state : D → DiskState) (t : Tells S K L) (s : St
   over_one : length disks ≡ 1 → ((disk : ℕ) → s ≡ status.DiskFault disk → disk ≡ 0) → Runs state t s a b disks disks'
 
 runs-of : {D S K L : Type 0} (state : D → DiskState) (command : Command) (t : Tells S K L) (s : Status) (a b : Outside S K L) (disks disks' : List (Option D))
-    → is_mirror command ≡ false → length disks ≡ file_count command
+    → has_sides command ≡ false → length disks ≡ file_count command
     → Ran state command t s a b disks disks' → Runs state t s a b disks disks'
 runs-of state (command.Answer answer) t s a b disks disks' other count run = over_files _ _ run
 runs-of state (command.Serve serve) t s a b disks disks' other count run = over_files _ _ run
 runs-of state (command.Mirror asked) t s a b disks disks' other count run = absurd cc
+runs-of state command.Compare t s a b disks disks' other count run = absurd cc
 runs-of state command.Replay t s a b disks disks' other count run = over_none count (λ disk e. no-disk run.0.end disk (sym run.0.ends ∙ e))
 runs-of state (command.Soak asked) t s a b disks disks' other count run = over_none count (λ disk e. no-disk run.0.end disk (sym run.0.ends ∙ e))
 runs-of state (command.Ask tool) t s a b disks disks' other count run = over_none count (λ disk e. let f = sym (ap is_tool_status e) ∙ run.0 in absurd cc)
@@ -387,8 +389,8 @@ runs-of state (command.Audit asked) t s a b disks disks' other count run = over_
 
 module _ {D S K L : Type 0} (state : D → DiskState) (command : Command) (t : Tells S K L) (s : Status) (a b : Outside S K L) (disks disks' : List (Option D))
     (run : refused_slot s ≡ None → s ≢ status.NoMemory → Ran state command t s a b disks disks')
-    (refused_if : is_mirror command ≡ false → (slot : ℕ) → refused_slot s ≡ Some slot → Refused state s slot disks disks')
-    (count : length disks ≡ file_count command) (other : is_mirror command ≡ false) where
+    (refused_if : has_sides command ≡ false → (slot : ℕ) → refused_slot s ≡ Some slot → Refused state s slot disks disks')
+    (count : length disks ≡ file_count command) (other : has_sides command ≡ false) where
   refused : (slot : ℕ) → refused_slot s ≡ Some slot → Refused state s slot disks disks'
   refused = refused_if other
 
@@ -493,8 +495,8 @@ module _ {D S K L : Type 0} (state : D → DiskState) (command : Command) (t : T
 
 -- Which command it was.
 
--- a command that exports pairs of files is no mirror
-pub pairs-only : (command : Command) → exports command ≡ true → is_mirror command ≡ false
+-- a command that exports pairs of files has no sides
+pub pairs-only : (command : Command) → exports command ≡ true → has_sides command ≡ false
 pairs-only (command.Answer asked) e = refl
 pairs-only (command.Serve asked) e = refl
 pairs-only (command.Mirror asked) e = absurd cc
@@ -508,6 +510,7 @@ pairs-only (command.Live asked) e = absurd cc
 pairs-only (command.Switch asked) e = absurd cc
 pairs-only (command.Keep action) e = absurd cc
 pairs-only (command.Audit asked) e = absurd cc
+pairs-only command.Compare e = absurd cc
 
 pub ran-as : {D S K L : Type 0} (state : D → DiskState) (t : Tells S K L) (s : Status) (a b : Outside S K L) (disks disks' : List (Option D))
     (command asked : Command) → command ≡ asked → Ran state command t s a b disks disks' → Ran state asked t s a b disks disks'

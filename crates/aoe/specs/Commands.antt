@@ -8,7 +8,7 @@ use Rattle.aoe_serve.specs.declared.over_stream.Format.TheVariants as format
 use Rattle.aoe_serve.specs.declared.plan.Plan.{Plan}
 use Rattle.aoe_serve.specs.declared.plan.Plan.TheVariants as plan
 use Rattle.aoe_args.specs.declared.command.Command.{Command}
-use Rattle.aoe_args.specs.declared.command.Command.TheVariants.{Answer, Ask, Audit, Get, Keep, Live, Mirror, Nbd, Put, Replay, Serve}
+use Rattle.aoe_args.specs.declared.command.Command.TheVariants.{Answer, Ask, Audit, Compare, Get, Keep, Live, Mirror, Nbd, Put, Replay, Serve}
 use Rattle.aoe_args.specs.declared.command.Answer.{Answer as Answers}
 use Rattle.aoe_args.specs.declared.command.Mirror.{Mirror as Mirrors}
 use Rattle.aoe_args.specs.declared.command.Serve.{Serve as Serves}
@@ -27,13 +27,17 @@ abbrev pub limit : Option ℕ → ℕ
 limit None = 18446744073709551615
 limit (Some n) = n
 
--- What the slots of `serve` have in common, which are numbered from 0 on, and what is done with them: their frames come and go by a link.
+-- What the slots of `serve` have in common, which are numbered one behind the other, and what is done with them: their frames come and go by a link.
 abbrev pub serve_plan : Serves → ExportOptions × Plan
-serve_plan serve = (record { first = record { major = serve.shelf; minor = 0 }; ports = serve.ports; mtu = serve.mtu; cache = serve.cache; durable = serve.durable }, plan.Serve (limit serve.frames) (limit serve.idle))
+serve_plan serve = (record { first = record { major = serve.shelf; minor = serve.slot }; ports = serve.ports; mtu = serve.mtu; cache = serve.cache; durable = serve.durable }, plan.Serve (limit serve.frames) (limit serve.idle))
 
--- What the slot of `mirror` has: its frames come and go as streams, and its store holds nothing back.
+-- what the slot of `mirror` has; its store holds nothing back
 abbrev pub mirror_options : Mirrors → ExportOptions
 mirror_options mirror = record { first = mirror.id; ports = record { items = mirror.port ∷ [] }; mtu = mirror.mtu; cache = 0; durable = false }
+
+-- and what is done with it: its frames come and go as streams, or by a link
+abbrev pub mirror_plan : Mirrors → Plan
+mirror_plan mirror = if mirror.is_served then plan.Serve (limit None) (limit mirror.idle) else plan.Answer format.Replies
 
 -- it exports files as slots, a pair of disks each: a file and its keep
 abbrev pub exports : Command → Bool
@@ -45,6 +49,12 @@ exports command = false
 abbrev pub is_mirror : Command → Bool
 is_mirror (Mirror asked) = true
 is_mirror command = false
+
+-- its first two disks are the sides of a mirror
+abbrev pub has_sides : Command → Bool
+has_sides (Mirror asked) = true
+has_sides Compare = true
+has_sides command = false
 
 -- its one disk is the keep of a slot that no shelf serves
 abbrev pub is_over_keep : Command → Bool

@@ -54,6 +54,7 @@ code_of status.MirrorMark = 15
 code_of (status.Stale file sectors) = 18
 code_of status.NotMark = 8
 code_of status.ClientFault = 17
+code_of (status.Differ sectors) = 18
 
 -- what is wrong with a line of a script, in a word
 abbrev pub word_of : Why → List ℕ
@@ -104,6 +105,7 @@ text_of status.MirrorMark = codes "aoe: mirror mark has no sector"
 text_of (status.Stale file sectors) = []
 text_of status.NotMark = codes "aoe: not a mark, but other data"
 text_of status.ClientFault = codes "aoe: socket fault"
+text_of (status.Differ sectors) = codes "aoe: the sides differ"
 
 -- the numbers of a slot's disks, in the order of the files' names
 abbrev pub file_at : ℕ → ℕ

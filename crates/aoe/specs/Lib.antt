@@ -8,3 +8,4 @@ pub mod Mirror
 pub mod Keeping
 pub mod Auditing
 pub mod Serving
+pub mod Comparing

@@ -1,5 +1,5 @@
 -- A run of `mirror`, by its status. Its disks are the sides 0 and 1, 2 that says which side leads, and 3 the keep.
-use Rattle.std.specs.Prelude.{ℕ, ◌≡◌, ◌≢◌, ◌≤◌, ◌<◌, ◌==◌, ◌⊎◌, ◌↔◌, Bool, true, false, List, [], ◌∷◌, Option, None, Some, IfOk, IfErr, IfSome, Result, if◌then◌else◌}
+use Rattle.std.specs.Prelude.{ℕ, ◌≡◌, ◌≢◌, ◌≤◌, ◌<◌, ◌==◌, ◌&&◌, ◌⊎◌, ◌↔◌, Bool, not, true, false, List, [], ◌∷◌, Option, None, Some, IfOk, IfErr, IfSome, Result, if◌then◌else◌}
 use Rattle.aoe_base.specs.Faults.{Rose}
 use Rattle.aoe_disk.specs.State.{Contents, DiskState}
 use Rattle.aoe_mirror.specs.Clean.{AreEqual, SaysTruly, TellAlike}
@@ -11,10 +11,10 @@ use Rattle.aoe_serve.specs.Mirroring.{AreEqualBut, IsMirrored, SameSides, Stops,
 use Rattle.aoe_serve.specs.declared.over_mirror.MirrorDisks.{MirrorDisks}
 use Rattle.aoe_serve.specs.declared.over_mirror.MirrorEnd.{MirrorEnd}
 use Rattle.aoe_serve.specs.declared.over_mirror.MirrorStop.{MirrorStop}
-use Rattle.aoe_serve.specs.declared.over_stream.Format.TheVariants as format
+use Rattle.aoe_serve.specs.declared.plan.Plan.{Plan}
 use Rattle.aoe_serve.specs.declared.plan.Plan.TheVariants as plan
 use Rattle.aoe_args.specs.declared.command.Mirror.{Mirror}
-use Rattle.aoe.specs.Commands.{mirror_options, target_of}
+use Rattle.aoe.specs.Commands.{mirror_options, mirror_plan, target_of}
 use Rattle.aoe.specs.Ending.{mirrored_as}
 use Rattle.aoe.specs.declared.status.Status.{Status}
 use Rattle.aoe.specs.declared.status.Status.TheVariants as status
@@ -33,14 +33,28 @@ AreTold {D} state disks = (given : MirrorDisks D) → disks ≡ four_of given
 abbrev pub faults_at : {D : Type 0} → (D → DiskState) → MirrorDisks D → ℕ → ℕ
 faults_at state disks disk = if disk == 3 then (state disks.keep).faults else faults_of state disks disk
 
--- how a run over a mirror can end
-abbrev pub is_mirror_status : Status → Bool
-is_mirror_status status.Usage = false
-is_mirror_status (status.Script line cause) = false
-is_mirror_status (status.LinkFault link) = false
-is_mirror_status (status.Unanswered turns) = false
-is_mirror_status (status.Refused r) = false
-is_mirror_status s = true
+-- how a run over a mirror can end: by a link that is served, or of streams
+abbrev pub is_mirror_status : Bool → Status → Bool
+is_mirror_status is_served status.Ok = true
+is_mirror_status is_served status.SourceFault = not is_served
+is_mirror_status is_served status.SinkFault = not is_served
+is_mirror_status is_served (status.Stream offset) = not is_served
+is_mirror_status is_served (status.Limit excess) = not is_served
+is_mirror_status is_served (status.LinkFault link) = is_served && link == 0
+is_mirror_status is_served (status.DiskFault disk) = true
+is_mirror_status is_served (status.KeepSmall disk sectors) = true
+is_mirror_status is_served (status.KeepBad disk slot) = true
+is_mirror_status is_served status.NoMemory = true
+is_mirror_status is_served (status.MirrorSides first second) = true
+is_mirror_status is_served status.MirrorMark = true
+is_mirror_status is_served status.NotMark = true
+is_mirror_status is_served (status.Stale file sectors) = true
+is_mirror_status is_served s = false
+
+-- what a run doesn't touch: the links beside streams, the streams beside a link
+abbrev pub LeavesOthers : {S K L : Type 0} → Plan → Outside S K L → Outside S K L → Type 0
+LeavesOthers (plan.Answer format) a b = b.links ≡ a.links
+LeavesOthers (plan.Serve frames idle) a b = (b.source ≡ a.source) × (b.sink ≡ a.sink)
 
 -- the keep was refused
 abbrev pub is_kept_out : Status → Bool
@@ -70,7 +84,7 @@ pub record RunsMirror {D S K L : Type 0} (state : D → DiskState) (asked : Mirr
   pub are : disks' ≡ four_of back
   pub answer : Result MirrorEnd MirrorStop
   pub ends : s ≡ mirrored_as answer
-  pub ran : IfOk answer (λ e. IsMirrored state (target_of (mirror_options asked) asked.id.minor) t (plan.Answer format.Replies) e a b given back)
+  pub ran : IfOk answer (λ e. IsMirrored state (target_of (mirror_options asked) asked.id.minor) t (mirror_plan asked) e a b given back)
   pub stopped : IfErr answer (λ why. Stops state why given back × (b.source ≡ a.source) × (b.sink ≡ a.sink) × (b.links ≡ a.links))
   -- exactly when sides and a mark disk are refused
   pub unequal : (first second : ℕ)

@@ -24,11 +24,12 @@ use Rattle.aoe_args.specs.declared.command.Soak.{Soak}
 use Rattle.aoe_args.specs.declared.command.Tool.{Tool}
 use Rattle.aoe_tools.specs.Runs.{Told}
 use Rattle.aoe.specs.Auditing.{RunsAudit}
-use Rattle.aoe.specs.Commands.{answer_plan, serve_plan, target_of}
+use Rattle.aoe.specs.Commands.{answer_plan, mirror_plan, serve_plan, target_of}
+use Rattle.aoe.specs.Comparing.{is_compare_status}
 use Rattle.aoe.specs.Ending.{file_at, keep_at, refused_as, refused_slot, replayed_as, status_of}
 use Rattle.aoe.specs.Keeping.{RunsKeep}
 use Rattle.aoe.specs.Live.{is_live_status}
-use Rattle.aoe.specs.Mirror.{is_mirror_status}
+use Rattle.aoe.specs.Mirror.{LeavesOthers, is_mirror_status}
 use Rattle.aoe.specs.Serving.{is_served_status, DoorSeen, IsServedTo}
 use Rattle.aoe.specs.Switching.{Switches}
 use Rattle.aoe.specs.Tools.{CopiesIn, CopiesOut, RunsTool, is_copy_status, is_tool_status}
@@ -62,7 +63,8 @@ abbrev pub Ran : {D S K L : Type 0} → (D → DiskState) → Command → Tells 
     → Type 0
 Ran state (command.Answer answer) t s a b disks disks' = RanFiles state (answer_plan answer).0 (answer_plan answer).1 t s a b disks disks'
 Ran state (command.Serve serve) t s a b disks disks' = RanFiles state (serve_plan serve).0 (serve_plan serve).1 t s a b disks disks'
-Ran state (command.Mirror asked) t s a b disks disks' = (is_mirror_status s ≡ true) × (b.links ≡ a.links)
+Ran state (command.Mirror asked) t s a b disks disks' = (is_mirror_status asked.is_served s ≡ true) × LeavesOthers (mirror_plan asked) a b
+Ran state command.Compare t s a b disks disks' = (is_compare_status s ≡ true) × (b.source ≡ a.source) × (b.links ≡ a.links)
 Ran state command.Replay t s a b disks disks' = RanScript t.left t.held s a.source b.source a.sink b.sink × (b.links ≡ a.links) × (disks' ≡ disks)
 Ran state (command.Soak asked) t s a b disks disks' = RanSoak t.held asked s a.sink b.sink × (b.source ≡ a.source) × (b.links ≡ a.links) × (disks' ≡ disks)
 Ran state (command.Ask tool) t s a b disks disks' = (is_tool_status s ≡ true) × (b.source ≡ a.source) × (disks' ≡ disks)

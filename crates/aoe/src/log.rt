@@ -1,6 +1,6 @@
 //! What a service's log gets on standard error, where the environment asks for it or that is a terminal.
-use aoe_args::{PortWords, Serve};
-use aoe_base::put_macs;
+use aoe_args::{Command, PortWords};
+use aoe_base::{Mac, put_macs};
 use aoe_disk::Disk;
 use aoe_keep::Keep;
 use aoe_system::{FileDisk, FileLog, Until, Wire, say};
@@ -100,15 +100,24 @@ impl Log {
         }
     }
 
-    /// Says the shelf that is served: its files, its ports and its link.
-    pub fn start(&mut self, serve: &Serve, ends: &[PortWords]) {
+    /// Says the shelf that a command serves over a link, where it does: its files, its ports and its link.
+    pub fn start(&mut self, command: &Command, ends: &[PortWords]) {
+        match command {
+            Command::Serve(asked) => self.start_shelf(asked.shelf, asked.ports.as_slice(), ends),
+            Command::Mirror(asked) if asked.is_served => {
+                self.start_shelf(asked.id.major, &[asked.port], ends);
+            }
+            _ => {}
+        }
+    }
+
+    fn start_shelf(&mut self, shelf: u16, ports: &[Mac], ends: &[PortWords]) {
         let rt = self.rt;
-        let shelf = serve.shelf;
         if let Ok(text) = format!(in rt.alloc(); "aoe: shelf {shelf}:") {
             say(&rt, text.as_bytes());
         }
         self.add(b" ports ");
-        let _ = put_macs(&mut self.line, serve.ports.as_slice());
+        let _ = put_macs(&mut self.line, ports);
         self.add(b";");
         'ends: for words in ends {
             self.add_link(words);

@@ -2,14 +2,15 @@
 //!
 //! In order: [`read_words`] of `aoe_args` says which command it is, and what to open and to look for; files are
 //! opened and locked, and then sockets and tap files; [`aoe`] runs the command over them, the standard
-//! streams, a clock and a [`Door`] for clients; the text of its [`Status`] goes to standard error.
+//! streams, a clock and a [`Door`] for clients; the text of its [`Status`] goes to standard error. Before a mirror
+//! is served, MARK is settled for the FILEs that are named ([`Settling`]).
 //!
-//! `aoe` (`top`, with `plan`, `mirror`, `tools`, `nbd`, `live`, `switch`, `upkeep` and `audit`) opens nothing and says no status;
+//! `aoe` (`top`, with `plan`, `mirror`, `tools`, `nbd`, `live`, `switch`, `upkeep`, `compare` and `audit`) opens nothing and says no status;
 //! its contract is what the program promises. What a file, a socket, a stream and a clock do is in `aoe_system`, which
 //! tells the proofs nothing of content. The program catches no signal and starts no thread.
 //!
 //! Promised, by [`aoe`]: what a run of each command is, by its status (`Ran`, `RunsTool`,
-//! `IsServedTo`, `RunsLive`, `RunsMirror`, `RunsKeep`, `RunsAudit`). A run over files keeps the shelf law, and
+//! `IsServedTo`, `RunsLive`, `RunsMirror`, `RunsCompare`, `RunsKeep`, `RunsAudit`). A run over files keeps the shelf law, and
 //! its disks outlive a loss of power (`RanFiles`); a history that `replay` prints is lawful and
 //! keeps the read law. Where a keep is refused nothing was read or sent. A fault of source, sink,
 //! link or socket is told only if its count rose. Without a fault a stream is answered to its end, a link is
@@ -18,7 +19,7 @@
 //!
 //! Only tested, by the scripts of tests/: that the files and links are those of the arguments in
 //! their order, each status with its text, the log, `--stop`, and every fault of a stream, file,
-//! disk and socket (`check`, `datagrams`, `tools`, `nbd`, `wire`, `adapters`). Nothing is said of time.
+//! disk and socket (`check`, `datagrams`, `tools`, `nbd`, `wire`, `mirror`, `adapters`). Nothing is said of time.
 #![tactic(auto)]
 
 ghost use Rattle.std.specs.Prelude.{◌≡◌, ◌≢◌, ◌==◌, ◌↔◌, ◌⊎◌, All, Err, IfErr, IfOk, IsSome, None, Some, false, length, map, string_bytes};
@@ -26,12 +27,14 @@ ghost use Rattle.std.specs.List.{list_all, slice_split};
 ghost use Rattle.aoe_args.specs.Words.{IsInRange, command, file_count, is_word, link_count};
 
 mod audit;
+mod compare;
 mod door;
 mod live;
 mod log;
 mod mirror;
 mod nbd;
 mod plan;
+mod settle;
 mod status;
 mod switch;
 mod teller;
@@ -54,6 +57,7 @@ use aoe_udp::{OpenRefusal, UdpMedium};
 use aoe_wire::WireLink;
 use door::{Door, Stopping};
 use log::Log;
+use settle::Settling;
 use status::Status;
 use std::alloc::Global;
 use std::fs::File;
@@ -187,12 +191,22 @@ fn hold_streams(rt: &HostRuntime) -> io::Result<(File, File, File)> {
 }
 
 /// Whether the file with this number is to be a keep: the last of a mirror's four, the only one of
-/// `audit` and `keep`, and of any other command each second one.
+/// `audit` and `keep`, none of a comparison's, and of any other command each second one.
 fn is_keep(command: &Command, number: usize) -> bool {
     match command {
         Command::Mirror(_) => number == 3,
         Command::Audit(_) | Command::Keep(_) => true,
+        Command::Compare => false,
         _ => number % 2 == 1,
+    }
+}
+
+/// Whether a command serves over a link, or what a link brings.
+fn is_on_link(command: &Command) -> bool {
+    match command {
+        Command::Serve(_) | Command::Nbd(_) => true,
+        Command::Mirror(asked) => asked.is_served,
+        _ => false,
     }
 }
 
@@ -278,13 +292,14 @@ fn look_at_keeps(
     command: &Command,
     names: &[String],
     disks: &[Option<FileDisk>],
+    settling: &Settling,
 ) -> Result<(), u8> {
     'files: for (number, (name, disk)) in names.iter().zip(disks.iter()).enumerate() {
         if let Some(disk) = disk
             && is_keep(command, number)
             && let Some(doubt) = disk.keep_doubt()
         {
-            let disk = u32::try_from(number).unwrap_or(u32::MAX);
+            let disk = settling.number(u32::try_from(number).unwrap_or(u32::MAX));
             return Err(tell_doubt(rt, name.as_bytes(), disk, doubt));
         }
     }
@@ -608,7 +623,7 @@ fn end_log(
     links: &[Until<WireLink<Wire>>],
 ) {
     if let (Some(log), [link]) = (log, links)
-        && matches!(command, Command::Serve(_))
+        && matches!(command, Command::Serve(_) | Command::Mirror(_))
     {
         log.end(disks, link);
     }
@@ -628,6 +643,7 @@ fn stops_of(command: &Command, stop: Option<String>) -> (Option<String>, Option<
 fn run_linked(
     rt: &HostRuntime,
     line: CommandLine,
+    mut settling: Settling,
     disks: &mut [Option<FileDisk>],
     log: &mut Option<Log>,
 ) -> u8
@@ -643,6 +659,7 @@ fn run_linked(
         socket,
         stop,
         is_told,
+        ..
     } = line;
     let flow = flow_of(rt, &command, is_told);
     let waiter = Waiter::medium();
@@ -657,21 +674,25 @@ fn run_linked(
         Ok(door) => door,
         Err(code) => return code,
     };
-    if let (Some(log), Command::Serve(serve)) = (&mut *log, &command) {
-        log.start(serve, ends.as_slice());
-    }
     let files = files.as_slice();
+    if let Err(code) = settling.settle(&command, files, disks) {
+        return code;
+    }
+    if let Some(log) = &mut *log {
+        log.start(&command, ends.as_slice());
+    }
     let links = links.as_mut_slice();
     let status = run_over(rt, &command, files, disks, links, &flow, &disk, &mut door);
     door.clients.tell_end();
     tell_offloaded(rt, links);
     end_log(log, &command, disks, links);
-    tell_end(rt, &command, files, status, flow.reached())
+    let status = settling.numbered(status);
+    settling.code(tell_end(rt, &command, files, status, flow.reached()))
 }
 
 /// Opens the files of a command line and what else it names, runs its command over them, and gives the
 /// exit status. Nothing is opened where the file is there that would end the run at once.
-fn run_line(rt: &HostRuntime, line: CommandLine) -> u8
+fn run_line(rt: &HostRuntime, mut line: CommandLine) -> u8
     requires range { IsInRange line.command }
     requires files { length line.files.items ≡ file_count line.command }
     requires links { length line.links.items ≡ link_count line.command }
@@ -681,17 +702,20 @@ fn run_line(rt: &HostRuntime, line: CommandLine) -> u8
     {
         return tell_stopped(rt, name.as_bytes());
     }
-    let is_served = matches!(&line.command, Command::Serve(_) | Command::Nbd(_));
-    let mut log = Log::asked(rt, is_served);
+    let mut log = Log::asked(rt, is_on_link(&line.command));
+    let settling = match Settling::open(rt, line.alone.take(), line.lead_other, &mut log) {
+        Ok(settling) => settling,
+        Err(code) => return code,
+    };
     let mut disks = match open_all(rt, &line.command, line.files.as_slice(), &mut log) {
         Ok(disks) => disks,
         Err(code) => return code,
     };
     let files = line.files.as_slice();
-    if let Err(code) = look_at_keeps(rt, &line.command, files, disks.as_slice()) {
+    if let Err(code) = look_at_keeps(rt, &line.command, files, disks.as_slice(), &settling) {
         return code;
     }
-    run_linked(rt, line, disks.as_mut_slice(), &mut log)
+    run_linked(rt, line, settling, disks.as_mut_slice(), &mut log)
 }
 
 /// What the arguments spell; the status where they spell no command, and where there is no memory to read

@@ -1,8 +1,9 @@
 //! What each command exports, and the status of a run that ended.
 ghost use Rattle.std.specs.Prelude.{◌≡◌, ◌≤◌, ◌*◌, [], ◌∷◌, IfSome};
-ghost use Rattle.aoe_args.specs.Words.{CanAnswer, CanMirror, CanServe};
+ghost use Rattle.aoe_args.specs.Words.{CanAnswer, CanMirror, CanServe, link_count};
+ghost use Rattle.aoe_args.specs.declared.command.Command.TheVariants.{Mirror as Asked};
 ghost use Rattle.aoe_serve.specs.Exporting.{CanExport};
-ghost use Rattle.aoe.specs.Commands.{answer_plan, format_of, limit, mirror_options, serve_plan};
+ghost use Rattle.aoe.specs.Commands.{answer_plan, format_of, limit, mirror_options, mirror_plan, serve_plan};
 ghost use Rattle.aoe.specs.Ending.{after_sync, after_syncs, ended_by, excess_of, kept_out, left_stale, mirrored_as, net_excess, refused_as, replayed_as, stale_or_ok, status_of, stopped_by};
 
 use crate::status::{Status, What};
@@ -74,7 +75,7 @@ pub(crate) fn serve_plan(serve: &Serve) -> (ExportOptions, Plan)
     let options = ExportOptions {
         first: TargetId {
             major: serve.shelf,
-            minor: 0,
+            minor: serve.slot,
         },
         ports: copy_of(&serve.ports),
         mtu: serve.mtu,
@@ -88,19 +89,29 @@ pub(crate) fn serve_plan(serve: &Serve) -> (ExportOptions, Plan)
     (options, plan)
 }
 
-/// The slot of `mirror`.
-pub(crate) fn mirror_options(mirror: Mirror) -> ExportOptions
+/// The slot of `mirror`, and what is done with it.
+pub(crate) fn mirror_plan(mirror: Mirror) -> (ExportOptions, Plan)
     requires { CanMirror mirror }
-    ensures options { result ≡ mirror_options mirror }
-    ensures possible { CanExport result (Plan.Answer Format.Replies) 2 0 }
+    ensures options { result.0 ≡ mirror_options mirror }
+    ensures plan { result.1 ≡ mirror_plan mirror }
+    ensures possible { CanExport result.0 result.1 2 (link_count (Asked mirror)) }
 {
-    ExportOptions {
+    let options = ExportOptions {
         first: mirror.id,
         ports: one_port(mirror.port),
         mtu: mirror.mtu,
         cache: 0,
         durable: false,
-    }
+    };
+    let plan = if mirror.is_served {
+        Plan::Serve {
+            frames: limit(None),
+            idle: limit(mirror.idle),
+        }
+    } else {
+        Plan::Answer(Format::Replies)
+    };
+    (options, plan)
 }
 
 /// The status of a run whose slot's keep was refused.

@@ -58,6 +58,8 @@ pub enum Status {
     NotMark,
     /// The socket failed at which clients are awaited.
     ClientFault,
+    /// So many sectors of one side of a mirror aren't those of the other.
+    Differ { sectors: u64 },
 }
 
 /// Which limit was exceeded.
@@ -100,7 +102,7 @@ impl Status {
             Status::CaptureHead | Status::Capture { .. } => 14,
             Status::MirrorSides { .. } | Status::MirrorMark => 15,
             Status::ClientFault => 17,
-            Status::Stale { .. } => 18,
+            Status::Stale { .. } | Status::Differ { .. } => 18,
         }
     }
 
@@ -131,6 +133,7 @@ impl Status {
             Status::MirrorMark => Blob::of(alloc, b"aoe: mirror mark has no sector"),
             Status::NotMark => Blob::of(alloc, b"aoe: not a mark, but other data"),
             Status::ClientFault => Blob::of(alloc, b"aoe: socket fault"),
+            Status::Differ { .. } => Blob::of(alloc, b"aoe: the sides differ"),
         }
     }
 }

@@ -22,7 +22,8 @@ ghost use Rattle.aoe_args.specs.declared.command.Soak.{Soak as Soaks};
 ghost use Rattle.aoe_args.specs.declared.command.Tool.{Tool};
 ghost use Rattle.aoe_base.specs.Faults.{Blamed, Rose};
 ghost use Rattle.aoe.specs.Auditing.{RunsAudit};
-ghost use Rattle.aoe.specs.Commands.{exports, is_get, is_live, is_mirror, is_nbd, is_over_keep, reads_input, uses_clock};
+ghost use Rattle.aoe.specs.Commands.{exports, has_sides, is_get, is_live, is_mirror, is_nbd, is_over_keep, reads_input, uses_clock};
+ghost use Rattle.aoe.specs.Comparing.{RunsCompare};
 ghost use Rattle.aoe.specs.Keeping.{RunsKeep};
 ghost use Rattle.aoe.specs.Live.{AreBlamed, AtBoth, RunsLive, ends};
 ghost use Rattle.aoe.specs.Ending.{file_at, keep_at, refused_slot};
@@ -31,6 +32,7 @@ ghost use Rattle.aoe.specs.Serving.{door_seen};
 ghost use Rattle.aoe.specs.Run.{Asked, HasLists, HasReplayed, IsBad, IsExportedTo, IsGot, IsPut, IsSmall, NothingLoose, OnSlot, Ran, RanFiles, RanScript, RanSoak, Refused};
 
 use crate::audit::run_audit;
+use crate::compare::run_compare;
 use crate::door::Door;
 use crate::live::run_live;
 use crate::mirror::run_mirror;
@@ -160,9 +162,9 @@ fn run_command<
         record { left = S.left; held = K.held; turns = L.turns; given = L.given; taken = L.taken } result
         record { source = source.old; sink = sink.old; links = links.old } record { source = source.new; sink = sink.new; links = links.new }
         disks.old disks.new }
-    ensures refused { is_mirror command.now ≡ false → (slot : ℕ) → refused_slot result ≡ Some slot
+    ensures refused { has_sides command.now ≡ false → (slot : ℕ) → refused_slot result ≡ Some slot
         → Refused D.state result slot disks.old disks.new }
-    ensures unread { is_mirror command.now ≡ false → IsSome (refused_slot result)
+    ensures unread { has_sides command.now ≡ false → IsSome (refused_slot result)
         → (source.new ≡ source.old) × (sink.new ≡ sink.old) × (links.new ≡ links.old) }
     ensures mirrors { (asked : Mirrors) → command.now ≡ Command.Mirror asked → RunsMirror D.state asked
         record { left = S.left; held = K.held; turns = L.turns; given = L.given; taken = L.taken } result
@@ -173,9 +175,12 @@ fn run_command<
     ensures audits { (asked : Audits) → command.now ≡ Command.Audit asked
         → RunsAudit D.state asked result (S.left source.old) (S.left source.new) (K.held sink.old)
         (K.held sink.new) disks.old disks.new }
+    ensures compares { command.now ≡ Command.Compare
+        → RunsCompare D.state result (K.held sink.old) (K.held sink.new) disks.old disks.new
+        × (source.new ≡ source.old) × (links.new ≡ links.old) }
     ensures memory { result ≡ Status.NoMemory → (reads_input command.now ≡ false
         → source.new ≡ source.old) × (is_get command.now ≡ false → sink.new ≡ sink.old)
-        × (is_mirror command.now ≡ false → is_over_keep command.now ≡ false → disks.new ≡ disks.old) × (uses_clock command.now ≡ false → links.new ≡ links.old) }
+        × (has_sides command.now ≡ false → is_over_keep command.now ≡ false → disks.new ≡ disks.old) × (uses_clock command.now ≡ false → links.new ≡ links.old) }
     ensures asks { (tool : Tool) → command.now ≡ Command.Ask tool → Asked K.held (λ a b. told C.least C.answers L.turns L.given L.taken clock.old clock.new a b) tool result sink.old sink.new links.old links.new }
     ensures gets { (asked : Gets) → command.now ≡ Command.Get asked → IsGot K.held (λ a b. told C.least C.answers L.turns L.given L.taken clock.old clock.new a b) asked result sink.old sink.new links.old links.new }
     ensures puts { (asked : Puts) → command.now ≡ Command.Put asked → IsPut S.left (λ a b. told C.least C.answers L.turns L.given L.taken clock.old clock.new a b) asked result source.old source.new links.old links.new }
@@ -225,6 +230,7 @@ fn run_command<
         Command::Put(asked) => run_put(alloc, asked, source, &mut links[0], clock, watch),
         Command::Nbd(asked) => run_nbd(alloc, asked, &mut links[0], clock, watch, door),
         Command::Keep(action) => run_keep(alloc, *action, sink, disks),
+        Command::Compare => run_compare(alloc, sink, disks),
         Command::Audit(asked) => run_audit(alloc, asked, source, sink, disks),
     }
 }
@@ -234,16 +240,19 @@ fn run_command<
 /// `answer SHELF SLOT FILE KEEP` answers each frame that the source's stream brings, as the target
 /// SHELF.SLOT over the first disk and behind the port that `--port` names, with at most one frame on
 /// the sink's stream. `serve SHELF FILE KEEP ..` answers each frame that the first link brings, as
-/// the targets SHELF.0, SHELF.1 and so on over the pairs of disks and behind the ports that `--ports`
-/// names, until `--frames` frames came or `--idle` consecutive turns brought none. A frame carries as
-/// much as `--mtu` says. Each target holds back as many sectors that were written as `--cache` says,
-/// until it has no room or its store is synced. With `--durable` each write is synced before it is
-/// answered, and what it wrote outlives every loss of power until a later write to it.
+/// the targets SHELF.0, SHELF.1 and so on over the pairs of disks (or from another slot on, as `Serve`
+/// says) and behind the ports that `--ports` names, until `--frames` frames came or `--idle` consecutive
+/// turns brought none. A frame carries as much as `--mtu` says. Each target holds back as many sectors
+/// that were written as `--cache` says, until it has no room or its store is synced. With `--durable`
+/// each write is synced before it is answered, and what it wrote outlives every loss of power until a
+/// later write to it.
 ///
-/// `mirror SHELF SLOT FILE FILE MARK KEEP` answers as `answer` does over two sides, the first two
-/// disks, either of which may fail. The third says which of them leads, and the fourth is the keep. The
-/// sides are made equal before the first frame is read, and at the end of a run that went well. When one
-/// fails, leads in the place of the other or has all sectors again, `sides` is told.
+/// `mirror SHELF SLOT FILE FILE MARK KEEP` answers as `answer` does, or where it has a link as `serve`
+/// does, over two sides, the first two disks, either of which may fail. The third says which of them
+/// leads, and the fourth is the keep. The sides are made equal before the first frame is read, and at the
+/// end of a run that went well. When one fails, leads in the place of the other or has all sectors again,
+/// `sides` is told. `mirror --check FILE FILE MARK` compares the sides: which of them leads, which sectors
+/// differ and how many goes to the sink as text; no sector is changed.
 ///
 /// The tools ask over the first link and the clock: `discover` and `stat` which targets there are, with
 /// their sizes and states, `cfg`, `mask` and `reserve` one target for a list or a change of it; what they
@@ -323,9 +332,9 @@ pub fn aoe<
     ensures usage { result ≢ Status.Usage }
 
     // A keep is refused, or the run is one of the shelf law, or the history of a script is lawful and read as was written.
-    ensures refused { is_mirror command.now ≡ false → (slot : ℕ) → refused_slot result ≡ Some slot
+    ensures refused { has_sides command.now ≡ false → (slot : ℕ) → refused_slot result ≡ Some slot
         → Refused D.state result slot disks.old disks.new }
-    ensures unread { is_mirror command.now ≡ false → IsSome (refused_slot result)
+    ensures unread { has_sides command.now ≡ false → IsSome (refused_slot result)
         → (source.new ≡ source.old) × (sink.new ≡ sink.old) × (links.new ≡ links.old) }
     ensures run { refused_slot result ≡ None → result ≢ Status.NoMemory → Ran D.state command.now
         record { left = S.left; held = K.held; turns = L.turns; given = L.given; taken = L.taken } result
@@ -350,6 +359,11 @@ pub fn aoe<
         → RunsAudit D.state asked result (S.left source.old) (S.left source.new) (K.held sink.old)
         (K.held sink.new) disks.old disks.new }
 
+    // The sides of a mirror are compared, and stay as they are.
+    ensures compares { command.now ≡ Command.Compare
+        → RunsCompare D.state result (K.held sink.old) (K.held sink.new) disks.old disks.new
+        × (source.new ≡ source.old) × (links.new ≡ links.old) }
+
     // When a fault is told: an object whose fault isn't told had none, and one whose fault is told had one, since the first trouble ends
     // the run. Of a command that exports files as slots, the faults of files and keeps, and when a keep is refused.
     ensures source { Blamed (result ≡ Status.SourceFault) (S.faults source.old)
@@ -372,7 +386,7 @@ pub fn aoe<
         (result ≡ Status.KeepBad (keep_at slot) bad) ↔ IsBad (D.state keep) c result slot bad)) slot disks.old disks.new }
     ensures memory { result ≡ Status.NoMemory → (reads_input command.now ≡ false → source.new ≡ source.old)
         × (is_get command.now ≡ false → sink.new ≡ sink.old)
-        × (is_mirror command.now ≡ false → is_over_keep command.now ≡ false → disks.new ≡ disks.old)
+        × (has_sides command.now ≡ false → is_over_keep command.now ≡ false → disks.new ≡ disks.old)
         × (uses_clock command.now ≡ false → links.new ≡ links.old) }
 
     // What a tool asks, when it ends and what it says; and what clients are served.

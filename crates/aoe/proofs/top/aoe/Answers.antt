@@ -4,10 +4,11 @@ use Rattle.aoe_args.specs.Words.{link_count}
 use Rattle.aoe_args.specs.declared.command.Command.{Command}
 use Rattle.aoe_args.specs.declared.command.Command.TheVariants.{Serve}
 use Rattle.aoe_args.specs.declared.command.Serve.{Serve as Serves}
-use Rattle.aoe.specs.Commands.{is_live, is_mirror}
+use Rattle.aoe.specs.Commands.{has_sides, is_live}
 use Rattle.aoe.proofs.Blame.{at-first}
+use Rattle.aoe.proofs.Comparisons.{within-three}
 use Rattle.aoe.proofs.Complete.{answers, link-fine, serves}
-use Rattle.aoe.proofs.Mirrors.{within-mirror}
+use Rattle.aoe.proofs.Mirrors.{of-sides, within-four}
 use Rattle.aoe.proofs.Refusals.{disk-within, file-fault, keep-bad, keep-fault, keep-small, mounted, pairs-only, ran-as, settled}
 use Rattle.aoe_world.proofs.RunLemmas.{no_fault}
 use Rattle.aoe.proofs.top.aoe.Goals as goal
@@ -21,8 +22,9 @@ returns-clause-settled g c exported slot e =
     settled _ _ _ _ _ _ _ _ c.run_command.ensures.run c.run_command.ensures.refused c.requires.count (pairs-only c.args.command.now exported) slot e
 
 pub returns-clause-disk_fault : goal.returns-clause-disk_fault
-returns-clause-disk_fault g c disk e = elim (cases_Bool (is_mirror c.args.command.now)) [
-  | inl mirror ↦ within-mirror _ _ _ _ _ _ _ _ c.run_command.ensures.mirrors mirror disk e
+returns-clause-disk_fault g c disk e = elim (cases_Bool (has_sides c.args.command.now)) [
+  | inl sides ↦ of-sides c.args.command.now sides (λ asked is. within-four _ _ _ _ _ _ _ _ (c.run_command.ensures.mirrors asked is) disk e)
+      (λ is. within-three _ _ _ _ _ _ (c.run_command.ensures.compares is).0 disk e)
   | inr other ↦ disk-within _ _ _ _ _ _ _ _ c.run_command.ensures.run c.run_command.ensures.refused c.requires.count other disk e
 ]
 
