@@ -1,0 +1,3 @@
+pub mod Clients
+pub mod Outcomes
+pub mod Requests
