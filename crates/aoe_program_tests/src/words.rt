@@ -3,9 +3,9 @@ mod refused;
 mod slips;
 
 use aoe_args::{
-    Answer, Asking, Audit, Cfg, Command, CommandLine, Discover, Flush, Get, Live, Mask, Nbd,
-    PortKinds, PortWords, Put, Reserve, Serve, SlipText, Soak, Stat, Switch, Tool, meant,
-    read_words, slip_of,
+    Alone, Answer, Asking, Audit, Cfg, Command, CommandLine, Discover, Flush, Get, Live, Mask,
+    Mirror, Nbd, PortKinds, PortWords, Put, Reserve, Serve, SlipText, Soak, Stat, Switch, Tool,
+    meant, read_words, slip_of,
 };
 use aoe_base::{Blob, Mac, NoMemory, Ports, TargetId};
 use aoe_lists::Dir;
@@ -97,8 +97,19 @@ fn add_name(mark: &[u8], name: &Option<String>, joined: &mut Vec<u8>) -> Result<
     Ok(())
 }
 
+/// Adds what is said of a mirror one of whose files is gone: the side that is there, and MARK.
+fn add_alone(alloc: Global, alone: &Option<Alone>, joined: &mut Vec<u8>) -> Result<(), Fail> {
+    if let Some(alone) = alone {
+        let text = format!(in alloc; "{}:", alone.side)?;
+        add_part(joined, text.as_bytes())?;
+        joined.extend_from_slice(alone.mark.as_bytes())?;
+    }
+    Ok(())
+}
+
 /// What a line opens, its files and then its links, its socket behind an at sign, the file whose coming
-/// ends the run behind an exclamation mark, and whether it is told how far the run has come.
+/// ends the run behind an exclamation mark, whether it is told how far the run has come, the side of a
+/// mirror that is there with its MARK, and whether the other side may lead.
 fn opened(alloc: Global, line: &str) -> Result<Vec<u8>, Fail> {
     let mut joined = Vec::new(alloc);
     if let Some(read) = read_line(alloc, line)? {
@@ -108,6 +119,10 @@ fn opened(alloc: Global, line: &str) -> Result<Vec<u8>, Fail> {
         add_name(b"!", &read.stop, &mut joined)?;
         if read.is_told {
             add_part(&mut joined, b"told")?;
+        }
+        add_alone(alloc, &read.alone, &mut joined)?;
+        if read.lead_other {
+            add_part(&mut joined, b"other")?;
         }
     }
     Ok(joined)
@@ -208,12 +223,39 @@ fn serve(
 ) -> Command {
     Command::Serve(Serve {
         shelf,
+        slot: 0,
         slots,
         ports: ports(macs),
         mtu,
         cache,
         durable: false,
         frames,
+        idle,
+    })
+}
+
+/// What `mirror` asks for, over a link or a stream.
+fn mirror(major: u16, minor: u8, port: Mac, mtu: u32, link: Option<Option<u32>>) -> Command {
+    Command::Mirror(Mirror {
+        id: TargetId { major, minor },
+        port,
+        mtu,
+        is_served: link.is_some(),
+        idle: link.flatten(),
+    })
+}
+
+/// What `mirror` asks for over a link, where one of its files is gone.
+fn serve_alone(shelf: u16, slot: u8, port: Mac, mtu: u32, idle: Option<u32>) -> Command {
+    Command::Serve(Serve {
+        shelf,
+        slot,
+        slots: 1,
+        ports: ports(&[port]),
+        mtu,
+        cache: 0,
+        durable: false,
+        frames: None,
         idle,
     })
 }
@@ -414,6 +456,34 @@ fn names_files_and_links(rt: HostRuntime) -> Result<(), Fail> {
             "nbd --stop s --socket=u e1.0 --local x --peers y",
             "x>y @u !s",
         ),
+    ];
+    opens(&rt, rt.alloc(), &cases)
+}
+
+#[test]
+fn names_the_files_of_a_mirror(rt: HostRuntime) -> Result<(), Fail> {
+    let cases = [
+        ("mirror 1 0 one two mark keep", "one two mark keep"),
+        (
+            "mirror 1 0 one two mark keep --lead-other",
+            "one two mark keep other",
+        ),
+        ("mirror 1 0 - two mark keep", "two keep 1:mark"),
+        ("mirror 1 0 one - mark keep", "one keep 0:mark"),
+        (
+            "mirror --lead-other 1 0 --mtu 1500 one - mark keep",
+            "one keep 0:mark other",
+        ),
+        (
+            "mirror 1 0 one two mark keep --tap t --stop s",
+            "one two mark keep t !s",
+        ),
+        (
+            "mirror 1 0 - two mark keep --local x --vxlan 7 --peers y --stop s",
+            "two keep x>y#7 !s 1:mark",
+        ),
+        ("mirror --check one two mark", "one two mark"),
+        ("mirror one two mark --check", "one two mark"),
     ];
     opens(&rt, rt.alloc(), &cases)
 }

@@ -47,6 +47,54 @@ fn reads_serve(rt: HostRuntime) -> Result<(), Fail> {
 }
 
 #[test]
+fn reads_mirror(rt: HostRuntime) -> Result<(), Fail> {
+    let cases = [
+        (
+            "mirror 1 0 one two mark keep",
+            mirror(1, 0, mac(1), 1500, None),
+        ),
+        (
+            "mirror 1 0 one two mark keep --lead-other",
+            mirror(1, 0, mac(1), 1500, None),
+        ),
+        (
+            "mirror 65534 254 one two mark keep --port 02:00:00:00:00:ff --mtu 9000 --tap t",
+            mirror(65534, 254, mac(255), 9000, Some(None)),
+        ),
+        (
+            "mirror 1 0 one two mark keep --local x --peers y --vxlan 1 --idle 7 --stop s",
+            mirror(1, 0, mac(1), 1500, Some(Some(7))),
+        ),
+        ("mirror --check one two mark", Command::Compare),
+        ("mirror 1 2 --check mark", Command::Compare),
+    ];
+    reads(&rt, rt.alloc(), "", &cases)
+}
+
+#[test]
+fn reads_mirror_with_one_side_gone(rt: HostRuntime) -> Result<(), Fail> {
+    let cases = [
+        (
+            "mirror 1 2 - two mark keep --lead-other",
+            answer(1, 2, mac(1), 1500, 0),
+        ),
+        (
+            "mirror 1 2 one - mark keep --port 02:00:00:00:00:ff --mtu 9000",
+            answer(1, 2, mac(255), 9000, 0),
+        ),
+        (
+            "mirror 65534 254 - two mark keep --local x --peers y --idle 7 --port 02:00:00:00:00:ff",
+            serve_alone(65534, 254, mac(255), 1500, Some(7)),
+        ),
+        (
+            "mirror 1 2 one --tap t - mark keep --idle 0 --mtu 9000",
+            serve_alone(1, 2, mac(1), 9000, None),
+        ),
+    ];
+    reads(&rt, rt.alloc(), "", &cases)
+}
+
+#[test]
 fn reads_audit(rt: HostRuntime) -> Result<(), Fail> {
     let cases = [
         ("audit 1 0 16 keep", audit(1, 0, &[mac(1)], 1500, 16)),

@@ -91,6 +91,69 @@ fn refuses_links_files_and_numbers_of_serve(rt: HostRuntime) -> Result<(), Fail>
 }
 
 #[test]
+fn refuses_words_of_mirror(rt: HostRuntime) -> Result<(), Fail> {
+    let lines = [
+        "mirror 1 0 one two mark",
+        "mirror 1 0 one two mark keep further",
+        "mirror 65535 0 one two mark keep",
+        "mirror 1 255 one two mark keep",
+        "mirror 1 0 one two mark keep --cache 1",
+        "mirror 1 0 one two mark keep --frames 1",
+        "mirror 1 0 one two mark keep --lead-other=1",
+        // Options of a link without one, and links that are none.
+        "mirror 1 0 one two mark keep --idle 1",
+        "mirror 1 0 one two mark keep --stop s",
+        "mirror 1 0 one two mark keep --vxlan 1",
+        "mirror 1 0 one two mark keep --local x",
+        "mirror 1 0 one two mark keep --local x --peers y --tap t",
+        "mirror 1 0 one two mark keep --tap t --vxlan 1",
+        "mirror 1 0 one two mark keep --tap t --idle 1000001",
+        // One hyphen elsewhere than for one of the two files.
+        "mirror 1 0 - - mark keep",
+        "mirror 1 0 one two - keep",
+        "mirror 1 0 one two mark -",
+        "mirror 1 0 - two - keep",
+        "mirror - 0 one two mark keep",
+        "mirror 1 - one two mark keep",
+        "mirror 1 0 one two mark keep --tap -",
+        "mirror 1 0 one two mark keep --tap=-",
+        "mirror 1 0 one two mark keep --local - --peers y",
+        "mirror 1 0 one two mark keep --local x --peers -",
+        "mirror 1 0 one two mark keep --tap t --stop -",
+        "mirror 1 0 one two mark keep --mtu -",
+        "serve 1 - k --tap t",
+        "serve 1 d k - k --tap t",
+        "- 1 0 one two mark keep",
+    ];
+    refuses(&rt, rt.alloc(), "", &lines)
+}
+
+#[test]
+fn refuses_words_of_a_check(rt: HostRuntime) -> Result<(), Fail> {
+    let lines = [
+        "mirror --check",
+        "mirror --check one two",
+        "mirror --check one two mark keep",
+        "mirror --check 1 0 one two mark keep",
+        "mirror --check - two mark",
+        "mirror --check one - mark",
+        "mirror --check one two -",
+        "mirror --check one two mark --port 02:00:00:00:00:01",
+        "mirror --check one two mark --mtu 1500",
+        "mirror --check one two mark --lead-other",
+        "mirror --check one two mark --tap t",
+        "mirror --check one two mark --local x --peers y",
+        "mirror --check one two mark --vxlan 1",
+        "mirror --check one two mark --idle 1",
+        "mirror --check one two mark --stop s",
+        "mirror --check --check one two mark",
+        "mirror --check=yes one two mark",
+        "serve --check one two mark",
+    ];
+    refuses(&rt, rt.alloc(), "", &lines)
+}
+
+#[test]
 fn refuses_words_of_audit(rt: HostRuntime) -> Result<(), Fail> {
     let lines = [
         "audit 1 0 16",

@@ -47,6 +47,9 @@ fn says_which_words_are_missing(rt: HostRuntime) -> Result<(), Fail> {
         ("mirror 1 0 one", "FILE is missing behind one"),
         ("mirror 1 0 one two", "MARK is missing behind two"),
         ("mirror 1 0 one two mark", "KEEP is missing behind mark"),
+        ("mirror --check", "FILE is missing"),
+        ("mirror --check one", "FILE is missing"),
+        ("mirror --check one two", "MARK is missing"),
         ("switch access:10", "PORT is missing behind access:10"),
         ("cfg e1.0 set --tap t", "TEXT is missing behind set"),
         ("mask e1.0 edit --tap t", "MAC is missing behind edit"),
@@ -77,6 +80,63 @@ fn says_which_words_are_too_many(rt: HostRuntime) -> Result<(), Fail> {
         (
             "answer 1 0 disk keep --durable --durable",
             "--durable: given twice",
+        ),
+    ];
+    says(&rt, rt.alloc(), &cases)
+}
+
+#[test]
+fn says_what_is_wrong_with_a_mirror(rt: HostRuntime) -> Result<(), Fail> {
+    let no_link = "--local and --peers, or --tap, are missing";
+    let cases = [
+        ("mirror 1 0 one two mark keep --idle 1", no_link),
+        ("mirror 1 0 - two mark keep --stop s", no_link),
+        ("mirror 1 0 one two mark keep --vxlan 1", no_link),
+        (
+            "mirror 1 0 one two mark keep --local x",
+            "--peers is missing beside --local",
+        ),
+        (
+            "mirror 1 0 one two mark keep --tap t --peers y",
+            "--tap and --peers exclude each other",
+        ),
+        ("mirror 1 0 - - mark keep", "-: only hyphens"),
+        ("mirror 1 0 one two mark -", "-: only hyphens"),
+        ("mirror 1 0 one two mark keep --tap -", "-: only hyphens"),
+        ("mirror - 0 one two mark keep", "-: only hyphens"),
+        ("mirror 1 0 - two mark", "KEEP is missing behind mark"),
+        (
+            "mirror 1 0 - two mark keep more",
+            "more: one word too many, of SHELF SLOT FILE FILE MARK KEEP at most",
+        ),
+    ];
+    says(&rt, rt.alloc(), &cases)
+}
+
+#[test]
+fn says_what_is_wrong_with_a_check(rt: HostRuntime) -> Result<(), Fail> {
+    let cases = [
+        ("mirror --check one two mark", "a command"),
+        (
+            "mirror --check one two mark keep",
+            "keep: one word too many",
+        ),
+        ("mirror --check one - mark", "-: only hyphens"),
+        (
+            "mirror --check one two mark --port 02:00:00:00:00:01",
+            "--port: not an option of this command",
+        ),
+        (
+            "mirror one two mark --check --stop s",
+            "--stop: not an option of this command",
+        ),
+        (
+            "mirror --check one two mark --lead-other",
+            "--lead-other: not an option of this command",
+        ),
+        (
+            "mirror --check=yes one two mark",
+            "--check=yes: this option has no value",
         ),
     ];
     says(&rt, rt.alloc(), &cases)
