@@ -12,11 +12,11 @@ _aoe() {
             mapfile -t COMPREPLY < <(compgen -f -- "$word")
             return
             ;;
-        --durable | --verify | --no-flush | --progress | --long | --sectors | --read-only | --once) ;; # shell/make: options without a value
+        --durable | --lead-other | --check | --verify | --no-flush | --progress | --long | --sectors | --read-only | --once) ;; # shell/make: options without a value
         --*) return ;;
     esac
     # The words of the synopsis that are no names of values: options and actions.
-    words=$("${COMP_WORDS[0]}" "$command" --help 2>/dev/null | head -n 1 | tr -d '[]()' | tr ' |' '\n\n' | grep -x -e '--[a-z-]*' -e '[a-z]*' -e '[a-z]*=MAC')
+    words=$("${COMP_WORDS[0]}" "$command" --help 2>/dev/null | grep '^aoe ' | tr -d '[]()' | tr ' |' '\n\n' | grep -x -e '--[a-z-]*' -e '[a-z]*' -e '[a-z]*=MAC')
     words=$(printf '%s\n' "$words" | sed -e '/^aoe$/d' -e "/^$command\$/d" -e 's/=MAC/=/')
     [ "$command" = switch ] && words="$words access: trunk:"
     if [ -z "$word" ] || [ "${word:0:1}" != - ]; then
