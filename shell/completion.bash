@@ -8,11 +8,11 @@ _aoe() {
         return
     fi
     case $before in
-        --tap | --one-tap | --two-tap | --socket) # shell/make: options with a file
+        --tap | --one-tap | --two-tap | --output | --input | --socket) # shell/make: options with a file
             mapfile -t COMPREPLY < <(compgen -f -- "$word")
             return
             ;;
-        --durable | --lead-other | --check | --verify | --no-flush | --progress | --long | --sectors | --read-only | --once) ;; # shell/make: options without a value
+        --durable | --lead-other | --check | --anyway | --verify | --no-flush | --progress | --long | --sectors | --read-only | --once) ;; # shell/make: options without a value
         --*) return ;;
     esac
     # The words of the synopsis that are no names of values: options and actions.

@@ -201,22 +201,22 @@ module _ {D S K L : Type 0} (state : D → DiskState) (name : ℕ → Station) (
     λ told. absurd (ran-not-sides e.end e.unsynced first second (left-told _ _ e.follower e.stale (λ k n x. cc) told)),
     λ is. absurd (is.0.2 (is.0.0 ∙ sym law.over.begins.mounts.size ∙ sym is.0.1)),
   )
-  unequal (Err stop.NoMemory) law first second = (λ told. absurd cc, λ is. absurd (is.1.1 refl))
+  unequal (Err stop.NoMemory) law first second = (λ told. absurd cc, λ is. absurd (is.0.2 (is.0.0 ∙ sym law.mounts.size ∙ sym is.0.1)))
   unequal (Err (stop.Keep r)) law first second = (
     λ told. let e = sym (ap is_kept_out told) ∙ kept-out r in absurd cc,
-    λ is. let e = sym is.1.0 ∙ kept-out r in absurd cc,
+    λ is. let e = sym is.1 ∙ kept-out r in absurd cc,
   )
   unequal (Err (stop.Mirror (mirror.Unequal one two))) law first second = (
     λ told.
         let same : one ≡ first = cc in
         let same' : two ≡ second = cc in
-        ((sym same ∙ law.1.0, sym same' ∙ law.1.1, λ e. law.1.2 (same ∙ e ∙ sym same')), (refl, λ e. cc)),
+        ((sym same ∙ law.1.0, sym same' ∙ law.1.1, λ e. law.1.2 (same ∙ e ∙ sym same')), refl),
     λ is. rw (law.1.0, law.1.1, is.0.0, is.0.1) refl,
   )
   unequal (Err (stop.Mirror mirror.NoMark)) law first second = (λ told. absurd cc, λ is. absurd (is.0.2 (is.0.0 ∙ sym law.1.0 ∙ sym is.0.1)))
   unequal (Err (stop.Mirror mirror.NotMark)) law first second = (λ told. absurd cc, λ is. absurd (is.0.2 (is.0.0 ∙ sym law.1.0 ∙ sym is.0.1)))
   unequal (Err (stop.Mirror mirror.Failed)) law first second = (λ told. absurd cc, λ is. absurd (is.0.2 (is.0.0 ∙ sym law.1.0 ∙ sym is.0.1)))
-  unequal (Err (stop.Mirror mirror.NoMemory)) law first second = (λ told. absurd cc, λ is. absurd (is.1.1 refl))
+  unequal (Err (stop.Mirror mirror.NoMemory)) law first second = (λ told. absurd cc, λ is. absurd (is.0.2 (is.0.0 ∙ sym law.1.0 ∙ sym is.0.1)))
 
   pub unmarked : (r : Result MirrorEnd MirrorStop) → Law r → (mirrored_as r ≡ status.MirrorMark)
       ↔ (((state given.two).sectors ≡ (state given.one).sectors) × ((state given.mark).sectors ≡ 0) × ComesToSides (mirrored_as r))
@@ -224,19 +224,19 @@ module _ {D S K L : Type 0} (state : D → DiskState) (name : ℕ → Station) (
     λ told. absurd (ran-not-mark e.end e.unsynced (left-told _ _ e.follower e.stale (λ k n x. cc) told)),
     λ is. absurd (let room = law.over.begins.mounts.room in omega (arith, room, is.1)),
   )
-  unmarked (Err stop.NoMemory) law = (λ told. absurd cc, λ is. absurd (is.2.1 refl))
+  unmarked (Err stop.NoMemory) law = (λ told. absurd cc, λ is. absurd (let room = law.mounts.room in omega (arith, room, is.1)))
   unmarked (Err (stop.Keep r)) law = (
     λ told. let e = sym (ap is_kept_out told) ∙ kept-out r in absurd cc,
-    λ is. let e = sym is.2.0 ∙ kept-out r in absurd cc,
+    λ is. let e = sym is.2 ∙ kept-out r in absurd cc,
   )
   unmarked (Err (stop.Mirror (mirror.Unequal one two))) law = (
     λ told. absurd cc,
     λ is. absurd (law.1.2 (law.1.0 ∙ sym is.0 ∙ sym law.1.1)),
   )
-  unmarked (Err (stop.Mirror mirror.NoMark)) law = (λ told. (law.1.0, law.1.1, (refl, λ e. cc)), λ is. refl)
+  unmarked (Err (stop.Mirror mirror.NoMark)) law = (λ told. (law.1.0, law.1.1, refl), λ is. refl)
   unmarked (Err (stop.Mirror mirror.Failed)) law = (λ told. absurd cc, λ is. absurd (let room = law.1.1 in omega (arith, room, is.1)))
   unmarked (Err (stop.Mirror mirror.NotMark)) law = (λ told. absurd cc, λ is. absurd (let room = law.1.1 in omega (arith, room, is.1)))
-  unmarked (Err (stop.Mirror mirror.NoMemory)) law = (λ told. absurd cc, λ is. absurd (is.2.1 refl))
+  unmarked (Err (stop.Mirror mirror.NoMemory)) law = (λ told. absurd cc, λ is. absurd (let room = law.1.1 in omega (arith, room, is.1)))
 
   pub other : (r : Result MirrorEnd MirrorStop) → Law r → mirrored_as r ≡ status.NotMark
       → SameSides given back × ReadsMark None (state given.mark) (state back.mark)

@@ -5,7 +5,7 @@ use Rattle.aoe_disk.specs.State.{DiskState}
 use Rattle.aoe_keep.specs.Found.{found}
 use Rattle.aoe_keep.specs.declared.refusal.MountRefusal.{MountRefusal}
 use Rattle.aoe_keep.specs.declared.refusal.MountRefusal.TheVariants as refusal
-use Rattle.aoe_upkeep.specs.Upkeep.{Changes, Shows, clearing, marking, upgrading}
+use Rattle.aoe_upkeep.specs.Upkeep.{Changes, Shows, clearing, creating, marking, upgrading}
 use Rattle.aoe_upkeep.specs.declared.change.Part.TheVariants as part
 use Rattle.aoe_upkeep.specs.declared.stop.UpkeepStop.{UpkeepStop}
 use Rattle.aoe_upkeep.specs.declared.stop.UpkeepStop.TheVariants as stop
@@ -34,6 +34,7 @@ Acts state action.Show ended held held' disk disk' = Shows state ended held held
 Acts state action.Upgrade ended held held' disk disk' = Changes state upgrading ended disk disk' × (held' ≡ held)
 Acts state action.Lock ended held held' disk disk' = Changes state (marking true) ended disk disk' × (held' ≡ held)
 Acts state action.Unlock ended held held' disk disk' = Changes state (marking false) ended disk disk' × (held' ≡ held)
+Acts state action.Create ended held held' disk disk' = Changes state creating ended disk disk' × (held' ≡ held)
 Acts state action.ClearConfig ended held held' disk disk' = Changes state (clearing part.Config) ended disk disk' × (held' ≡ held)
 Acts state action.ClearMasks ended held held' disk disk' = Changes state (clearing part.Masks) ended disk disk' × (held' ≡ held)
 Acts state action.ClearReserves ended held held' disk disk' = Changes state (clearing part.Reserves) ended disk disk' × (held' ≡ held)

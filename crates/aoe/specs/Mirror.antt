@@ -63,9 +63,9 @@ is_kept_out (status.KeepSmall disk sectors) = true
 is_kept_out (status.KeepBad disk slot) = true
 is_kept_out s = false
 
--- the keep was mounted, and memory wasn't wanting
+-- the keep was mounted
 abbrev pub ComesToSides : Status → Type 0
-ComesToSides s = (is_kept_out s ≡ false) × (s ≢ status.NoMemory)
+ComesToSides s = is_kept_out s ≡ false
 
 -- sides of different sizes
 abbrev pub HasSides : DiskState → DiskState → ℕ → ℕ → Type 0

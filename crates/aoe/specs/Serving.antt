@@ -103,7 +103,7 @@ all_seen link answers door = record {
 -- where a run begins that serves a device: with a host of its own, which is attached to it
 abbrev pub setting_of : Nbd → Device → ServeSeen → Setting
 setting_of asked d before = record {
-  start = new_start (host_of asked.asking.port (lifetimes asked.lifetime) asked.id d.port d.total d.max);
+  start = new_start (host_of asked.asking.port (lifetimes asked.lifetime) asked.id d.port d.total d.max d.flush);
   terms = serve_terms asked d;
   before = before;
 }

@@ -78,7 +78,7 @@ SaysConfig asked said t = (given : Result (ArrayVec ℕ) ToolRefusal)
 -- `mask` ran, and says this of the mask list
 abbrev pub SaysMasks : Mask → Result (List ℕ) ToolRefusal → Told → Type 0
 SaysMasks asked said t =
-    (given : Result (ArrayVec ℕ) ToolRefusal) × RunsMasks given (dirs_of asked) asked.id (ask_of asked.asking) t
+    (given : Result (ArrayVec ℕ) ToolRefusal) × RunsMasks given (dirs_of asked) asked.anyway asked.id (ask_of asked.asking) t
     × IsSaid (λ args. masks_text args.items) given said
 
 -- `reserve` ran, and says this of the reserve list

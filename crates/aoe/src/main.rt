@@ -1,8 +1,8 @@
 //! The program: its commands, from their arguments to their status.
 //!
 //! In order: [`read_words`] of `aoe_args` says which command it is, and what to open and to look for; files are
-//! opened and locked, and then sockets and tap files; [`aoe`] runs the command over them, the standard
-//! streams, a clock and a [`Door`] for clients; the text of its [`Status`] goes to standard error. Before a mirror
+//! opened and locked, then sockets and tap files, then the [`Streams`] of a copy; [`aoe`] runs the command over them,
+//! a clock and a [`Door`] for clients; the text of its [`Status`] goes to standard error. Before a mirror
 //! is served, MARK is settled for the FILEs that are named ([`Settling`]).
 //!
 //! `aoe` (`top`, with `plan`, `mirror`, `tools`, `nbd`, `live`, `switch`, `upkeep`, `compare` and `audit`) opens nothing and says no status;
@@ -36,20 +36,23 @@ mod nbd;
 mod plan;
 mod settle;
 mod status;
+mod streams;
 mod switch;
 mod teller;
 mod tools;
 mod top;
 mod upkeep;
 
-use aoe_args::{Command, CommandLine, PortWords, SlipText, is_command, meant, read_words, slip_of};
+use aoe_args::{
+    Command, CommandLine, KeepAction, PortWords, SlipText, is_command, meant, read_words, slip_of,
+};
 use aoe_base::{Blob, NoMemory};
 use aoe_clients::Clients;
 use aoe_disk::Disk;
 use aoe_system::{
     Carrier, ClientLog, FileDisk, FileRefusal, Flow, Input, KeepDoubt, Output, PollBell,
-    SocketRefusal, StopFile, SystemClock, UnixClients, Until, Waiter, Wire, input_sectors, say,
-    variable_of, words,
+    SocketRefusal, StopFile, SystemClock, UnixClients, Until, Waiter, Wire, say, variable_of,
+    words,
 };
 use aoe_tap::{OpenRefusal as TapRefusal, TapMedium};
 use aoe_tools::Refusal;
@@ -64,6 +67,7 @@ use std::fs::File;
 use std::io::{BufReader, ErrorKind};
 use std::process::ExitCode;
 use std::{fs, io};
+use streams::Streams;
 use teller::{DiskTeller, SideTeller, Teller};
 use top::aoe;
 
@@ -73,6 +77,10 @@ const READ_AHEAD: usize = 65536;
 /// What is wrong with a text that spells no address, or not only addresses.
 const NO_ADDRESS: &[u8] = b": not an address as 127.0.0.1:7001 or [::1]:7001";
 
+/// What is wrong with one that has a name in place of a number.
+const NO_NUMBER: &[u8] =
+    b": names aren't looked up, give an address as 127.0.0.1:7001 or [::1]:7001";
+
 /// What is wrong with an end of a link whose peer is of IPv6 where it is of IPv4, or the other way round.
 const OTHER_FAMILY: &[u8] = b": of another family than a peer, IPv4 or IPv6";
 
@@ -81,6 +89,9 @@ const NO_TAP: &[u8] = b": not a tap file";
 
 /// What is wrong with a name at which no socket can be made, since something else has it.
 const NO_SOCKET: &[u8] = b": not a socket";
+
+/// What is wrong with a block device that holds no keep.
+const NO_KEEP: &[u8] = b"not a keep, which `aoe keep DEVICE create` makes of it: ";
 
 /// A folder that is always there.
 const ROOT: &str = "/";
@@ -119,6 +130,11 @@ fn tell_failed(rt: &HostRuntime, name: &[u8], error: &io::Error, code: u8) -> u8
     }
 }
 
+/// Whether a text has letters that are no digits, as the name of a host has.
+fn is_name(text: &[u8]) -> bool {
+    text.iter().any(|byte| byte.is_ascii_alphabetic() && !byte.is_ascii_hexdigit())
+}
+
 /// Says that an end of a link is no address, and which variable of the environment it comes from, if it
 /// does, and gives the exit status.
 fn tell_no_address(rt: &HostRuntime, option: &str, text: &[u8]) -> u8 {
@@ -128,7 +144,7 @@ fn tell_no_address(rt: &HostRuntime, option: &str, text: &[u8]) -> u8 {
         say(rt, b": ");
     }
     say(rt, text);
-    say(rt, NO_ADDRESS);
+    say(rt, if is_name(text) { NO_NUMBER } else { NO_ADDRESS });
     say(rt, b"\n");
     6
 }
@@ -167,6 +183,7 @@ fn tell_doubt(rt: &HostRuntime, name: &[u8], disk: u32, doubt: KeepDoubt) -> u8 
     match doubt {
         KeepDoubt::Size => tell_name(rt, b"not a keep, which has 8192 bytes: ", name, 8),
         KeepDoubt::Content => tell_name(rt, b"not a keep, but other data: ", name, 8),
+        KeepDoubt::Device => tell_name(rt, NO_KEEP, name, 8),
         KeepDoubt::Unread => tell(rt, Status::DiskFault { disk }),
     }
 }
@@ -286,6 +303,43 @@ fn open_all(
     Ok(disks)
 }
 
+/// Says what a new keep overwrites.
+fn tell_overwritten(rt: &HostRuntime, name: &str, disk: &FileDisk) {
+    let sectors = disk.sectors();
+    let used = disk.used_bytes();
+    let kind = disk.kind().unwrap_or("nothing that is known");
+    if let Ok(text) = format!(in rt.alloc();
+        "aoe: {name}: the first 16 of {sectors} sectors are overwritten, {used} bytes of which aren't zero; it holds {kind}\n"
+    ) {
+        say(rt, text.as_bytes());
+    }
+}
+
+/// Why a file isn't taken for a keep. A device on which one is to be made is, and then it is said what
+/// is overwritten.
+fn doubt_of(rt: &HostRuntime, command: &Command, name: &str, disk: &FileDisk) -> Option<KeepDoubt> {
+    let doubt = disk.keep_doubt();
+    if !matches!(command, Command::Keep(KeepAction::Create)) {
+        return doubt;
+    }
+    match doubt {
+        Some(KeepDoubt::Device) => {
+            tell_overwritten(rt, name, disk);
+            None
+        }
+        None if disk.used_bytes() > 0 => {
+            tell_name(
+                rt,
+                b"a keep already, whose lists are emptied: ",
+                name.as_bytes(),
+                0,
+            );
+            None
+        }
+        doubt => doubt,
+    }
+}
+
 /// Looks at each file that is to be a keep; the exit status where one holds other data, which is said.
 fn look_at_keeps(
     rt: &HostRuntime,
@@ -297,7 +351,7 @@ fn look_at_keeps(
     'files: for (number, (name, disk)) in names.iter().zip(disks.iter()).enumerate() {
         if let Some(disk) = disk
             && is_keep(command, number)
-            && let Some(doubt) = disk.keep_doubt()
+            && let Some(doubt) = doubt_of(rt, command, name.as_str(), disk)
         {
             let disk = settling.number(u32::try_from(number).unwrap_or(u32::MAX));
             return Err(tell_doubt(rt, name.as_bytes(), disk, doubt));
@@ -493,11 +547,12 @@ fn say_slip(rt: &HostRuntime, words: &[String]) {
     }
 }
 
-/// Runs the command over its files, which have these names, its links, the standard streams and the clock.
-/// The flow is told how far a copy has come, and a teller which device is served.
+/// Runs the command over its streams, its files, which have these names, its links and the clock. The flow
+/// is told how far a copy has come, and a teller which device is served.
 fn run_over(
     rt: &HostRuntime,
     command: &Command,
+    streams: Streams,
     files: &[String],
     disks: &mut [Option<FileDisk>],
     links: &mut [Until<WireLink<Wire>>],
@@ -511,11 +566,12 @@ fn run_over(
     requires links { length links.old ≡ link_count command.now }
     requires nobody { ⟦<UnixClients as Clients>⟧.connected door.old.clients ≡ false }
 {
-    let Ok(reader) = BufReader::with_capacity(rt.alloc(), READ_AHEAD, rt.stdin()) else {
+    let Streams { reader, writer } = streams;
+    let Ok(reader) = BufReader::with_capacity(rt.alloc(), READ_AHEAD, reader) else {
         return Status::NoMemory;
     };
     let mut source = Input::new(reader);
-    let mut sink = Output::new(rt.stdout());
+    let mut sink = Output::new(writer);
     let mut clock = SystemClock::new(rt);
     let mut watch = Teller::new(flow, disk);
     let sides = SideTeller::new(rt, files);
@@ -538,8 +594,7 @@ fn run_over(
 /// What is known of how far a command comes: of a copy it is told.
 fn flow_of(rt: &HostRuntime, command: &Command, is_told: bool) -> Flow {
     match command {
-        Command::Get(_) => Flow::new(rt, is_told, None),
-        Command::Put(_) => Flow::new(rt, is_told, input_sectors(rt)),
+        Command::Get(_) | Command::Put(_) => Flow::new(rt, is_told),
         _ => Flow::nowhere(rt),
     }
 }
@@ -642,7 +697,7 @@ fn stops_of(command: &Command, stop: Option<String>) -> (Option<String>, Option<
 /// gives the exit status.
 fn run_linked(
     rt: &HostRuntime,
-    line: CommandLine,
+    mut line: CommandLine,
     mut settling: Settling,
     disks: &mut [Option<FileDisk>],
     log: &mut Option<Log>,
@@ -652,42 +707,48 @@ fn run_linked(
     requires there { All IsSome disks.old }
     requires links { length line.links.items ≡ link_count line.command }
 {
-    let CommandLine {
-        command,
-        files,
-        links: ends,
-        socket,
-        stop,
-        is_told,
-        ..
-    } = line;
-    let flow = flow_of(rt, &command, is_told);
+    let (socket, stop) = (line.socket.take(), line.stop.take());
+    let flow = flow_of(rt, &line.command, line.is_told);
     let waiter = Waiter::medium();
-    let (link_stop, door_stop) = stops_of(&command, stop);
-    let mut links = match open_links(rt, ends.as_slice(), link_stop, &flow, &waiter) {
+    let (link_stop, door_stop) = stops_of(&line.command, stop);
+    let mut links = match open_links(rt, line.links.as_slice(), link_stop, &flow, &waiter) {
         Ok(links) => links,
         Err(code) => return code,
     };
     let is_logged = log.is_some();
-    let disk = disk_of(rt, &command, &socket, is_logged);
+    let disk = disk_of(rt, &line.command, &socket, is_logged);
     let mut door = match open_door(rt, socket, door_stop, links.as_slice(), &waiter, is_logged) {
         Ok(door) => door,
         Err(code) => return code,
     };
-    let files = files.as_slice();
-    if let Err(code) = settling.settle(&command, files, disks) {
+    let files = line.files.as_slice();
+    if let Err(code) = settling.settle(&line.command, files, disks) {
         return code;
     }
+    let streams = match Streams::open(rt, &line, &flow) {
+        Ok(streams) => streams,
+        Err(code) => return code,
+    };
     if let Some(log) = &mut *log {
-        log.start(&command, ends.as_slice());
+        log.start(&line.command, line.links.as_slice());
     }
     let links = links.as_mut_slice();
-    let status = run_over(rt, &command, files, disks, links, &flow, &disk, &mut door);
+    let status = run_over(
+        rt,
+        &line.command,
+        streams,
+        files,
+        disks,
+        links,
+        &flow,
+        &disk,
+        &mut door,
+    );
     door.clients.tell_end();
     tell_offloaded(rt, links);
-    end_log(log, &command, disks, links);
+    end_log(log, &line.command, disks, links);
     let status = settling.numbered(status);
-    settling.code(tell_end(rt, &command, files, status, flow.reached()))
+    settling.code(tell_end(rt, &line.command, files, status, flow.reached()))
 }
 
 /// Opens the files of a command line and what else it names, runs its command over them, and gives the

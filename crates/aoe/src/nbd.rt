@@ -123,6 +123,7 @@ fn serve_device<L: Link, C: Clock, P: Clients, B: Bell, E: Ending>(
         device.port,
         device.total,
         device.max,
+        device.flush,
     ) {
         Ok(host) => host,
         Err(NoMemory) => return Status::NoMemory,

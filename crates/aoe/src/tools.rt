@@ -144,7 +144,14 @@ fn say_masks<L: Link, C: Clock>(
     ensures link { Blamed (result ≡ Err ToolRefusal.LinkFault) (L.faults link.old)
         (L.faults link.new) }
 {
-    let given = mask(&ask_of(asked.asking), asked.id, dirs_of(asked), link, clock)?;
+    let given = mask(
+        &ask_of(asked.asking),
+        asked.id,
+        dirs_of(asked),
+        asked.anyway,
+        link,
+        clock,
+    )?;
     said(print_masks(alloc, &given))
 }
 

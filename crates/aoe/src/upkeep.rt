@@ -10,7 +10,7 @@ use aoe_args::KeepAction;
 use aoe_disk::Disk;
 use aoe_io::Sink;
 use aoe_keep::MountRefusal;
-use aoe_upkeep::{Part, UpkeepStop, clear, mark, show, upgrade};
+use aoe_upkeep::{Part, UpkeepStop, clear, create, mark, show, upgrade};
 use std::alloc::Global;
 
 /// The number of the keep, which is the only disk.
@@ -82,6 +82,7 @@ fn act<K: Sink, D: Disk + Drop>(
         KeepAction::Upgrade => upgrade(disk),
         KeepAction::Lock => mark(disk, true),
         KeepAction::Unlock => mark(disk, false),
+        KeepAction::Create => create(disk),
         KeepAction::ClearConfig => clear(disk, Part::Config),
         KeepAction::ClearMasks => clear(disk, Part::Masks),
         KeepAction::ClearReserves => clear(disk, Part::Reserves),

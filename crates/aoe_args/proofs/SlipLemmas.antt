@@ -2,7 +2,7 @@
 use Rattle.std.proofs.Common.{ℕ, ◌≡◌, ◌<◌, ◌≤◌, List, length, Option, Some, None, true, false, inr, sym, subst}
 use Rattle.std.specs.Prelude.{is_some, option_map, IsSomeAnd, MatchOption}
 use Rattle.clap.specs.Words.{Text}
-use Rattle.aoe_args.specs.Places.{Form, form_by, word_at}
+use Rattle.aoe_args.specs.Places.{Form, form_by}
 use Rattle.aoe_args.specs.Slips.{IsSlip, IsSlipIn, IsWrongIn}
 use Rattle.aoe_args.specs.declared.slip.Slip.{Slip}
 use Rattle.aoe_args.specs.declared.slip.Wrong.{Wrong}

@@ -101,11 +101,11 @@ replay_app = bare (codes "replay")
 
 -- soak SEED N
 abbrev pub soak_app : App
-soak_app = with_rule (with_rule (bare (codes "soak")) (needed (codes "seed"))) (needed (codes "count"))
+soak_app = with_rule (with_rule (bare (codes "soak")) (needed (codes "seed"))) (needed (codes "commands"))
 
 -- live SECTORS N
 abbrev pub live_front : App
-live_front = with_rule (with_rule (bare (codes "live")) (needed (codes "sectors"))) (needed (codes "count"))
+live_front = with_rule (with_rule (bare (codes "live")) (needed (codes "sectors"))) (needed (codes "commands"))
 
 -- with its two ends
 abbrev pub live_ends : App
@@ -135,6 +135,10 @@ plain_tool name more = with_rule (with_tool_options (bare name)) (flag more)
 abbrev pub list_tool : Text → Rule → App
 list_tool name rule = with_tool_options (with_rule (with_rule (with_rule (bare name) (needed (codes "dev"))) (needed (codes "action"))) rule)
 
+-- mask DEV ACTION [DIR ..]
+abbrev pub mask_app : App
+mask_app = with_rule (list_tool (codes "mask") (allowed_several (codes "dirs"))) (flag (codes "anyway"))
+
 -- and how long a frame can be on its way
 abbrev pub with_sector_options : App → App
 with_sector_options app = with_rule (with_tool_options app) (optional (codes "lifetime"))
@@ -147,15 +151,23 @@ flush_app = with_sector_options (with_rule (bare (codes "flush")) (needed (codes
 abbrev pub device_tool : Text → App
 device_tool name = with_rule (bare name) (needed (codes "dev"))
 
-abbrev pub get_app : App
-get_app =
-    with_rule (with_sector_options (with_rule (with_rule (device_tool (codes "get")) (allowed (codes "at"))) (allowed (codes "count"))))
-    (flag (codes "progress"))
+abbrev pub get_front : App
+get_front = with_sector_options (with_rule (with_rule (device_tool (codes "get")) (allowed (codes "at"))) (allowed (codes "length")))
 
+-- with all its options
+abbrev pub get_app : App
+get_app = with_rule (with_rule get_front (optional (codes "output"))) (flag (codes "progress"))
+
+abbrev pub put_front : App
+put_front = with_sector_options (with_rule (device_tool (codes "put")) (needed (codes "at")))
+
+-- with the part of a file that is read
+abbrev pub put_file : App
+put_file = with_rule (with_rule (with_rule put_front (optional (codes "input"))) (optional (codes "skip"))) (optional (codes "count"))
+
+-- with all its options
 abbrev pub put_app : App
-put_app =
-    with_rule (with_rule (with_rule (with_sector_options (with_rule (device_tool (codes "put")) (needed (codes "at")))) (flag (codes "verify")))
-    (flag (codes "no-flush"))) (flag (codes "progress"))
+put_app = with_rule (with_rule (with_rule put_file (flag (codes "verify"))) (flag (codes "no-flush"))) (flag (codes "progress"))
 
 -- nbd DEV, with its socket
 abbrev pub nbd_front : App
@@ -204,7 +216,7 @@ listing_commands =
 abbrev pub mask_commands : App
 mask_commands =
     with_subcommand (with_subcommand listing_commands (list_tool (codes "cfg") (allowed (codes "text"))).top)
-    (list_tool (codes "mask") (allowed_several (codes "dirs"))).top
+    mask_app.top
 
 -- with reserve
 abbrev pub list_commands : App

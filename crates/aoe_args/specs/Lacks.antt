@@ -75,12 +75,13 @@ pub record AreExclusive (words : List Text) (one other : Text) : Type 0 where
   pub first : is_given one words ≡ true
   pub second : is_given other words ≡ true
 
--- the first of these two options names one end of a link, or its VXLAN, and the second an end that it needs beside it
+-- the first of these two options names one end of a link, and the second the end that it needs beside it; or the first says which part of a file is read, and the second names the file
 abbrev pub needs : Text → Text → Bool
 needs one other =
     bytes_eq one (codes "local") && bytes_eq other (codes "peers") || bytes_eq one (codes "peers") && bytes_eq other (codes "local")
     || bytes_eq one (codes "one") && bytes_eq other (codes "two") || bytes_eq one (codes "two") && bytes_eq other (codes "one")
     || bytes_eq one (codes "one-tap") && bytes_eq other (codes "two-tap") || bytes_eq one (codes "two-tap") && bytes_eq other (codes "one-tap")
+    || (bytes_eq one (codes "skip") || bytes_eq one (codes "count")) && bytes_eq other (codes "input")
 
 -- and the second isn't given
 pub record IsAlone (words : List Text) (one other : Text) : Type 0 where

@@ -134,6 +134,10 @@ is_gone_file form words n =
     not (is_some (awaits form words n)) && bytes_eq form.0 (codes "mirror")
     && (plain_before form words n == 2 || plain_before form words n == 3) && not (list_any is_hyphen (take n words))
 
+-- the word at this place goes to the second FILE of a mirror
+abbrev pub is_second_file : Form → List Text → ℕ → Bool
+is_second_file form words n = not (is_some (awaits form words n)) && bytes_eq form.0 (codes "mirror") && plain_before form words n == 3
+
 -- the argument that the word at this place is or has a value for: it is an option, the value of the one before it, or goes by its place among the others
 abbrev pub argument_at : Form → List Text → ℕ → Option Text
 argument_at form words n =

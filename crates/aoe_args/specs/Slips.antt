@@ -6,7 +6,7 @@ use Rattle.clap.specs.Words.{Text}
 use Rattle.aoe_base.specs.Names.{device_of, mac_of}
 use Rattle.aoe_base.specs.Sizes.{longest_lifetime, most_cached, most_simulated}
 use Rattle.aoe_args.specs.Lacks.{AreExclusive, IsAlone, IsLacking, IsLastPlain, IsUnlinked, IsUnset, follower, most_words, plain_count}
-use Rattle.aoe_args.specs.Places.{Form, argument_at, awaits, form_by, is_flag, is_given, is_gone_file, option_at, option_named, word_at}
+use Rattle.aoe_args.specs.Places.{Form, argument_at, awaits, form_by, is_flag, is_given, is_gone_file, is_second_file, option_at, option_named, word_at}
 use Rattle.aoe_args.specs.Switching.{kind_of}
 use Rattle.aoe_args.specs.Tools.{dir_of, is_socket_path}
 use Rattle.aoe_args.specs.Values.{number_within, port_of, ports_of}
@@ -29,7 +29,7 @@ is_action for.Reserve text =
     bytes_eq text (codes "read") || bytes_eq text (codes "set") || bytes_eq text (codes "force") || bytes_eq text (codes "release")
 is_action for.Keep text =
     bytes_eq text (codes "show") || bytes_eq text (codes "upgrade") || bytes_eq text (codes "lock") || bytes_eq text (codes "unlock")
-    || bytes_eq text (codes "clear")
+    || bytes_eq text (codes "create") || bytes_eq text (codes "clear")
 
 -- a text names what of a keep can be emptied
 abbrev pub is_list : Text → Bool
@@ -74,10 +74,10 @@ number_wanted command name =
     else if bytes_eq name (codes "seed") then Some (want.Number 0 65535)
     else if bytes_eq name (codes "sectors") then Some (if bytes_eq command (codes "audit") then want.Number 0 1099511627776 else want.Number 1 most_simulated)
     else if bytes_eq name (codes "at") then Some (want.Number 0 281474976710655)
-    else if bytes_eq name (codes "count") then
-    if bytes_eq command (codes "soak") then Some (want.Number 1 16000)
-    else if bytes_eq command (codes "live") then Some (want.Number 1 10000)
-    else Some (want.Number 1 281474976710656)
+    else if bytes_eq name (codes "commands") then Some (if bytes_eq command (codes "soak") then want.Number 1 16000 else want.Number 1 10000)
+    else if bytes_eq name (codes "length") then Some (want.Number 1 281474976710656)
+    else if bytes_eq name (codes "skip") then Some (want.Number 0 281474976710655)
+    else if bytes_eq name (codes "count") then Some (want.Number 1 281474976710656)
     else None
 
 -- what can be done by a command
@@ -155,6 +155,12 @@ pub record IsMisplaced (form : Form) (words : List Text) (n : ℕ) : Type 0 wher
   pub hyphen : is_hyphen (word_at n words) ≡ true
   pub misplaced : is_gone_file form words n ≡ false
 
+-- one hyphen at this place stands for the second file of a mirror, and one before it for another
+pub record AreBothGone (form : Form) (words : List Text) (n : ℕ) : Type 0 where
+  pub hyphen : is_hyphen (word_at n words) ≡ true
+  pub second : is_second_file form words n ≡ true
+  pub another : list_any is_hyphen (take n words) ≡ true
+
 -- this is wrong with the word at this place, of those behind the command
 abbrev pub IsWrongIn : Form → List Text → ℕ → Wrong → Type 0
 IsWrongIn form words n wrong.Option = (is_value (word_at n words) ≡ false) × (option_at form words n ≡ None)
@@ -163,6 +169,7 @@ IsWrongIn form words n wrong.Flag = IsSomeAnd (option_at form words n) (λ a. (i
 IsWrongIn form words n wrong.NoValue = (is_some (awaits form words (n + 1)) ≡ true) × IsNoValue (n + 1) words
 IsWrongIn form words n wrong.Further = (is_value (word_at n words) ≡ true) × (argument_at form words n ≡ None)
 IsWrongIn form words n wrong.Hyphens = IsMisplaced form words n
+IsWrongIn form words n wrong.BothGone = AreBothGone form words n
 IsWrongIn form words n (wrong.Unfit name wanted) = IsUnfit form words n name.now wanted
 IsWrongIn form words n (wrong.Behind name) =
     IsLastPlain form words n × (follower form.0 (plain_count form words) (word_at n words) ≡ Some name.now)

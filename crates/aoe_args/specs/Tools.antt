@@ -1,5 +1,5 @@
 -- What the words of the tools spell.
-use Rattle.std.specs.Prelude.{ℕ, ◌≡◌, ◌≤◌, ◌<◌, ◌^◌, ◌-◌, Bool, ◌&&◌, true, false, not, List, [], length, take, drop, nat_le, Option, Some, None, if◌then◌else◌, option_and_then, option_map, codes, IfSome}
+use Rattle.std.specs.Prelude.{ℕ, ◌≡◌, ◌≤◌, ◌<◌, ◌^◌, ◌-◌, Bool, ◌&&◌, ◌||◌, true, false, not, is_some, List, [], length, take, drop, nat_le, Option, Some, None, if◌then◌else◌, option_and_then, option_map, codes, string_bytes, IfSome}
 use Rattle.std.specs.Str.{bytes_eq}
 use Rattle.clap.specs.Words.{Row, Text, all_of, first_of}
 use Rattle.aoe_base.specs.Decimal.{number_of}
@@ -18,6 +18,8 @@ use Rattle.aoe_args.specs.declared.command.Cfg.{Cfg as Cfgs}
 use Rattle.aoe_args.specs.declared.command.Discover.{Discover as Discovers}
 use Rattle.aoe_args.specs.declared.command.Flush.{Flush as Flushes}
 use Rattle.aoe_args.specs.declared.command.Get.{Get as Gets}
+use Rattle.aoe_args.specs.declared.command.InputFile.{InputFile}
+use Rattle.aoe_args.specs.declared.files.Part.{Part}
 use Rattle.aoe_args.specs.declared.command.Put.{Put as Puts}
 use Rattle.aoe_args.specs.declared.command.Nbd.{Nbd as Nbds}
 use Rattle.aoe_args.specs.declared.command.Mask.{Mask as Masks}
@@ -98,9 +100,11 @@ abbrev pub edit_of : Text → Option (List Text) → Option (Option (ArrayVec Di
 edit_of action None = if bytes_eq action (codes "read") then Some None else None
 edit_of action (Some words) = if bytes_eq action (codes "edit") then option_map (λ dirs. Some (record { items = dirs })) (listed dir_of words) else None
 
+-- --anyway speaks of an edit
 unfoldable pub mask_of : List Row → Option Masks
 mask_of rows =
-    option_and_then (λ asking. option_and_then (λ id. option_map (λ dirs. record { asking = asking; id = id; dirs = dirs })
+    option_and_then (λ asking. option_and_then (λ id. option_map (λ dirs.
+    record { asking = asking; id = id; dirs = dirs; anyway = is_set (codes "anyway") rows })
     (given (codes "action") (λ action. edit_of action (all_of (codes "dirs") rows)) rows)) (device rows)) (asking_of tool_port 50 rows)
 
 -- ---- reserve DEV ACTION [MAC ..]
@@ -149,25 +153,53 @@ abbrev pub sector : List Row → Option ℕ
 sector = given (codes "at") (λ text. number_of text (2 ^ 48 - 1))
 
 -- the first one where none is given
-abbrev pub first_sector : List Row → Option ℕ
-first_sector = given_or (codes "at") (λ text. number_of text (2 ^ 48 - 1)) 0
+abbrev pub sector_or_first : Text → List Row → Option ℕ
+sector_or_first id = given_or id (λ text. number_of text (2 ^ 48 - 1)) 0
 
 -- COUNT, where it is given: as many sectors at most as have numbers of 48 bits
-abbrev pub sector_count : List Row → Option (Option ℕ)
-sector_count = given_or (codes "count") (λ text. option_map Some (number_within 1 (2 ^ 48) text)) None
+abbrev pub sector_count : Text → List Row → Option (Option ℕ)
+sector_count id = given_or id (λ text. option_map Some (number_within 1 (2 ^ 48) text)) None
 
 -- they listen for 5000 turns where nothing is said of it
 unfoldable pub get_of : List Row → Option Gets
 get_of rows =
     option_and_then (λ asking. option_and_then (λ id. option_and_then (λ at. option_and_then (λ count. option_map (λ lifetime.
     record { asking = asking; id = id; at = at; count = count; lifetime = lifetime })
-    (lifetime_of rows)) (sector_count rows)) (first_sector rows)) (device rows)) (asking_of tool_port 5000 rows)
+    (lifetime_of rows)) (sector_count (codes "length") rows)) (sector_or_first (codes "at") rows)) (device rows)) (asking_of tool_port 5000 rows)
+
+-- --output FILE of get: the file that is written
+abbrev pub output : List Row → Option Text
+output = first_of (codes "output")
+
+-- --skip SECTORS and --count SECTORS of put speak of the file that --input names, and of nothing else
+abbrev pub has_part : List Row → Bool
+has_part rows = is_some (first_of (codes "skip") rows) || is_some (first_of (codes "count") rows)
+
+abbrev pub part_from : Option Text → Bool → ℕ → Option ℕ → Option (Option (Text × ℕ × Option ℕ))
+part_from (Some name) parted skip count = Some (Some (name, skip, count))
+part_from None parted skip count = if parted then None else Some None
+
+-- the part of a file that put reads, or none of any file, or nothing: so many sectors are left out before it, none where nothing is said of it, and it has so many, or all that follow
+unfoldable pub part_of : List Row → Option (Option (Text × ℕ × Option ℕ))
+part_of rows =
+    option_and_then (λ skip. option_and_then (λ count. part_from (first_of (codes "input") rows) (has_part rows) skip count)
+    (sector_count (codes "count") rows)) (sector_or_first (codes "skip") rows)
+
+-- as it is read, and as the command line has it
+abbrev pub part_text : Part → Text × ℕ × Option ℕ
+part_text part = (part.name.now, part.skip, part.count)
+
+abbrev pub part_words : InputFile → Text × ℕ × Option ℕ
+part_words part = (string_bytes part.name, part.skip, part.count)
+
+abbrev pub input : List Row → Option (Text × ℕ × Option ℕ)
+input rows = option_and_then (λ part. part) (part_of rows)
 
 unfoldable pub put_of : List Row → Option Puts
 put_of rows =
-    option_and_then (λ asking. option_and_then (λ id. option_and_then (λ at. option_map (λ lifetime.
+    option_and_then (λ part. option_and_then (λ asking. option_and_then (λ id. option_and_then (λ at. option_map (λ lifetime.
     record { asking = asking; id = id; at = at; lifetime = lifetime; verify = is_set (codes "verify") rows; no_flush = is_set (codes "no-flush") rows })
-    (lifetime_of rows)) (sector rows)) (device rows)) (asking_of tool_port 5000 rows)
+    (lifetime_of rows)) (sector rows)) (device rows)) (asking_of tool_port 5000 rows)) (part_of rows)
 
 -- ---- nbd DEV
 
@@ -240,6 +272,11 @@ pub record CanPut (put : Puts) : Type 0 where
   pub device : IsDevice put.id
   pub at : put.at < 2 ^ 48
   pub lifetime : (1 ≤ put.lifetime) × (put.lifetime ≤ longest_lifetime)
+
+-- the part of a file begins at a sector of 48 bits, and has a sector
+pub record IsPart (skip : ℕ) (count : Option ℕ) : Type 0 where
+  pub first : skip < 2 ^ 48
+  pub some : IfSome count (λ count. (1 ≤ count) × (count ≤ 2 ^ 48))
 
 -- what has room in the address of a socket
 pub record IsSocketPath (path : Text) : Type 0 where

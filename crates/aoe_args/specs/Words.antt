@@ -19,7 +19,7 @@ use Rattle.aoe_base.specs.Sizes.{most_cached, most_simulated}
 use Rattle.aoe_args.specs.Apps.{aoe_app}
 use Rattle.aoe_args.specs.Values.{default_port, given, given_or, idle_of, is_set, link, number_within, port_of, ports_of, two_ends}
 use Rattle.aoe_args.specs.Switching.{CanSwitch, kinds_of}
-use Rattle.aoe_args.specs.Tools.{CanAsk, CanCfg, CanMask, CanReserve, CanFlush, CanGet, CanNbd, CanPut, IsSocketPath, discover_of, stat_of, cfg_of, mask_of, reserve_of, flush_of, get_of, nbd_of, put_of, socket_path}
+use Rattle.aoe_args.specs.Tools.{CanAsk, CanCfg, CanMask, CanReserve, CanFlush, CanGet, CanNbd, CanPut, IsSocketPath, discover_of, stat_of, cfg_of, mask_of, reserve_of, flush_of, get_of, input, nbd_of, output, put_of, socket_path}
 use Rattle.aoe_args.specs.declared.command.Alone.{Alone as Alones}
 use Rattle.aoe_args.specs.declared.command.Answer.{Answer as Answers}
 use Rattle.aoe_args.specs.declared.command.Serve.{Serve as Serves}
@@ -29,7 +29,7 @@ use Rattle.aoe_args.specs.declared.command.Soak.{Soak as Soaks}
 use Rattle.aoe_args.specs.declared.command.Live.{Live as Lives}
 use Rattle.aoe_args.specs.declared.command.Switch.{Switch as Switches}
 use Rattle.aoe_args.specs.declared.command.KeepAction.{KeepAction}
-use Rattle.aoe_args.specs.declared.command.KeepAction.TheVariants.{Show, Upgrade, Lock, Unlock, ClearConfig, ClearMasks, ClearReserves}
+use Rattle.aoe_args.specs.declared.command.KeepAction.TheVariants.{Show, Upgrade, Lock, Unlock, Create, ClearConfig, ClearMasks, ClearReserves}
 use Rattle.aoe_args.specs.declared.command.PortWords.{PortWords}
 use Rattle.aoe_args.specs.declared.command.Command.{Command}
 use Rattle.aoe_args.specs.declared.command.Command.TheVariants.{Answer, Serve, Mirror, Compare, Audit, Replay, Soak, Live, Switch, Ask, Get, Put, Nbd, Keep}
@@ -259,14 +259,14 @@ audit_of rows =
 unfoldable pub soak_of : List Row → Option Soaks
 soak_of rows =
     option_and_then (λ seed. option_map (λ count. record { seed = seed; count = count })
-    (given (codes "count") (number_within 1 16000) rows)) (given (codes "seed") (λ text. number_of text 65535) rows)
+    (given (codes "commands") (number_within 1 16000) rows)) (given (codes "seed") (λ text. number_of text 65535) rows)
 
 -- live SECTORS N
 unfoldable pub live_of : List Row → Option Lives
 live_of rows =
     option_and_then (λ ends. option_and_then (λ sectors. option_and_then (λ count. option_map (λ turns.
     record { sectors = sectors; count = count; turns = turns })
-    (given_or (codes "turns") (number_within 1 1000000) 5000 rows)) (given (codes "count") (number_within 1 10000) rows))
+    (given_or (codes "turns") (number_within 1 1000000) 5000 rows)) (given (codes "commands") (number_within 1 10000) rows))
     (given (codes "sectors") (number_within 1 most_simulated) rows)) (two_ends rows)
 
 -- switch PORT PORT ..
@@ -289,6 +289,7 @@ plain_action action =
     else if bytes_eq action (codes "upgrade") then Some Upgrade
     else if bytes_eq action (codes "lock") then Some Lock
     else if bytes_eq action (codes "unlock") then Some Unlock
+    else if bytes_eq action (codes "create") then Some Create
     else None
 
 -- of both
@@ -427,6 +428,46 @@ stop_in (Keep action) rows = None
 abbrev pub stop_name : List Text → Option Text
 stop_name words = option_and_then (λ p. stop_in p.0 p.1) (spelled words)
 
+-- the file that it writes in place of standard output, where one is named
+abbrev pub output_in : Command → List Row → Option Text
+output_in (Answer answer) rows = None
+output_in (Serve serve) rows = None
+output_in (Mirror asked) rows = None
+output_in Compare rows = None
+output_in (Audit audit) rows = None
+output_in Replay rows = None
+output_in (Soak soak) rows = None
+output_in (Live live) rows = None
+output_in (Switch asked) rows = None
+output_in (Ask tool) rows = None
+output_in (Get get) rows = output rows
+output_in (Put put) rows = None
+output_in (Nbd nbd) rows = None
+output_in (Keep action) rows = None
+
+abbrev pub output_name : List Text → Option Text
+output_name words = option_and_then (λ p. output_in p.0 p.1) (spelled words)
+
+-- the part of a file that it reads in place of standard input, where one is named
+abbrev pub input_in : Command → List Row → Option (Text × ℕ × Option ℕ)
+input_in (Answer answer) rows = None
+input_in (Serve serve) rows = None
+input_in (Mirror asked) rows = None
+input_in Compare rows = None
+input_in (Audit audit) rows = None
+input_in Replay rows = None
+input_in (Soak soak) rows = None
+input_in (Live live) rows = None
+input_in (Switch asked) rows = None
+input_in (Ask tool) rows = None
+input_in (Get get) rows = None
+input_in (Put put) rows = input rows
+input_in (Nbd nbd) rows = None
+input_in (Keep action) rows = None
+
+abbrev pub input_part : List Text → Option (Text × ℕ × Option ℕ)
+input_part words = option_and_then (λ p. input_in p.0 p.1) (spelled words)
+
 -- how far it has come is told where standard error is no terminal, too
 abbrev pub is_told_in : Command → List Row → Bool
 is_told_in (Answer answer) rows = false
@@ -555,6 +596,8 @@ pub record CanMirror (mirror : Mirrors) : Type 0 where
   pub port : is_individual mirror.port ≡ true
   pub mtu : (1500 ≤ mirror.mtu) × (mirror.mtu ≤ 9000)
   pub idle : IfSome mirror.idle (λ turns. (1 ≤ turns) × (turns ≤ 1000000))
+  -- no quiet turns end it but those of a link
+  pub over_link : mirror.is_served ≡ false → mirror.idle ≡ None
 
 -- what `audit` asks for is possible
 pub record CanAudit (audit : Audits) : Type 0 where

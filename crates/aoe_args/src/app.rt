@@ -67,8 +67,8 @@ const MACS: Argument = ("macs", AllowedSeveral);
 /// The first sector.
 const AT: Argument = ("at", Needed);
 
-/// How many sectors or commands.
-const COUNT: Argument = ("count", Needed);
+/// How many commands.
+const COMMANDS: Argument = ("commands", Needed);
 
 /// The own end of a link.
 const LOCAL: Argument = ("local", Optional);
@@ -174,12 +174,12 @@ pub(crate) static FORMS: [Form; 19] = [
         ],
     ),
     ("replay", &[]),
-    ("soak", &[("seed", Needed), COUNT]),
+    ("soak", &[("seed", Needed), COMMANDS]),
     (
         "live",
         &[
             ("sectors", Needed),
-            COUNT,
+            COMMANDS,
             ("one", Optional),
             ("two", Optional),
             VXLAN,
@@ -203,7 +203,18 @@ pub(crate) static FORMS: [Form; 19] = [
     ),
     (
         "mask",
-        &[DEV, ACTION, DIRS, LOCAL, PEERS, VXLAN, TAP, PORT, TURNS],
+        &[
+            DEV,
+            ACTION,
+            DIRS,
+            LOCAL,
+            PEERS,
+            VXLAN,
+            TAP,
+            PORT,
+            TURNS,
+            ("anyway", Flag),
+        ],
     ),
     (
         "reserve",
@@ -218,7 +229,7 @@ pub(crate) static FORMS: [Form; 19] = [
         &[
             DEV,
             ("at", Allowed),
-            ("count", Allowed),
+            ("length", Allowed),
             LOCAL,
             PEERS,
             VXLAN,
@@ -226,6 +237,7 @@ pub(crate) static FORMS: [Form; 19] = [
             PORT,
             TURNS,
             LIFETIME,
+            ("output", Optional),
             PROGRESS,
         ],
     ),
@@ -241,6 +253,9 @@ pub(crate) static FORMS: [Form; 19] = [
             PORT,
             TURNS,
             LIFETIME,
+            ("input", Optional),
+            ("skip", Optional),
+            ("count", Optional),
             ("verify", Flag),
             NO_FLUSH,
             PROGRESS,

@@ -147,6 +147,9 @@ pub enum KeepAction {
     /// To clear that mark.
     Unlock,
 
+    /// To write a body with empty lists and no mark over whatever it holds.
+    Create,
+
     /// To empty the config string.
     ClearConfig,
 
@@ -210,6 +213,9 @@ pub struct Mask {
 
     /// The directives of an edit, 1 to 64; a read has none.
     pub dirs: Option<ArrayVec<Dir, MAX_DIRS>>,
+
+    /// Whether an edit is sent that shuts its own station out, or adds a group's address.
+    pub anyway: bool,
 }
 
 /// What `reserve DEV ACTION MACS` asks for: to read or set a device's reserve list.
@@ -239,8 +245,8 @@ pub struct Flush {
     pub lifetime: u32,
 }
 
-/// What `get DEV AT COUNT` asks for: to read sectors of a device, and to write each out as soon as all
-/// before it are there.
+/// What `get DEV AT COUNT` asks for: to read sectors of a device, and to write each out, to the sink or to
+/// the file that the command line names, as soon as all before it are there.
 #[derive(Clone, Copy, PartialEq, Eq)]
 pub struct Get {
     pub asking: Asking,
@@ -258,7 +264,8 @@ pub struct Get {
     pub lifetime: u32,
 }
 
-/// What `put DEV AT` asks for: to write the sectors of the source to a device.
+/// What `put DEV AT` asks for: to write the sectors of the source to a device, or those of the part of a
+/// file that the command line names.
 #[derive(Clone, Copy, PartialEq, Eq)]
 pub struct Put {
     pub asking: Asking,
@@ -367,6 +374,19 @@ pub struct Alone {
     pub side: u8,
 }
 
+/// The part of a file that `put` reads in place of the source.
+#[derive(Drop)]
+pub struct InputFile {
+    /// The file's name.
+    pub name: String,
+
+    /// How many of its sectors are left out before the first that is read.
+    pub skip: u64,
+
+    /// How many sectors are read; all that follow where there is no number.
+    pub count: Option<u64>,
+}
+
 /// What a command line spells: a command, and what a program opens, looks for and says for it.
 #[derive(Drop)]
 pub struct CommandLine {
@@ -388,6 +408,14 @@ pub struct CommandLine {
     /// The name of the file whose coming ends the run: what `--stop` of `serve`, `mirror` or `nbd` gives,
     /// where it stands.
     pub stop: Option<String>,
+
+    /// The name of the file that is written in place of standard output: what `--output` of `get` gives,
+    /// where it stands.
+    pub output: Option<String>,
+
+    /// The part of a file that is read in place of standard input: what `--input`, `--skip` and `--count`
+    /// of `put` give, where they stand.
+    pub input: Option<InputFile>,
 
     /// Whether it is told how far a copy has come where standard error is no terminal, too: `--progress`
     /// of `get` and `put`.

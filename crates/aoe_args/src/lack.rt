@@ -182,6 +182,10 @@ fn alone(words: &[String]) -> Option<(&'static str, &'static str)>
         ("one-tap", "two-tap")
     } else if is_alone(words, "two-tap", "one-tap") {
         ("two-tap", "one-tap")
+    } else if is_alone(words, "skip", "input") {
+        ("skip", "input")
+    } else if is_alone(words, "count", "input") {
+        ("count", "input")
     } else {
         return None;
     };

@@ -2,7 +2,8 @@
 //!
 //! [`read_words`] returns the [`CommandLine`] that the arguments spell: the [`Command`], the files and links
 //! that a program has to open for it, in the order in which they are named, the socket at which it
-//! listens, the file whose coming ends the run, and whether the program tells how far it has come.
+//! listens, the files that a copy has in place of the standard streams, the file whose coming ends the
+//! run, and whether the program tells how far it has come.
 //!
 //! The first argument is the command. An argument that begins with a hyphen is an option of it,
 //! `--name value` or `--name=value`; options may be anywhere after the command. Which argument
@@ -19,9 +20,9 @@
 //!
 //! Promised: unless memory is short, `read_words` returns the command that the arguments spell by
 //! `command`, and none exactly where they spell none; with it files (`file_names`), links (`port_words`),
-//! socket (`socket_name`), stop file (`stop_name`), `is_told`, the side of a mirror that is there
-//! (`alone_of`) and `leads_other`. Numbers are in their ranges (`IsInRange`), and the path of a socket has
-//! 1 to 107 bytes (`IsSocketPath`). `slip_of` returns none exactly for a command; else the argument that it
+//! socket (`socket_name`), stop file (`stop_name`), files of a copy (`output_name`, `input_part`),
+//! `is_told`, the side of a mirror that is there (`alone_of`) and `leads_other`. Numbers are in their
+//! ranges (`IsInRange`, `IsPart`), and the path of a socket has 1 to 107 bytes (`IsSocketPath`). `slip_of` returns none exactly for a command; else the argument that it
 //! names is there, and its reason holds of it or of all (`IsSlip`): an option is the command's or isn't
 //! (`option_at`), a text isn't what its argument has to be (`IsUnfit`), what is missing is missing
 //! (`IsLacking`, `follower`, `IsAlone`, `IsUnlinked`, `IsUnset`), two options exclude each other
@@ -37,6 +38,7 @@
 mod app;
 mod bounds;
 mod command;
+mod files;
 mod lack;
 mod law;
 mod link;
@@ -53,8 +55,9 @@ mod values;
 mod word;
 
 pub use command::{
-    Alone, Answer, Asking, Audit, Cfg, Command, CommandLine, Discover, Flush, Get, KeepAction,
-    Live, Mask, Mirror, Nbd, PortKinds, PortWords, Put, Reserve, Serve, Soak, Stat, Switch, Tool,
+    Alone, Answer, Asking, Audit, Cfg, Command, CommandLine, Discover, Flush, Get, InputFile,
+    KeepAction, Live, Mask, Mirror, Nbd, PortKinds, PortWords, Put, Reserve, Serve, Soak, Stat,
+    Switch, Tool,
 };
 pub use law::plain_words_law;
 pub use nearest::meant;

@@ -3,15 +3,16 @@ ghost use Rattle.std.specs.Prelude.{◌≡◌, ◌≢◌, ◌≤◌, length, fal
 ghost use Rattle.std.specs.List.{list_all, list_any};
 ghost use Rattle.clap.specs.Values.{kind_of};
 ghost use Rattle.clap.specs.Words.{found_of, rows_of};
-ghost use Rattle.aoe_args.specs.Words.{CanRun, CanServe, Fits, IsFoundIn, IsInRange, alone_in, alone_of, alone_words, answer_of, are_words, asked_of, audit_of, command, command_of, file_count, file_names, files_of, holds_back_durably, is_durable, is_hyphen, is_mirror, is_told, is_told_in, is_word, clear_action, plain_action, keep_name, keep_of, leads_other, leads_other_in, link_count, links_of, list_tool_of, listens, live_of, parsed, port_words, run_of, serve_of, serve_with, soak_of, socket_in, socket_name, stop_in, stop_name, switch_of, tool_of};
+ghost use Rattle.aoe_args.specs.Words.{CanRun, CanServe, Fits, IsFoundIn, IsInRange, alone_in, alone_of, alone_words, answer_of, are_words, asked_of, audit_of, command, command_of, file_count, file_names, files_of, holds_back_durably, input_in, input_part, is_durable, is_hyphen, is_mirror, is_told, is_told_in, is_word, clear_action, plain_action, keep_name, keep_of, leads_other, leads_other_in, link_count, links_of, list_tool_of, listens, live_of, output_in, output_name, parsed, port_words, run_of, serve_of, serve_with, soak_of, socket_in, socket_name, stop_in, stop_name, switch_of, tool_of};
 ghost use Rattle.aoe_args.specs.Values.{idle_of, link};
-ghost use Rattle.aoe_args.specs.Tools.{IsSocketPath};
+ghost use Rattle.aoe_args.specs.Tools.{IsPart, IsSocketPath, part_words};
 
 use crate::app::matches;
 use crate::bounds::{
     CACHE, FRAMES, LAST_SEED, LIVE_COMMANDS, LIVE_SECTORS, MOST_CAPTURED_SECTORS, MTU,
     SOAK_COMMANDS, TURNS,
 };
+use crate::files::input_file;
 use crate::link::{all_links, link, two_ends};
 use crate::mirror::{alone_command, compared, mirror_alone, mirror_files, mirrored_of, side_of};
 use crate::switch::read_kinds;
@@ -25,8 +26,8 @@ use crate::values::{
 };
 use crate::word::{is_hyphen, is_word};
 use crate::{
-    Alone, Answer, Audit, Command, CommandLine, KeepAction, Live, PortWords, Serve, Soak, Switch,
-    Tool,
+    Alone, Answer, Audit, Command, CommandLine, InputFile, KeepAction, Live, PortWords, Serve,
+    Soak, Switch, Tool,
 };
 use aoe_base::{LAST_MAJOR, LAST_MINOR, NoMemory, TargetId};
 use clap::ArgMatches;
@@ -228,7 +229,7 @@ fn soak_of(found: &ArgMatches) -> Option<Command>
 {
     Some(Command::Soak(Soak {
         seed: number(found, "seed", LAST_SEED)? as u16,
-        count: number_from(found, "count", SOAK_COMMANDS)?,
+        count: number_from(found, "commands", SOAK_COMMANDS)?,
     }))
 }
 
@@ -252,7 +253,7 @@ fn live_of(found: &ArgMatches) -> Option<Command>
     let _ends = two_ends(found)?;
     Some(Command::Live(Live {
         sectors: number_from(found, "sectors", LIVE_SECTORS)?,
-        count: number_from(found, "count", LIVE_COMMANDS)?,
+        count: number_from(found, "commands", LIVE_COMMANDS)?,
         turns: number_or(found, "turns", TURNS, LIVE_TURNS)?,
     }))
 }
@@ -278,6 +279,7 @@ fn plain_action(action: &str) -> Option<KeepAction>
         "upgrade" => Some(KeepAction::Upgrade),
         "lock" => Some(KeepAction::Lock),
         "unlock" => Some(KeepAction::Unlock),
+        "create" => Some(KeepAction::Create),
         _ => None,
     }
 }
@@ -444,7 +446,7 @@ fn links_of(
 }
 
 /// A copy of a text that needn't be there.
-fn copy(alloc: Global, text: Option<&str>) -> Result<Option<String>, NoMemory>
+pub(crate) fn copy(alloc: Global, text: Option<&str>) -> Result<Option<String>, NoMemory>
     ensures { IfOk result (λ copy. option_map string_bytes copy
         ≡ option_map (λ text. text.now) text.entry) }
 {
@@ -479,6 +481,37 @@ fn stop_of(alloc: Global, command: &Command, found: &ArgMatches) -> Result<Optio
             alloc,
             text(found, "stop"),
         ),
+        _ => Ok(None),
+    }
+}
+
+/// The name of the file that a command writes in place of standard output.
+fn output_of(
+    alloc: Global,
+    command: &Command,
+    found: &ArgMatches,
+) -> Result<Option<String>, NoMemory>
+    ensures { IfOk result (λ name. option_map string_bytes name
+        ≡ output_in command.now (rows_of (found_of found.now))) }
+{
+    match command {
+        Command::Get(_) => copy(alloc, text(found, "output")),
+        _ => Ok(None),
+    }
+}
+
+/// The part of a file that a command reads in place of standard input.
+fn input_of(
+    alloc: Global,
+    command: &Command,
+    found: &ArgMatches,
+) -> Result<Option<InputFile>, NoMemory>
+    ensures value { IfOk result (λ file. option_map part_words file
+        ≡ input_in command.now (rows_of (found_of found.now))) }
+    ensures part { IfOk result (λ file. IfSome file (λ f. IsPart f.skip f.count)) }
+{
+    match command {
+        Command::Put(_) => input_file(alloc, found),
         _ => Ok(None),
     }
 }
@@ -537,6 +570,12 @@ pub fn read_words(alloc: Global, words: &[String]) -> Result<Option<CommandLine>
         (λ path. IsSocketPath (string_bytes path)))) }
     ensures stop { IfOk result (λ r. IfSome r (λ line. option_map string_bytes line.stop
         ≡ stop_name (map string_bytes words.now))) }
+    ensures output { IfOk result (λ r. IfSome r (λ line. option_map string_bytes line.output
+        ≡ output_name (map string_bytes words.now))) }
+    ensures input { IfOk result (λ r. IfSome r (λ line. option_map part_words line.input
+        ≡ input_part (map string_bytes words.now))) }
+    ensures part { IfOk result (λ r. IfSome r (λ line. IfSome line.input
+        (λ file. IsPart file.skip file.count))) }
     ensures told { IfOk result (λ r. IfSome r (λ line. line.is_told
         ≡ is_told (map string_bytes words.now))) }
     ensures alone { IfOk result (λ r. IfSome r (λ line. option_map alone_words line.alone
@@ -557,6 +596,8 @@ pub fn read_words(alloc: Global, words: &[String]) -> Result<Option<CommandLine>
         links: links_of(alloc, &command, &found)?,
         socket: socket_of(alloc, &command, &found)?,
         stop: stop_of(alloc, &command, &found)?,
+        output: output_of(alloc, &command, &found)?,
+        input: input_of(alloc, &command, &found)?,
         is_told: is_told_in(&command, &found),
         alone: alone_of(alloc, &command, &found)?,
         lead_other: leads_other_in(&command, &found),

@@ -3,7 +3,7 @@ ghost use Rattle.std.specs.Prelude.{◌≡◌, ◌<◌, ◌≤◌, ◌+◌, ◌&
 ghost use Rattle.std.specs.List.{list_all, list_any};
 ghost use Rattle.std.specs.Str.{bytes_eq};
 ghost use Rattle.aoe_args.specs.Apps.{argument as told, form as told_form};
-ghost use Rattle.aoe_args.specs.Places.{argument_at, argument_behind, awaits, form_by, form_named, is_check, is_flag, is_given, is_gone_file, is_option, option_at, option_named, takes_several, word_at};
+ghost use Rattle.aoe_args.specs.Places.{argument_at, argument_behind, awaits, form_by, form_named, is_check, is_flag, is_given, is_gone_file, is_option, is_second_file, option_at, option_named, takes_several, word_at};
 ghost use Rattle.aoe_args.specs.Slips.{AreRight, IsFit, IsMisfit, IsRight, IsSlip, IsSlipIn, IsUnusable, actions_of, is_action, is_command_name, is_list, number_wanted, text_in, wanted};
 ghost use Rattle.aoe_args.specs.Walks.{IsWalked};
 ghost use Rattle.aoe_args.specs.Values.{number_within};
@@ -41,7 +41,7 @@ pub enum Actions {
     #[error("read, set, force, release")]
     Reserve,
 
-    #[error("show, upgrade, lock, unlock, clear")]
+    #[error("show, upgrade, lock, unlock, create, clear")]
     Keep,
 }
 
@@ -96,6 +96,9 @@ pub enum Wrong {
 
     #[error("only hyphens")]
     Hyphens,
+
+    #[error("one FILE of a mirror has to be there")]
+    BothGone,
 
     /// What stands behind the `=` of an option is empty or begins with a hyphen.
     #[error("no value behind its =")]
@@ -163,7 +166,8 @@ pub(crate) fn title<'a>(name: &&'a str) -> &'a str {
         "keep" => "KEEP",
         "seed" => "SEED",
         "sectors" => "SECTORS",
-        "count" => "COUNT",
+        "commands" => "N",
+        "length" => "COUNT",
         "dev" => "DEV",
         "action" => "ACTION",
         "list" => "LIST",
@@ -188,6 +192,9 @@ pub(crate) fn title<'a>(name: &&'a str) -> &'a str {
         "two-tap" => "--two-tap",
         "cache" => "--cache",
         "durable" => "--durable",
+        "input" => "--input",
+        "skip" => "--skip",
+        "count" => "--count",
         _ => name,
     }
 }
@@ -250,8 +257,10 @@ fn number_wanted(command: &str, name: &str) -> Option<Wanted>
         "sectors" if command == "audit" => (0, MOST_CAPTURED_SECTORS),
         "sectors" => LIVE_SECTORS.ends(),
         "at" => (0, LAST_SECTOR),
-        "count" if command == "soak" => SOAK_COMMANDS.ends(),
-        "count" if command == "live" => LIVE_COMMANDS.ends(),
+        "commands" if command == "soak" => SOAK_COMMANDS.ends(),
+        "commands" => LIVE_COMMANDS.ends(),
+        "length" => (1, MOST_GET_SECTORS),
+        "skip" => (0, LAST_SECTOR),
         "count" => (1, MOST_GET_SECTORS),
         _ => return None,
     };
@@ -295,6 +304,7 @@ fn is_action(actions: Actions, text: &[u8]) -> bool
                 || text == b"upgrade".as_slice()
                 || text == b"lock".as_slice()
                 || text == b"unlock".as_slice()
+                || text == b"create".as_slice()
                 || text == b"clear".as_slice()
         }
     }
@@ -594,16 +604,31 @@ fn is_gone_file(form: Form, words: &[String], place: usize, walked: Walked) -> b
     }
 }
 
+/// Whether the word at this place goes to the second file of a mirror.
+fn is_second_file(form: Form, words: &[String], place: usize, walked: Walked) -> bool
+    requires place { (1 ≤ place) × (place < length words.now) }
+    requires walked { IsWalked (told_form form) (map string_bytes words.now) place walked }
+    ensures { result ≡ is_second_file (told_form form.entry) (map string_bytes words.now) place }
+{
+    match walked.awaited {
+        Some(_) => false,
+        None => form.0 == "mirror" && walked.before == 3,
+    }
+}
+
 /// What is wrong with the word at this place where it is one hyphen.
 fn hyphen_slip(form: Form, words: &[String], place: usize, walked: Walked) -> Option<Slip>
     requires place { (1 ≤ place) × (place < length words.now) }
     requires walked { IsWalked (told_form form) (map string_bytes words.now) place walked }
     ensures { IfSome result (IsSlipIn (told_form form.entry) (map string_bytes words.now)) }
 {
-    if is_hyphen(word_at(words, place)) && !is_gone_file(form, words, place, walked) {
-        Some(at(place, Wrong::Hyphens))
+    if !is_hyphen(word_at(words, place)) || is_gone_file(form, words, place, walked) {
+        return None;
+    }
+    if is_second_file(form, words, place, walked) {
+        Some(at(place, Wrong::BothGone))
     } else {
-        None
+        Some(at(place, Wrong::Hyphens))
     }
 }
 

@@ -3,11 +3,12 @@ ghost use Rattle.std.specs.Prelude.{◌≡◌, ◌≤◌, ◌<◌, ◌^◌, opti
 ghost use Rattle.clap.specs.Words.{found_of, rows_of};
 ghost use Rattle.aoe_base.specs.Addresses.{is_individual};
 ghost use Rattle.aoe_base.specs.Sizes.{longest_lifetime};
-ghost use Rattle.aoe_args.specs.Tools.{CanAsk, CanGet, CanNbd, CanPut, IsDevice, IsSocketPath, asking_of, ccmd_alone, ccmd_with_text, cfg_of, device, discover_of, first_sector, flush_of, get_of, is_socket_path, lifetime_of, mask_of, nbd_of, put_of, rcmd_alone, rcmd_with_list, reserve_of, sector, sector_count, socket_path, stat_of};
+ghost use Rattle.aoe_args.specs.Tools.{CanAsk, CanGet, CanNbd, CanPut, IsDevice, IsSocketPath, asking_of, ccmd_alone, ccmd_with_text, cfg_of, device, discover_of, flush_of, get_of, is_socket_path, lifetime_of, mask_of, nbd_of, put_of, rcmd_alone, rcmd_with_list, reserve_of, sector, sector_count, sector_or_first, socket_path, stat_of};
 ghost use Rattle.aoe_args.specs.Values.{link};
 ghost use Rattle.aoe_args.specs.Words.{CanRun};
 
 use crate::bounds::{LAST_SECTOR, LIFETIME, MOST_GET_SECTORS, MOST_PATH, TURNS};
+use crate::files::part_of;
 use crate::link::link;
 use crate::lists::{read_dirs, read_macs, read_text};
 use crate::values::{
@@ -141,7 +142,12 @@ pub(crate) fn mask_of(found: &ArgMatches) -> Option<Tool>
         Some(words) if action == "edit" => Some(read_dirs(words)?),
         _ => return None,
     };
-    Some(Tool::Mask(Mask { asking, id, dirs }))
+    Some(Tool::Mask(Mask {
+        asking,
+        id,
+        dirs,
+        anyway: is_set(found, "anyway"),
+    }))
 }
 
 /// The field RCmd of an action of `reserve` that has no addresses.
@@ -221,23 +227,23 @@ fn sector(found: &ArgMatches) -> Option<u64>
 }
 
 /// The first sector, where one may be named.
-fn first_sector(found: &ArgMatches) -> Option<u64>
-    ensures value { result ≡ first_sector (rows_of (found_of found.now)) }
+pub(crate) fn sector_or_first(found: &ArgMatches, id: &str) -> Option<u64>
+    ensures value { result ≡ sector_or_first id.now (rows_of (found_of found.now)) }
     ensures range { IfSome result (λ at. at < 2 ^ 48) }
 {
-    match text(found, "at") {
+    match text(found, id) {
         Some(text) => read_number(text.as_bytes(), LAST_SECTOR),
         None => Some(0),
     }
 }
 
 /// How many sectors, where a number is named.
-fn sector_count(found: &ArgMatches) -> Option<Option<u64>>
-    ensures value { result ≡ sector_count (rows_of (found_of found.now)) }
+pub(crate) fn sector_count(found: &ArgMatches, id: &str) -> Option<Option<u64>>
+    ensures value { result ≡ sector_count id.now (rows_of (found_of found.now)) }
     ensures range { IfSome result
         (λ number. IfSome number (λ n. (1 ≤ n) × (n ≤ 2 ^ 48))) }
 {
-    let Some(text) = text(found, "count") else {
+    let Some(text) = text(found, id) else {
         return Some(None);
     };
     match read_number(text.as_bytes(), MOST_GET_SECTORS) {
@@ -256,8 +262,8 @@ pub(crate) fn get_of(found: &ArgMatches) -> Option<Get>
     Some(Get {
         asking: asking_of(found, TOOL_PORT, SECTOR_TURNS)?,
         id: device_of(found)?,
-        at: first_sector(found)?,
-        count: sector_count(found)?,
+        at: sector_or_first(found, "at")?,
+        count: sector_count(found, "length")?,
         lifetime: lifetime_of(found)?,
     })
 }
@@ -269,6 +275,7 @@ pub(crate) fn put_of(found: &ArgMatches) -> Option<Put>
     ensures range { IfSome result CanPut }
     ensures link { IfSome result (λ put. IsSome (link (rows_of (found_of found.now)))) }
 {
+    let _part = part_of(found)?;
     Some(Put {
         asking: asking_of(found, TOOL_PORT, SECTOR_TURNS)?,
         id: device_of(found)?,

@@ -9,6 +9,7 @@ use Rattle.aoe_base.specs.declared.counted.PathNo.{PathNo}
 use Rattle.aoe_base.specs.declared.counted.Ticket.{Ticket}
 use Rattle.aoe_base.specs.Sizes.{most_room}
 use Rattle.aoe_flight.specs.Outstanding.{is_expired}
+use Rattle.aoe_initiator.specs.declared.op.FlushCommand.{FlushCommand}
 use Rattle.aoe_initiator.specs.declared.outcome.Done.{Done}
 use Rattle.aoe_initiator.specs.declared.outcome.Outcome.{Outcome}
 use Rattle.aoe_initiator.specs.declared.response.Answer.{Answer}
@@ -26,10 +27,10 @@ abbrev pub the_device : DeviceNo
 the_device = record { 0 = 0 }
 
 -- a host with one port and these lifetimes, with the most room, that is attached to a device at one port, and did nothing yet
-abbrev pub host_of : Mac → Lifetimes → TargetId → Mac → ℕ → ℕ → Host
-host_of port life id remote total max =
+abbrev pub host_of : Mac → Lifetimes → TargetId → Mac → ℕ → ℕ → FlushCommand → Host
+host_of port life id remote total max flush =
     with_device (new_host (port ∷ []) life most_room default_dead)
-    (new_device (port ∷ []) id (remote ∷ []) total max life.requests.0)
+    (new_device (port ∷ []) id (remote ∷ []) total max flush life.requests.0)
 
 -- a frame that the host gave to be sent
 pub record Outgoing : Type 0 where

@@ -8,7 +8,7 @@ ghost use Rattle.aoe_block.specs.Turns.{host_of};
 
 use aoe_base::{DeviceNo, Failed, Lifetimes, Mac, NoMemory, Ports, TargetId};
 use aoe_frame::Frame;
-use aoe_initiator::{DEAD, Initiator, MOST_ROOM, Taken};
+use aoe_initiator::{DEAD, FlushCommand, Initiator, MOST_ROOM, Taken};
 use aoe_io::{Got, Link};
 use std::alloc::Global;
 
@@ -25,7 +25,7 @@ fn one_port(port: Mac) -> Ports
 }
 
 /// A host with one port, attached to a device of `total` sectors at the port `remote`, which takes
-/// at most `max` of them in one command.
+/// at most `max` of them in one command and is flushed by `flush`.
 pub fn attach(
     alloc: Global,
     port: Mac,
@@ -34,17 +34,18 @@ pub fn attach(
     remote: Mac,
     total: u64,
     max: u32,
+    flush: FlushCommand,
 ) -> Result<Initiator, NoMemory>
     requires requests { life.requests.0 ≤ longest_lifetime }
     requires responses { life.responses.0 ≤ longest_lifetime }
     requires total { total ≤ 2 ^ 48 }
     requires some { 0 < max }
     requires max { max ≤ 17 }
-    ensures host { IfOk result (λ host. host ≡ host_of port life id remote total max) }
+    ensures host { IfOk result (λ host. host ≡ host_of port life id remote total max flush) }
     ensures matches { IfOk result (λ host. Matches [] host) }
 {
     let mut host = Initiator::new(alloc, &one_port(port), life, MOST_ROOM, DEAD)?;
-    match host.attach(id, &one_port(remote), total, max) {
+    match host.attach(id, &one_port(remote), total, max, flush) {
         Ok(_) => Ok(host),
         Err(_) => Err(NoMemory),
     }

@@ -55,7 +55,7 @@ pub record Runs (result : Result Unit CopyRefusal) (b : Start) (p : Plan) (turns
 
 -- the host of a copy, attached to a device
 abbrev pub host_at : Terms → TargetId → Device → Host
-host_at t id d = host_of t.ask.port t.life id d.port d.total d.max
+host_at t id d = host_of t.ask.port t.life id d.port d.total d.max d.flush
 
 -- what is told of a copy that did nothing
 abbrev pub IsIdle : ReadSeen → ReadSeen → Type 0

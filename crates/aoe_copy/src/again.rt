@@ -384,6 +384,7 @@ fn check_in<S: Source, L: Link, C: Clock, W: Watch>(
         device.port,
         device.total,
         device.max,
+        device.flush,
     ) {
         Ok(host) => host,
         Err(NoMemory) => return Err(CopyRefusal::Tool(ToolRefusal::NoMemory)),

@@ -54,6 +54,7 @@ fn copy_out<L: Link, C: Clock, K: Sink, W: Watch>(
         device.port,
         device.total,
         device.max,
+        device.flush,
     ) {
         Ok(host) => {
             Copying::new(alloc, host, 0, plan).run(terms.ask.turns, sink, link, clock, watch)

@@ -62,6 +62,7 @@ fn copy_in<S: Source, L: Link, C: Clock, W: Watch>(
         device.port,
         device.total,
         device.max,
+        device.flush,
     ) {
         Ok(host) => Putting::new(alloc, host, 0, plan, flush, front).run(
             terms.ask.turns,

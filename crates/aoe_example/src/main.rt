@@ -15,7 +15,7 @@ ghost use Rattle.aoe_base.specs.Addresses.{IsDistinct};
 use aoe_base::{Blob, DeviceNo, Mac, Millis, NoMemory, Ports, Span, TargetId};
 use aoe_disk::MemDisk;
 use aoe_frame::Frame;
-use aoe_initiator::{DEAD, Initiator, LIFETIMES, Op, Outcome, ROOM};
+use aoe_initiator::{DEAD, FlushCommand, Initiator, LIFETIMES, Op, Outcome, ROOM};
 use aoe_keep::Keep;
 use aoe_shelf::Shelf;
 use aoe_store::Direct;
@@ -101,7 +101,9 @@ fn use_device(
 fn first_byte(alloc: Global) -> Option<u8> {
     let mut shelf = shelf_of_one(alloc).ok()?;
     let mut host = Initiator::new(alloc, &one(HOST), LIFETIMES, ROOM, DEAD).ok()?;
-    let device = host.attach(DEVICE, &one(SHELF), 16, 2).ok()?;
+    let device = host
+        .attach(DEVICE, &one(SHELF), 16, 2, FlushCommand::CacheExt)
+        .ok()?;
     use_device(alloc, &mut host, device, &mut shelf)
 }
 

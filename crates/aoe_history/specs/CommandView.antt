@@ -85,7 +85,8 @@ is_active life host h c x = not (was_done host h c && is_gone life.requests.0 (c
 abbrev pub in_conflict : HostSetup → List Entry → ℕ → ℕ → Bool
 in_conflict host h d c = nat_eq (view host h d).device.0 (view host h c).device.0 && conflict (as_entered (view host h d)) (as_entered (view host h c))
 
--- a frame is the request of an operation: with a tag of four bytes, from a port of the host to a port of the device
+-- a frame is the request of an operation: with a tag of four bytes, from a port of the host to a port of the device, a flush by the
+-- device's flush command
 pub record IsRequest (host : HostSetup) (device : DeviceNo) (op : Op) (tag : ℕ) (f : List ℕ) : Type 0 where
   pub about : Attached
   pub there : slice_get host.devices device.0 ≡ Some about
@@ -94,7 +95,7 @@ pub record IsRequest (host : HostSetup) (device : DeviceNo) (op : Op) (tag : ℕ
   pub own : holds host.ports local ≡ true
   pub other : holds about.remotes.items remote ≡ true
   pub fits : tag < 4294967296
-  pub is : f ≡ request op about.id remote local tag
+  pub is : f ≡ request about.flush op about.id remote local tag
 
 -- a frame in the network was sent for a command of the host: it is its request, with the command's tag, and it was sent no later than
 -- the command's last frame

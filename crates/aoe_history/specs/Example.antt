@@ -9,6 +9,7 @@ use Rattle.aoe_ata.specs.Args.{registers}
 use Rattle.aoe_ata.specs.declared.reply.AtaOutcome.{AtaOutcome}
 use Rattle.aoe_initiator.specs.Defaults.{default_life}
 use Rattle.aoe_initiator.specs.declared.device.Attached.{Attached}
+use Rattle.aoe_initiator.specs.declared.op.FlushCommand.TheVariants.{CacheExt}
 use Rattle.aoe_initiator.specs.declared.op.Op.{Op}
 use Rattle.aoe_initiator.specs.Request.{request}
 use Rattle.aoe_target.specs.Mounted.{station_of}
@@ -34,7 +35,7 @@ abbrev pub slot : SlotSetup
 slot = slot_with None
 
 abbrev pub attached_to : List Mac → Attached
-attached_to shelf = record { id = device; remotes = record { items = shelf }; total = 16; max = 2 }
+attached_to shelf = record { id = device; remotes = record { items = shelf }; total = 16; max = 2; flush = CacheExt }
 
 abbrev pub attached : Attached
 attached = attached_to (port 1 ∷ [])
@@ -77,7 +78,7 @@ span at = record { at = at; count = 1 }
 
 -- the frame in which the host with a port asks for an operation, at a port of the shelf and at port 1
 abbrev pub ask_at : ℕ → ℕ → Op → ℕ → List ℕ
-ask_at to n op tag = request op device (port to) (port n) tag
+ask_at to n op tag = request CacheExt op device (port to) (port n) tag
 
 abbrev pub ask : ℕ → Op → ℕ → List ℕ
 ask n op tag = ask_at 1 n op tag

@@ -12,7 +12,7 @@ ghost use Rattle.aoe_base.specs.Addresses.{IsDistinct};
 
 use aoe_base::{DeviceNo, Mac, Millis, Ports, Span, TargetId};
 use aoe_frame::Frame;
-use aoe_initiator::{DEAD, Initiator, LIFETIMES, Op, Outcome, ROOM};
+use aoe_initiator::{DEAD, FlushCommand, Initiator, LIFETIMES, Op, Outcome, ROOM};
 use aoe_io::{Got, Link};
 use aoe_udp::UdpMedium;
 use aoe_wire::WireLink;
@@ -81,7 +81,9 @@ fn first_byte(rt: &HostRuntime) -> Option<u8> {
     let peers = medium.peers();
     let mut link = WireLink::new(medium, peers);
     let mut host = Initiator::new(rt.alloc(), &one(HOST), LIFETIMES, ROOM, DEAD).ok()?;
-    let device = host.attach(DEVICE, &one(SHELF), 16, 2).ok()?;
+    let device = host
+        .attach(DEVICE, &one(SHELF), 16, 2, FlushCommand::CacheExt)
+        .ok()?;
     match ask(
         &mut host,
         device,

@@ -4,8 +4,8 @@ ghost use Rattle.aoe_base.specs.Addresses.{IsDistinct};
 use aoe_base::{DeviceNo, Mac, Millis, PathNo, Ports, Span, TargetId, Ticket};
 use aoe_frame::Frame;
 use aoe_initiator::{
-    AttachRefusal, DEAD, Done, InFlight, Initiator, LIFETIMES, MAX_HELD, Op, Outcome, ROOM, Sent,
-    SubmitRefusal, Taken,
+    AttachRefusal, DEAD, Done, FlushCommand, InFlight, Initiator, LIFETIMES, MAX_HELD, Op, Outcome,
+    ROOM, Sent, SubmitRefusal, Taken,
 };
 use std::alloc::Global;
 use std::test::Fail;
@@ -15,6 +15,9 @@ const A: Mac = Mac([2, 0, 0, 0, 0, 0x0a]);
 const SHELF: Mac = Mac([2, 0, 0, 0, 0, 1]);
 
 const DEVICE: TargetId = TargetId { major: 1, minor: 0 };
+
+/// The command by which the device is flushed.
+const FLUSH: FlushCommand = FlushCommand::CacheExt;
 
 /// What a host calls the device that is attached first.
 const FIRST_DEVICE: DeviceNo = DeviceNo(0);
@@ -60,7 +63,7 @@ fn attached(alloc: Global, remotes: &Ports) -> Result<Initiator, Fail>
     ensures few { IfOk result (λ host. length host.devices < 2) }
 {
     let mut host = Initiator::new(alloc, &one(A), LIFETIMES, ROOM, DEAD)?;
-    match host.attach(DEVICE, remotes, 16, 2) {
+    match host.attach(DEVICE, remotes, 16, 2, FLUSH) {
         Ok(_) => Ok(host),
         Err(_) => Err(Fail::new("the device wasn't attached")),
     }
@@ -152,10 +155,10 @@ fn a_response_ends_its_command_once(rt: HostRuntime) -> Result<(), Fail> {
 #[test]
 fn attachments_are_refused(rt: HostRuntime) -> Result<(), Fail> {
     let mut host = attached(rt.alloc(), &one(SHELF))?;
-    let again = host.attach(DEVICE, &one(SHELF), 16, 2);
+    let again = host.attach(DEVICE, &one(SHELF), 16, 2, FLUSH);
     assert!(rt; again == Err(AttachRefusal::Already));
     let other = TargetId { major: 1, minor: 1 };
-    let nowhere = host.attach(other, &no_port(), 16, 2);
+    let nowhere = host.attach(other, &no_port(), 16, 2, FLUSH);
     assert!(rt; nowhere == Err(AttachRefusal::NoPort));
     Ok(())
 }

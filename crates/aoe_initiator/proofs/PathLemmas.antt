@@ -145,10 +145,10 @@ has-paths host log n d m there = let P : Option Device → Type 0 = λ o. IfSome
 
 pub route-spelled : (host : Host) (op : Op) (n : DeviceNo) (happened : List PathEvent) (d : Device) (missed : Option PathNo) (route : Route) (tag : ℕ)
     (frame : List ℕ) → HasPaths host.ports happened d → slice_get host.devices n.0 ≡ Some d
-    → IsRoute d missed route → frame ≡ request op route.target route.remote route.local tag → spelled_for host op n route.path tag ≡ Some frame
+    → IsRoute d missed route → frame ≡ request route.flush op route.target route.remote route.local tag → spelled_for host op n route.path tag ≡ Some frame
 route-spelled host op n happened d missed route tag frame has there routed bytes =
     let pair : pair_at host.ports d.about.remotes.items route.path.0 ≡ Some (route.local, route.remote) = rw (← has.locals, ← has.remotes) routed.pair in
-    rw (there, pair, bytes, routed.target) refl
+    rw (there, pair, bytes, routed.flush, routed.target) refl
 
 pub route-next : (host : Host) (n : ℕ) (happened : List PathEvent) (d : Device) (sends : Option Sending) (route : Route) → HasPaths host.ports happened d
     → slice_get host.devices n ≡ Some d

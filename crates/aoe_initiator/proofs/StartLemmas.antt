@@ -51,7 +51,7 @@ pub spelled-same : (host new : Host) (op : Op) (device : DeviceNo) (path : PathN
     → spelled_for new op device path tag ≡ spelled_for host op device path tag
 spelled-same host new op device path tag same =
     let frame_for : Attached → Option (List ℕ) =
-    λ about. option_map (λ pair. request op about.id pair.1 pair.0 tag) (pair_at host.ports about.remotes.items path.0) in
+    λ about. option_map (λ pair. request about.flush op about.id pair.1 pair.0 tag) (pair_at host.ports about.remotes.items path.0) in
     rw same.ports (and-then-part (λ (d : Device). d.about) frame_for _ ∙ ap (option_and_then frame_for) (about-slice _ _ device.0 same.devices)
     ∙ sym (and-then-part (λ (d : Device). d.about) frame_for _))
 

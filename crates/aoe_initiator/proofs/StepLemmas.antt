@@ -50,7 +50,7 @@ pub record Goes (old : Host) (at : ℕ) (missed : Option PathNo) (p : Pending) (
   pub routed : IsRoute d missed route
 
 pub launches-from : (old : Host) (t : Ticket) (at tag : ℕ) {p : Pending} {d : Device} {route : Route} (frame : List ℕ) (wait : Millis) (flight : FlightTable)
-    (devices : List Device) → Goes old at None p d route → frame ≡ request p.op route.target route.remote route.local tag
+    (devices : List Device) → Goes old at None p d route → frame ≡ request route.flush p.op route.target route.remote route.local tag
     → devices ≡ change_at p.device.0 (device_sent t (record { 0 = old.clock }) None route.path) old.devices
     → flight ≡ record old.flight { latest = old.clock; last_tag = tag; commands = flight.commands } → length (live_at old.flight old.clock) < old.flight.room
     → wait.0 ≡ wait_of route.timeout.0 1
@@ -74,7 +74,7 @@ launches-from old t at tag {p} {d} {route} frame wait flight devices goes bytes 
 pub repeats-from : (old : Host) (t : Ticket) (at : ℕ) (f : Flying) {p : Pending} {d : Device} {route : Route} (frame : List ℕ) (wait : Millis)
     (flight : FlightTable) (devices : List Device) → place t old.pending ≡ Some at → Goes old at (Some f.path) p d route
     → option_map (λ c. c.flying) (find (flies_as t.0) old.flight.commands) ≡ Some f
-    → frame ≡ request p.op route.target route.remote route.local f.tag → wait.0 ≡ wait_of route.timeout.0 (min f.sends 32 + 1)
+    → frame ≡ request route.flush p.op route.target route.remote route.local f.tag → wait.0 ≡ wait_of route.timeout.0 (min f.sends 32 + 1)
     → flight ≡ after_change old.flight t.0 (after_repeat (record { 0 = old.clock }) route.path wait) old.clock
     → devices ≡ change_at p.device.0 (device_sent t (record { 0 = old.clock }) (Some f.path) route.path) old.devices
     → Repeats old t (record { ticket = t; tag = f.tag; path = route.path; again = true }) frame (record old { flight = flight; devices = devices })

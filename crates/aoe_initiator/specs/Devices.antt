@@ -45,11 +45,13 @@ device_finished ticket came d = record d {
   paths = after_arrival came d.paths;
 }
 
--- the route of a frame is on the next path to the device, from the port at its one end to that at the other
+-- the route of a frame is on the next path to the device, from the port at its one end to that at the other, with its name and its
+-- flush command
 pub record IsRoute (d : Device) (missed : Option PathNo) (route : Route) : Type 0 where
   pub next : route.path.0 ≡ next_path (marks_after missed d.paths.marks) d.paths.chosen
   pub inside : route.path.0 < path_count d.paths
   pub target : route.target ≡ d.about.id
+  pub flush : route.flush ≡ d.about.flush
   pub pair : pair_of d.paths route.path.0 ≡ Some (route.local, route.remote)
   pub timeout : route.timeout.0 ≡ timeout_of (trips_of d.paths route.path.0)
 

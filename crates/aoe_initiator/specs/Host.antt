@@ -15,6 +15,7 @@ use Rattle.aoe_paths.specs.PathLog.{PathEvent, Recalls as RecallsPaths}
 use Rattle.aoe_paths.specs.PathTable.{new_paths}
 use Rattle.aoe_initiator.specs.declared.device.Arrival.{Arrival}
 use Rattle.aoe_initiator.specs.declared.device.Device.{Device}
+use Rattle.aoe_initiator.specs.declared.op.FlushCommand.{FlushCommand}
 use Rattle.aoe_initiator.specs.declared.op.Op.{Op}
 use Rattle.aoe_initiator.specs.declared.outcome.Done.{Done}
 use Rattle.aoe_initiator.specs.declared.outcome.Outcome.{Outcome}
@@ -127,9 +128,9 @@ new_host ports life room dead = record {
   waiting = [];
 }
 
-abbrev pub new_device : List Mac → TargetId → List Mac → ℕ → ℕ → ℕ → Device
-new_device ports id remotes total max requests = record {
-  about = record { id = id; remotes = record { items = remotes }; total = total; max = max };
+abbrev pub new_device : List Mac → TargetId → List Mac → ℕ → ℕ → FlushCommand → ℕ → Device
+new_device ports id remotes total max flush requests = record {
+  about = record { id = id; remotes = record { items = remotes }; total = total; max = max; flush = flush };
   holds = nothing_entered requests;
   paths = new_paths ports remotes;
 }

@@ -41,10 +41,11 @@ use Rattle.aoe_initiator.specs.Response.{answer, has_flag, outcome_of}
 abbrev pub is_clear_at : ℕ → ℕ → List HostCommand → HostCommand → Bool
 is_clear_at life now cs c = is_clear life now (entered_at c.device.0 cs) (as_entered c)
 
--- the frame of an operation with a tag, from the port of the host to that of the device that a path joins
+-- the frame of an operation with a tag, from the port of the host to that of the device that a path joins; a flush is by the device's
+-- flush command
 abbrev pub spelled_for : Host → Op → DeviceNo → PathNo → ℕ → Option (List ℕ)
 spelled_for host op device path tag =
-    option_and_then (λ (d : Device). option_map (λ pair. request op d.about.id pair.1 pair.0 tag)
+    option_and_then (λ (d : Device). option_map (λ pair. request d.about.flush op d.about.id pair.1 pair.0 tag)
     (pair_at host.ports d.about.remotes.items path.0)) (slice_get host.devices device.0)
 
 abbrev pub spelled : Host → HostCommand → PathNo → ℕ → Option (List ℕ)

@@ -10,6 +10,8 @@ use Rattle.aoe_frame.specs.Header.{header_bytes, padded}
 use Rattle.aoe_ata.specs.declared.args.AtaArgs.{AtaArgs}
 use Rattle.aoe_ata.specs.Args.{args_bytes}
 use Rattle.aoe_lists.specs.declared.dir.Dir.{Dir}
+use Rattle.aoe_initiator.specs.declared.op.FlushCommand.{FlushCommand}
+use Rattle.aoe_initiator.specs.declared.op.FlushCommand.TheVariants.{Cache, CacheExt}
 use Rattle.aoe_initiator.specs.declared.op.Op.{Op}
 use Rattle.aoe_initiator.specs.declared.op.Op.TheVariants.{Read, Write, Flush, Identify, Config, Masks, Reserve}
 use Rattle.aoe_initiator.specs.Op.{command_of}
@@ -38,15 +40,21 @@ reserve_bytes rcmd list = (rcmd ∷ length list ∷ []) ++ flat_map (λ a. a.0) 
 abbrev pub write_bytes : ℕ → List ℕ → List ℕ
 write_bytes at bytes = args_bytes (registers_of 0x41 0x34 (record { at = at; count = length bytes / 512 })) ++ bytes
 
--- the bytes behind the header: READ SECTORS EXT, WRITE SECTORS EXT, FLUSH CACHE EXT and IDENTIFY DEVICE with their registers
-abbrev pub arguments : Op → List ℕ
-arguments (Read span) = args_bytes (registers_of 0x40 0x24 span)
-arguments (Write at bytes) = write_bytes at bytes
-arguments Flush = args_bytes (registers_of 0x40 0xea (record { at = 0; count = 0 }))
-arguments Identify = args_bytes (registers_of 0 0xec (record { at = 0; count = 1 }))
-arguments (Config ccmd text) = config_bytes ccmd text
-arguments (Masks edit dirs) = mask_bytes edit dirs.items
-arguments (Reserve rcmd list) = reserve_bytes rcmd list.items
+-- the registers of a flush: those of 28 bits for FLUSH CACHE, those of 48 for FLUSH CACHE EXT (ATA/ATAPI Command Set, "FLUSH CACHE",
+-- "FLUSH CACHE EXT")
+abbrev pub flush_registers : FlushCommand → AtaArgs
+flush_registers Cache = registers_of 0 0xe7 (record { at = 0; count = 0 })
+flush_registers CacheExt = registers_of 0x40 0xea (record { at = 0; count = 0 })
+
+-- the bytes behind the header: READ SECTORS EXT, WRITE SECTORS EXT, the device's flush command and IDENTIFY DEVICE with their registers
+abbrev pub arguments : FlushCommand → Op → List ℕ
+arguments flush (Read span) = args_bytes (registers_of 0x40 0x24 span)
+arguments flush (Write at bytes) = write_bytes at bytes
+arguments flush Flush = args_bytes (flush_registers flush)
+arguments flush Identify = args_bytes (registers_of 0 0xec (record { at = 0; count = 1 }))
+arguments flush (Config ccmd text) = config_bytes ccmd text
+arguments flush (Masks edit dirs) = mask_bytes edit dirs.items
+arguments flush (Reserve rcmd list) = reserve_bytes rcmd list.items
 
 -- the header: version 1, without a flag or an error
 abbrev pub request_header : Op → TargetId → Mac → Mac → ℕ → Header
@@ -61,9 +69,9 @@ request_header op id remote local tag = record {
   tag = tag;
 }
 
--- the frame that asks a device for an operation, from a local port to a remote one
-unfoldable pub request : Op → TargetId → Mac → Mac → ℕ → List ℕ
-request op id remote local tag = padded (header_bytes (request_header op id remote local tag) ++ arguments op)
+-- the frame that asks a device for an operation, from a local port to a remote one; only a flush goes by its flush command
+unfoldable pub request : FlushCommand → Op → TargetId → Mac → Mac → ℕ → List ℕ
+request flush op id remote local tag = padded (header_bytes (request_header op id remote local tag) ++ arguments flush op)
 
 -- an operation that a frame has room for: up to 17 sectors below 2^48, a string of at most 1024 bytes
 abbrev pub CanSpell : Op → Type 0

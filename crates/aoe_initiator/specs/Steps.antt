@@ -47,7 +47,7 @@ pub record Repeats (old : Host) (ticket : Ticket) (sent : Sent) (frame : List �
   pub there : slice_get old.pending at ≡ Some command
   pub held : slice_get old.devices command.device.0 ≡ Some device
   pub routed : IsRoute device (Some flying.path) route
-  pub bytes : frame ≡ request command.op route.target route.remote route.local flying.tag
+  pub bytes : frame ≡ request route.flush command.op route.target route.remote route.local flying.tag
   pub is : sent ≡ record { ticket = ticket; tag = flying.tag; path = route.path; again = true }
   pub after : new ≡ record old {
     flight = after_change old.flight ticket.0 (after_repeat (record { 0 = old.clock }) route.path (record { 0 = wait_of route.timeout.0 (min flying.sends 32 + 1) })) old.clock;
@@ -62,7 +62,7 @@ pub record Launches (old : Host) (ticket : Ticket) (at : ℕ) (sent : Sent) (fra
   pub there : slice_get old.pending at ≡ Some command
   pub held : slice_get old.devices command.device.0 ≡ Some device
   pub routed : IsRoute device None route
-  pub bytes : frame ≡ request command.op route.target route.remote route.local sent.tag
+  pub bytes : frame ≡ request route.flush command.op route.target route.remote route.local sent.tag
   pub is : sent ≡ record { ticket = ticket; tag = sent.tag; path = route.path; again = false }
   pub recalls : (before : List Outstanding) → Recalls old.flight before
       → Recalls new.flight (launched ticket sent.tag (record { 0 = old.clock }) route.path (record { 0 = wait_of route.timeout.0 1 }) ∷ before)

@@ -8,6 +8,7 @@ ghost use Rattle.aoe_initiator.specs.Host.{RecallAll};
 ghost use Rattle.aoe_initiator.specs.HostLog.{HostCommand};
 
 use crate::counted::{clear_from, first_clear};
+use crate::op::FlushCommand;
 use aoe_base::{DeviceNo, Mac, Millis, NoMemory, PathNo, Ports, TargetId, Ticket};
 use aoe_hold::Holds;
 use aoe_paths::Paths;
@@ -26,6 +27,9 @@ pub struct Attached {
 
     /// The most sectors of one command.
     pub max: u32,
+
+    /// The command by which it is flushed.
+    pub flush: FlushCommand,
 }
 
 /// A device, the order of the commands there, and the paths to it.
@@ -41,6 +45,9 @@ pub(crate) struct Device {
 pub(crate) struct Route {
     pub path: PathNo,
     pub target: TargetId,
+
+    /// The command by which the device is flushed.
+    pub flush: FlushCommand,
 
     /// The ports at the two ends of the path.
     pub local: Mac,
@@ -103,6 +110,7 @@ impl Device {
         Route {
             path,
             target: self.about.id,
+            flush: self.about.flush,
             local,
             remote,
             timeout: self.paths.timeout(path),

@@ -28,7 +28,7 @@ use crate::counted::{first_due, first_expired, flight_times, next_flying};
 use crate::device::{
     Arrival, Attached, Device, any_clear_from, next_clear, note_finished, note_sent,
 };
-use crate::op::{Op, op_refusal};
+use crate::op::{FlushCommand, Op, op_refusal};
 use crate::outcome::{Done, Outcome};
 use crate::pending::{Pending, place_of};
 use crate::refusal::{AttachRefusal, SubmitRefusal};
@@ -210,14 +210,15 @@ impl Initiator {
         })
     }
 
-    /// Attaches a device of `total` sectors that takes at most `max` of them in one command, and
-    /// whose shelf has the ports `remotes`.
+    /// Attaches a device of `total` sectors that takes at most `max` of them in one command, is
+    /// flushed by `flush`, and whose shelf has the ports `remotes`.
     pub fn attach(
         &mut self,
         id: TargetId,
         remotes: &Ports,
         total: u64,
         max: u32,
+        flush: FlushCommand,
     ) -> Result<DeviceNo, AttachRefusal>
         requires differ { IsDistinct remotes.now.items }
         requires total { total ≤ 2 ^ 48 }
@@ -231,7 +232,7 @@ impl Initiator {
         ensures number { IfOk result (λ device. device.0 ≡ length self.old.devices) }
         ensures device { OnOk result (self.new
             ≡ with_device self.old
-            (new_device self.old.ports id remotes.now.items total max self.old.life.requests.0)) }
+            (new_device self.old.ports id remotes.now.items total max flush self.old.life.requests.0)) }
         ensures matches { OnOk result ((log : List Event) → Matches log self.old
             → Matches log self.new) }
         ensures unchanged { OnErr result (self.new ≡ self.old) }
@@ -250,6 +251,7 @@ impl Initiator {
             remotes: copy_of(remotes),
             total,
             max,
+            flush,
         };
         let Ok(device) = Device::new(self.alloc, about, &self.ports, self.life.requests) else {
             return Err(AttachRefusal::NoMemory);
@@ -380,7 +382,15 @@ impl Initiator {
         let missed = Some(flying.path);
         let route = note_sent(&mut self.devices, command.device, ticket, now, missed);
         let op = &command.op;
-        write_request(op, route.target, route.remote, route.local, flying.tag, out);
+        write_request(
+            op,
+            route.flush,
+            route.target,
+            route.remote,
+            route.local,
+            flying.tag,
+            out,
+        );
         let wait = wait_after(route.timeout, flying.sends);
         self.flight.repeat(ticket, now, route.path, wait);
         Some(Sent {
@@ -434,7 +444,15 @@ impl Initiator {
         let wait = wait_after(route.timeout, 0);
         let tag = self.flight.launch(ticket, now, route.path, wait)?;
         let op = &command.op;
-        write_request(op, route.target, route.remote, route.local, tag, out);
+        write_request(
+            op,
+            route.flush,
+            route.target,
+            route.remote,
+            route.local,
+            tag,
+            out,
+        );
         Some(Sent {
             ticket,
             tag,

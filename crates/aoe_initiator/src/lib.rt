@@ -21,8 +21,8 @@
 //!
 //! A user without a reason for other numbers takes [`LIFETIMES`], [`ROOM`] and [`DEAD`].
 //!
-//! A host doesn't find devices: its user says which there are, how long they are and how many
-//! sectors they take in one command. It doesn't split what is longer, and it doesn't ask again
+//! A host doesn't find devices: its user says which there are, how long they are, how many sectors
+//! they take in one command, and by which command they are flushed. It doesn't split what is longer, and it doesn't ask again
 //! what a device refused.
 //!
 //! Promised: the host law, for every log that a host matches (`Matches`). `pull` returns what may
@@ -58,7 +58,7 @@ pub use defaults::{DEAD, LIFETIMES, MOST_ROOM, ROOM};
 pub use device::Attached;
 pub use initiator::{Initiator, MAX_HELD};
 pub use law::held_law;
-pub use op::Op;
+pub use op::{FlushCommand, Op};
 pub use outcome::{Done, Outcome};
 pub use refusal::{AttachRefusal, SubmitRefusal};
 pub use request::{append_config_args, append_mask_args, append_reserve_args, write_request};

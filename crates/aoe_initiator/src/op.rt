@@ -11,6 +11,16 @@ use aoe_hold::Kind;
 use aoe_lists::{Dir, MAX_DIRS};
 use arrayvec::ArrayVec;
 
+/// The command by which a device is flushed.
+#[derive(Clone, Copy, PartialEq, Eq)]
+pub enum FlushCommand {
+    /// FLUSH CACHE, with registers of 28 bits.
+    Cache,
+
+    /// FLUSH CACHE EXT, with registers of 48 bits.
+    CacheExt,
+}
+
 /// What a host asks of a device.
 #[derive(Drop)]
 pub enum Op {
@@ -23,7 +33,7 @@ pub enum Op {
         bytes: Blob,
     },
 
-    /// To bring to the medium what was written (FLUSH CACHE EXT).
+    /// To bring to the medium what was written, by the flush command of the device.
     Flush,
 
     /// To tell of the device (IDENTIFY DEVICE).

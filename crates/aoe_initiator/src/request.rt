@@ -6,9 +6,9 @@ ghost use Rattle.aoe_ata.specs.Args.{args_bytes};
 ghost use Rattle.aoe_ata.specs.Command.{code_of};
 ghost use Rattle.aoe_frame.specs.Header.{head};
 ghost use Rattle.aoe_lists.specs.Settings.{max_directives};
-ghost use Rattle.aoe_initiator.specs.Request.{arguments, config_bytes, mask_bytes, registers_of, request, request_header, reserve_bytes, write_bytes, CanSpell};
+ghost use Rattle.aoe_initiator.specs.Request.{arguments, config_bytes, flush_registers, mask_bytes, registers_of, request, request_header, reserve_bytes, write_bytes, CanSpell};
 
-use crate::op::Op;
+use crate::op::{FlushCommand, Op};
 use aoe_ata::{AFLAG_EXTENDED, AFLAG_WRITE, AtaArgs, CommandCode, write_args};
 use aoe_base::{Mac, SECTOR_LEN, Span, TargetId, append};
 use aoe_frame::{Frame, Header, pad, write_header};
@@ -102,19 +102,32 @@ fn append_write(at: u64, bytes: &[u8], out: &mut Frame)
     append(out, bytes);
 }
 
-/// Appends what stands behind the header.
-fn append_arguments(op: &Op, out: &mut Frame)
-    requires spelled { CanSpell op.now }
-    requires room { length out.old.items ≡ 24 }
-    ensures { out.new.items ≡ out.old.items ++ arguments op.now }
+/// Appends the registers of a flush, which has no sector.
+fn append_flush(flush: FlushCommand, out: &mut Frame)
+    requires { array_vec_len out.old + 12 ≤ longest_frame }
+    ensures { out.new.items ≡ out.old.items ++ args_bytes (flush_registers flush) }
 {
     let nowhere = Span { at: 0, count: 0 };
+    match flush {
+        FlushCommand::Cache => append_registers(0, CommandCode::FlushCache, nowhere, out),
+        FlushCommand::CacheExt => {
+            append_registers(AFLAG_EXTENDED, CommandCode::FlushCacheExt, nowhere, out);
+        }
+    }
+}
+
+/// Appends what stands behind the header.
+fn append_arguments(op: &Op, flush: FlushCommand, out: &mut Frame)
+    requires spelled { CanSpell op.now }
+    requires room { length out.old.items ≡ 24 }
+    ensures { out.new.items ≡ out.old.items ++ arguments flush op.now }
+{
     match op {
         Op::Read(span) => {
             append_registers(AFLAG_EXTENDED, CommandCode::ReadSectorsExt, *span, out);
         }
         Op::Write { at, bytes } => append_write(*at, bytes.bytes(), out),
-        Op::Flush => append_registers(AFLAG_EXTENDED, CommandCode::FlushCacheExt, nowhere, out),
+        Op::Flush => append_flush(flush, out),
         Op::Identify => {
             let page = Span { at: 0, count: 1 };
             append_registers(0, CommandCode::IdentifyDevice, page, out);
@@ -126,11 +139,19 @@ fn append_arguments(op: &Op, out: &mut Frame)
 }
 
 /// Makes `out` the frame that asks the device `id` for the operation, from the port `local` of
-/// the host to the port `remote` of the device.
+/// the host to the port `remote` of the device. Only a flush goes by `flush`.
 #[tactic(auto, unfolding(crate::specs::Request::request))]
-pub fn write_request(op: &Op, id: TargetId, remote: Mac, local: Mac, tag: u32, out: &mut Frame)
+pub fn write_request(
+    op: &Op,
+    flush: FlushCommand,
+    id: TargetId,
+    remote: Mac,
+    local: Mac,
+    tag: u32,
+    out: &mut Frame,
+)
     requires { CanSpell op.now }
-    ensures bytes { out.new.items ≡ request op.now id remote local tag }
+    ensures bytes { out.new.items ≡ request flush op.now id remote local tag }
     ensures read { head out.new.items ≡ Some (request_header op.now id remote local tag) }
 {
     let header = Header {
@@ -144,6 +165,6 @@ pub fn write_request(op: &Op, id: TargetId, remote: Mac, local: Mac, tag: u32, o
         tag,
     };
     write_header(&header, out);
-    append_arguments(op, out);
+    append_arguments(op, flush, out);
     pad(out);
 }

@@ -135,6 +135,7 @@ said_settles failed old mark m settled run name = record {
   was = λ off. off;
   named = record { disk = run.after; room = rw run.sectors m.room; side = m.side; named = λ is. name old.side (m.named is) };
   mark = record { disk = run.after; sectors = run.sectors; later = run.later };
+  unfailed = λ ok. (2, subst (λ (f : Bool). IsRun 2 f old.mark mark) ok run);
   cause = λ bad. OnTrue_at bad run.cause;
 }
 

@@ -4,7 +4,7 @@
 -- runs: below a sector at most 64 are stale for each failure so far.
 --
 -- Read `Bits`, `Told`, `Whole`, `Quiet`, `Steps`, then `Reading`, `Writing`, `Syncing`,
--- `Copying`, `Passing`, `Surviving`, `Cleaning`, `Naming`, `Settling`.
+-- `Lowest`, `Copying`, `Passing`, `Surviving`, `Cleaning`, `Naming`, `Settling`.
 --
 -- `IsMarked` is apart from it: the mark disk says that a mirror is clean only while it is, and its second
 -- sector is written only then.
@@ -18,6 +18,7 @@ pub mod Steps
 pub mod Reading
 pub mod Writing
 pub mod Syncing
+pub mod Lowest
 pub mod Copying
 pub mod Passing
 pub mod Surviving

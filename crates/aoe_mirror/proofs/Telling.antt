@@ -1,8 +1,7 @@
 -- What a watch is told of a mirror.
 use Rattle.std.proofs.Common.{◌≡◌, ◌≤◌, ◌-◌, ◌==◌, ◌&&◌, ℕ, Bool, true, false, List, [], ◌∷◌, ◌++◌, Option, Some, None, refl, sym, ap, ◌∙◌, inl, inr, arith, eq-eqb, ne_eqb, option_to_list, append_assoc}
 use Rattle.std.proofs.lemmas.Bool.{cases_eq}
-use Rattle.aoe_mirror.specs.Sides.{Pair}
-use Rattle.aoe_mirror.specs.Watching.{AreChanges, HasTold, Hears, TellsChanges, new_lead, new_state, standing_of, state_event}
+use Rattle.aoe_mirror.specs.Watching.{AreChanges, Hears, TellsChanges, new_lead, new_state, state_event}
 use Rattle.aoe_mirror.specs.declared.watch.MirrorEvent.{MirrorEvent}
 use Rattle.aoe_mirror.specs.declared.watch.Standing.{Standing}
 
@@ -63,23 +62,3 @@ pub change_told : (a b : Standing) (x y z : Option (List MirrorEvent)) → a.lea
     → Hears (option_to_list (new_state a b)) y z → TellsChanges a b x z
 change_told a b x y z la lb first second = tells_then a (halfway a b) b x y z (hears_tells (new_lead a b) a (halfway a b) x y first (lead_changes a b la lb))
     (hears_tells (new_state a b) (halfway a b) b y z second (state_changes b.lead (a.is_whole && a.lead == b.lead) b.is_whole lb))
-
--- over the calls of a mirror
-
-pub told_first : (p : Pair) (standing : Standing) (lead : ℕ) (x y : Option (List MirrorEvent)) → lead ≤ 1
-    → TellsChanges (record { lead = lead; is_whole = true }) standing x y → standing ≡ standing_of p → HasTold p standing x y
-told_first p standing lead x y le tells now =
-    record { first = record { lead = lead; is_whole = true }; side = le; whole = refl; now = now; tells = tells }
-
-pub told_on : (old new : Pair) (was now : Standing) (x y z : Option (List MirrorEvent)) → HasTold old was x y → TellsChanges was now y z → now ≡ standing_of new
-    → HasTold new now x z
-told_on old new was now x y z h tells is =
-    record { first = h.first; side = h.side; whole = h.whole; now = is; tells = tells_then h.first was now x y z h.tells tells }
-
-pub told_same : (old new : Pair) (standing : Standing) (x y : Option (List MirrorEvent)) → HasTold old standing x y → new.side ≡ old.side
-    → new.stale ≡ old.stale → HasTold new standing x y
-told_same old new standing x y h side stale =
-    record { first = h.first; side = h.side; whole = h.whole; now = rw (side, stale) h.now; tells = h.tells }
-
-pub told_side : (p : Pair) (standing : Standing) (x y : Option (List MirrorEvent)) → HasTold p standing x y → p.side ≤ 1 → standing.lead ≤ 1
-told_side p standing x y h le = rw h.now le

@@ -1,5 +1,5 @@
 -- What calls of a mirror do, and why they fail.
-use Rattle.std.specs.Prelude.{◌≡◌, ◌≤◌, ◌<◌, ◌+◌, ◌-◌, ◌*◌, ◌/◌, ◌^◌, ◌⊎◌, ℕ, Bool, true, false, Option, None, Some, IfSome, IfErr, List, length, replicate, Result, Ok, Err, is_err, is_some, min, if◌then◌else◌}
+use Rattle.std.specs.Prelude.{◌≡◌, ◌≤◌, ◌<◌, ◌+◌, ◌-◌, ◌*◌, ◌/◌, ◌^◌, ◌⊎◌, ℕ, Bool, true, false, Option, None, Some, IfSome, IfErr, List, length, replicate, Result, Ok, Err, is_err, is_some, unwrap_or, min, if◌then◌else◌}
 use Rattle.aoe_base.specs.Faults.{Rose}
 use Rattle.aoe_base.specs.declared.failure.Failed.{Failed}
 use Rattle.aoe_disk.specs.State.{DiskState, IsDisk, BothTell, with_marks, is_loose}
@@ -152,6 +152,14 @@ lowest failed None = failed
 lowest None (Some k) = Some k
 lowest (Some j) (Some k) = Some (min j k)
 
+-- no call of a disk failed
+abbrev pub Unfailed : DiskState → DiskState → Type 0
+Unfailed old new = (calls : ℕ) × IsRun calls false old new
+
+-- no call failed of a disk below the one that is said to have failed, or of any where none is
+abbrev pub IsLowest : Option ℕ → Pair → Pair → Type 0
+IsLowest failed old new = (k : ℕ) → k < unwrap_or failed 3 → Unfailed (disk_of old k) (disk_of new k)
+
 -- the same side leads, and the same sectors are stale
 abbrev pub StaysWhole : Pair → Pair → Type 0
 StaysWhole old new = (new.side ≡ old.side) × (new.stale ≡ old.stale)
@@ -184,6 +192,7 @@ pub record SettlesLead (failed : Bool) (old new : Pair) : Type 0 where
   pub was : new.settled ≡ false → old.settled ≡ false
   pub named : IsMark new
   pub mark : Later old.mark new.mark
+  pub unfailed : failed ≡ false → Unfailed old.mark new.mark
   pub cause : failed ≡ true → MarkFailed old new
 
 -- what a device call answers

@@ -75,7 +75,7 @@ Refuses (Unequal first second) one two mark mark' = (first ≡ one.sectors) × (
 Refuses NoMark one two mark mark' = (two.sectors ≡ one.sectors) × (mark.sectors ≡ 0) × (mark' ≡ mark)
 Refuses NotMark one two mark mark' = (two.sectors ≡ one.sectors) × (0 < mark.sectors) × ReadsMark None mark mark'
 Refuses Failed one two mark mark' = (two.sectors ≡ one.sectors) × (0 < mark.sectors) × IsRun 2 true mark mark' × BothTell Calms mark.contents mark'.contents
-Refuses NoMemory one two mark mark' = (two.sectors ≡ one.sectors) × (0 < mark.sectors) × IsRun 2 false mark mark' × BothTell Calms mark.contents mark'.contents
+Refuses NoMemory one two mark mark' = (two.sectors ≡ one.sectors) × (0 < mark.sectors) × (found : Found) × ReadsMark (Some found) mark mark'
 
 -- what the fields of a mirror keep
 pub record IsMounted {D : Type 0} (state : D → DiskState) (s : Sides D) (clean : Bool) (room : List ℕ) : Type 0 where

@@ -1,5 +1,5 @@
 -- What is told of a mirror while it runs.
-use Rattle.std.specs.Prelude.{◌≡◌, ◌≤◌, ◌-◌, ◌==◌, ◌&&◌, ℕ, Bool, true, false, List, [], ◌∷◌, ◌++◌, Option, None, Some, if◌then◌else◌}
+use Rattle.std.specs.Prelude.{◌≡◌, ◌-◌, ◌==◌, ◌&&◌, ℕ, Bool, true, false, List, [], ◌∷◌, ◌++◌, Option, None, Some, if◌then◌else◌}
 use Rattle.aoe_disk.specs.State.{BothTell}
 use Rattle.aoe_mirror.specs.Marks.{count_of}
 use Rattle.aoe_mirror.specs.Sides.{Pair}
@@ -43,11 +43,3 @@ new_state a b = state_event b.lead (a.is_whole && a.lead == b.lead) b.is_whole
 -- just what led from one standing to another was told
 abbrev pub TellsChanges : Standing → Standing → Option (List MirrorEvent) → Option (List MirrorEvent) → Type 0
 TellsChanges a b old new = BothTell (λ before after. (events : List MirrorEvent) × (after ≡ events ++ before) × AreChanges events a b) old new
-
--- What a watch has been told of a mirror in a run: how it stands, by just the changes since it was mounted with nothing stale.
-pub record HasTold (p : Pair) (standing : Standing) (old new : Option (List MirrorEvent)) : Type 0 where
-  pub first : Standing
-  pub side : first.lead ≤ 1
-  pub whole : first.is_whole ≡ true
-  pub now : standing ≡ standing_of p
-  pub tells : TellsChanges first standing old new

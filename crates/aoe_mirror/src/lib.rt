@@ -52,8 +52,8 @@
 //! (`SyncsAndCopies`). After a crash of all three disks the side that the mark disk names has the
 //! mirror's bytes in each sector that isn't loose (`Survives`), and a mark disk that says that the mirror
 //! is clean has equal sides (`CrashesTruly`); so `mount` may ask for that (`SaysTruly`). A disk that `failed` names did fail
-//! (`Blames`). A refused mounting names its cause (`Refuses`) and leaves the sides; a mark disk that
-//! holds no mark is refused and stays, and one that was written holds a mark (`Names`).
+//! (`Blames`), and no call of a lower one did (`IsLowest`). A refused mounting names its cause (`Refuses`) and
+//! leaves the sides; a mark disk that holds no mark is refused and stays, whatever memory there is, and one that was written holds a mark (`Names`).
 //!
 //! Of `settle_mark`: what the mark disk says afterwards, also after a crash, or why it is refused, is
 //! just what `words_after` says of what it said, of the names and of `lead_other` (`Settled`,
@@ -64,8 +64,7 @@
 //!
 //! Only tested: worked runs in which each side fails once, and a loss of power at each call of
 //! `settle_mark` (`mirror` and `mark` of aoe_shelf_tests); files that are full, limited or taken away, and
-//! losses of power (`tests/mirror`, `tests/power-loss`). Neither a clause nor a test says that `failed` is
-//! the lowest of several disks that failed in the sync of the sides.
+//! losses of power (`tests/mirror`, `tests/power-loss`).
 #![tactic(auto)]
 
 mod clean;

@@ -6,7 +6,7 @@ ghost use Rattle.aoe_disk.specs.Sectors.{Calms};
 ghost use Rattle.aoe_mirror.specs.Clean.{CrashesTruly, MarksClean, NothingLoose, SaysTruly, TellAlike, clean_in};
 ghost use Rattle.aoe_mirror.specs.Marks.{count_of};
 ghost use Rattle.aoe_mirror.specs.Sides.{IsMirror, Survives, side_in};
-ghost use Rattle.aoe_mirror.specs.Calls.{Blames, CopiesAll, CopiesNext, MirrorReads, MirrorSyncs, MirrorWrites, SyncsAndCopies, copy_blamed, lowest};
+ghost use Rattle.aoe_mirror.specs.Calls.{Blames, CopiesAll, CopiesNext, IsLowest, MirrorReads, MirrorSyncs, MirrorWrites, SyncsAndCopies, copy_blamed, lowest};
 ghost use Rattle.aoe_mirror.specs.Mirror.{Mounts, ReadsMark, Refuses, Sees, first_of, found_in, pair, second_of, state_of};
 
 use crate::MirrorRefusal;
@@ -273,7 +273,7 @@ impl<D: Disk> Store for Mirror<D> {
     ghost use Rattle.std.specs.Prelude.{◌≡◌, None, OnErr, OnOk, IsSome, false, length};
     ghost use Rattle.aoe_disk.specs.Calls.{IsRange, Reads, SyncsTo};
     ghost use Rattle.aoe_store.specs.Store.{StoresTo};
-    ghost use Rattle.aoe_mirror.specs.Calls.{Blames, MirrorReads, MirrorSyncs, MirrorWrites, SyncsAndCopies};
+    ghost use Rattle.aoe_mirror.specs.Calls.{Blames, IsLowest, MirrorReads, MirrorSyncs, MirrorWrites, SyncsAndCopies};
     ghost use Rattle.aoe_mirror.specs.Mirror.{pair, state_of};
 
     ghost state = { λ m. state_of D.state m };
@@ -323,6 +323,7 @@ impl<D: Disk> Store for Mirror<D> {
         ensures mirror { MirrorSyncs result (pair D.state self.old) (pair D.state self.new) }
         ensures blames { Blames self.new.failed (pair D.state self.old) (pair D.state self.new) }
         ensures told { OnErr result (IsSome self.new.failed) }
+        ensures lowest { IsLowest self.new.failed (pair D.state self.old) (pair D.state self.new) }
         ensures copied { OnOk result (SyncsAndCopies self.old.next self.new.next self.new.failed
             (pair D.state self.old) (pair D.state self.new)) }
     {

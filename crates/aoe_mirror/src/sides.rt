@@ -9,7 +9,7 @@ ghost use Rattle.aoe_mirror.specs.Sides.{IsMark, IsMirror, Names, both, pair_of,
 ghost use Rattle.aoe_mirror.specs.Mirror.{first_of, second_of};
 ghost use Rattle.aoe_mirror.specs.Marks.{AreSet, IsNextRun, count_of};
 ghost use Rattle.aoe_mirror.specs.Clean.{AreAlike, KeepsWord, Says};
-ghost use Rattle.aoe_mirror.specs.Calls.{Blames, Copies, CopiesAll, CopiesNext, CopiesRun, FollowerReads, FollowerSyncs, Follows, Halts, Leads, MirrorReads, MirrorSyncs, MirrorWrites, SettlesLead, StaysLead, StaysWhole, Swaps, TakesLead, WritesCopy, blamed_of, copy_blamed};
+ghost use Rattle.aoe_mirror.specs.Calls.{Blames, Copies, CopiesAll, CopiesNext, CopiesRun, FollowerReads, FollowerSyncs, Follows, Halts, IsLowest, Leads, MirrorReads, MirrorSyncs, MirrorWrites, SettlesLead, StaysLead, StaysWhole, Swaps, TakesLead, WritesCopy, blamed_of, copy_blamed};
 
 use crate::clean::write_clean;
 use crate::marks::Marks;
@@ -338,6 +338,8 @@ impl<D: Disk> Sides<D> {
         ensures syncs { MirrorSyncs result (pair_of D.state self.old) (pair_of D.state self.new) }
         ensures blames { Blames (blamed_of result)
             (pair_of D.state self.old) (pair_of D.state self.new) }
+        ensures lowest { IsLowest (blamed_of result)
+            (pair_of D.state self.old) (pair_of D.state self.new) }
         ensures told { blamed_of result ≡ None
             → StaysWhole (pair_of D.state self.old) (pair_of D.state self.new) }
         ensures word { KeepsWord (D.state self.old.mark) (D.state self.new.mark) }
@@ -359,6 +361,8 @@ impl<D: Disk> Sides<D> {
         requires { IsMirror (pair_of D.state self.old) }
         ensures syncs { MirrorSyncs result (pair_of D.state self.old) (pair_of D.state self.new) }
         ensures blames { Blames (blamed_of result)
+            (pair_of D.state self.old) (pair_of D.state self.new) }
+        ensures lowest { IsLowest (blamed_of result)
             (pair_of D.state self.old) (pair_of D.state self.new) }
         ensures told { blamed_of result ≡ None
             → StaysWhole (pair_of D.state self.old) (pair_of D.state self.new) }
@@ -410,6 +414,8 @@ impl<D: Disk> Sides<D> {
             (pair_of D.state self.old) (pair_of D.state self.new) }
         ensures blames { IfErr result
             (λ k. Blames (Some k) (pair_of D.state self.old) (pair_of D.state self.new)) }
+        ensures lowest { IsLowest (copy_blamed result)
+            (pair_of D.state self.old) (pair_of D.state self.new) }
     {
         if let Err(side) = self.copy_run(at as u64, &mut scratch[..SECTOR_LEN * n]) {
             return Err(side);
@@ -442,6 +448,8 @@ impl<D: Disk> Sides<D> {
             (pair_of D.state self.old) (pair_of D.state self.new) }
         ensures mirror { IsMirror (pair_of D.state self.new) }
         ensures blames { Blames (copy_blamed result.1)
+            (pair_of D.state self.old) (pair_of D.state self.new) }
+        ensures lowest { IsLowest (copy_blamed result.1)
             (pair_of D.state self.old) (pair_of D.state self.new) }
     {
         let Some((at, n)) = self.next_run(from) else {

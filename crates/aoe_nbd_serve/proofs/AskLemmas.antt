@@ -45,7 +45,7 @@ whole-length stages.Ended part front m is = absurd is
 
 -- behind a request that came whole none is begun
 kept-whole : (e : Export) (past : Past) (old new : Stage) (front : List ℕ) (m : Message) (c : Coming) → StandsAt e past old → IsWholeFrom old past.part front m
-    → StandsAt e (past_message past front m) new → c.data.items ≡ [] → c.room ≡ None → IsKept e new c
+    → StandsAt e (past_message past front m) new → c.payload.items ≡ [] → c.room ≡ None → IsKept e new c
 kept-whole e past old stages.Head front m c stands is later none room = record { past = past_message past front m; stands = later; kept = (none, room) }
 kept-whole e past old (stages.Data h refused missing) front m c stands is later none room =
     let long : length past.stream ≡ length (flat_map message_bytes past.messages) + length (begun old past.part)
@@ -80,7 +80,7 @@ kind-differs k a b is other e = other (sym (eqb-true k a is) ∙ e)
 -- a request without data
 hand-bare : (e : Export) (h : RequestHead) (c : Coming) (last : List ℕ) (d : DeskState) (t u : Bool) → (h.kind == 0) ≡ t → (h.kind == 1) ≡ u
     → IsCarriedOut e h → (if u then h.len else 0) ≡ 0 → HasRoom (held_by (if t then Read (span_of h) else (if u then Write (span_of h) (h.flags == 1) else Flush)) h.len) d
-    → e.size ≤ 512 * d.total → c.data.items ≡ [] → CanHandIn (if t then Read (span_of h) else (if u then Write (span_of h) (h.flags == 1) else Flush)) c last d
+    → e.size ≤ 512 * d.total → c.payload.items ≡ [] → CanHandIn (if t then Read (span_of h) else (if u then Write (span_of h) (h.flags == 1) else Flush)) c last d
 hand-bare e h c last d true u t_is u_is carried bare room size none =
     let inside = carried.inside (kind-differs h.kind 0 3 t_is (λ x. absurd cc)) in
     (inside-fits e h d (512 * (h.len / 512)) inside size room (sectors-again h.len inside.sectors), none)
@@ -91,13 +91,13 @@ hand-bare e h c last d false false t_is u_is carried bare room size none = (room
 
 -- a write, with its data
 hand-write : (e : Export) (h : RequestHead) (c : Coming) (last : List ℕ) (d : DeskState) (t u : Bool) → (h.kind == 0) ≡ t → (h.kind == 1) ≡ u
-    → IsCarriedOut e h → 0 < (if u then h.len else 0) → length (c.data.items ++ last) ≡ (if u then h.len else 0) → HasRoom h.len d → h.len ≤ vec_capacity c.data
+    → IsCarriedOut e h → 0 < (if u then h.len else 0) → length (c.payload.items ++ last) ≡ (if u then h.len else 0) → HasRoom h.len d → h.len ≤ vec_capacity c.payload
     → e.size ≤ 512 * d.total → CanHandIn (if t then Read (span_of h) else (if u then Write (span_of h) (h.flags == 1) else Flush)) c last d
 hand-write e h c last d true true t_is u_is carried some long room has size =
     absurd (kind-differs h.kind 0 1 t_is (λ x. absurd cc) (eqb-true h.kind 1 u_is))
 hand-write e h c last d false true t_is u_is carried some long room has size =
     let inside = carried.inside (kind-differs h.kind 1 3 u_is (λ x. absurd cc)) in
-    (inside-fits e h d (length (c.data.items ++ last)) inside size room long, omega (arith, long, has))
+    (inside-fits e h d (length (c.payload.items ++ last)) inside size room long, omega (arith, long, has))
 hand-write e h c last d true false t_is u_is carried some long room has size = absurd (omega (arith, some))
 hand-write e h c last d false false t_is u_is carried some long room has size = absurd (omega (arith, some))
 
@@ -116,7 +116,7 @@ room-stood e h bytes is not_refused = rw is (rw not_refused refl)
 
 -- a head came alone, and is carried out
 came-head : (l : Laws) (e : Export) (past : Past) (c : Coming) (d : DeskState) (bytes : List ℕ) (len : ℕ) (m : Message)
-    → FitsHead m.head → length m.payload ≡ data_len m.head → c.data.items ≡ [] → c.room ≡ None → take len bytes ≡ head_bytes m.head → m.payload ≡ []
+    → FitsHead m.head → length m.payload ≡ data_len m.head → c.payload.items ≡ [] → c.room ≡ None → take len bytes ≡ head_bytes m.head → m.payload ≡ []
     → None ≡ refusal e m.head → HasRoom (room_needed e c.room bytes) d → e.size ≤ 512 * d.total → CanHandIn (action_of m.head) c (take len bytes) d
 came-head l e past c d bytes len m fits whole none room is bare verdict has size =
     let H : ℕ → Type 0 = λ n. HasRoom n d in
@@ -131,7 +131,7 @@ came-data : (l : Laws) (e : Export) (h : RequestHead) (part front : List ℕ) (m
 came-data l e h part front missing c d bytes m (fits, some, long, inl verdict) whole (kept, room, has) is payload roomy size =
     let R : Option ℕ → Type 0 = λ r. HasRoom (room_needed e r bytes) d in
     let A : RequestHead → Type 0 = λ h. CanHandIn (action_of h) c front d in
-    let all : length (c.data.items ++ front) ≡ data_len h = ap (λ (x : List ℕ). length (x ++ front)) kept ∙ ap length (sym payload) ∙ whole ∙ ap data_len is in
+    let all : length (c.payload.items ++ front) ≡ data_len h = ap (λ (x : List ℕ). length (x ++ front)) kept ∙ ap length (sym payload) ∙ whole ∙ ap data_len is in
     subst A (sym is) (hand-write e h c front d (h.kind == 0) (h.kind == 1) refl refl (l.carries e h (sym verdict)) (omega (arith, some, long)) all (subst R room roomy) has size)
 came-data l e h part front missing c d bytes m (fits, some, long, inr verdict) whole kept is payload roomy size = absurd cc
 
@@ -154,13 +154,13 @@ no-more false len = omega arith
 
 -- a piece of a write's data came, for which there is room
 can-data : (e : Export) (old new : Stage) (past : Past) (c : Coming) (bytes : List ℕ) (len : ℕ) → IsKeptAt old past.part c
-    → Follows e past old bytes len events.Data new → length (c.data.items ++ take len bytes) ≤ vec_capacity c.data
+    → Follows e past old bytes len events.Data new → length (c.payload.items ++ take len bytes) ≤ vec_capacity c.payload
 can-data e old new past c bytes len kept (some, h, missing, missing', old_is, new_is, later) =
     let K : Stage → Type 0 = λ s. IsKeptAt s past.part c in
     let S : Stage → Type 0 = λ s. StandsAt e (past_data past (take len bytes)) s in
     let k = subst K old_is kept in
     let b = (subst S new_is later).begins in
-    let long : length (c.data.items ++ take len bytes) ≡ length (past.part ++ take len bytes) = ap (λ (x : List ℕ). length (x ++ take len bytes)) k.0 in
+    let long : length (c.payload.items ++ take len bytes) ≡ length (past.part ++ take len bytes) = ap (λ (x : List ℕ). length (x ++ take len bytes)) k.0 in
     omega (arith, long, k.2, b.2, no-more (h.kind == 1) h.len)
 
 -- what came can be done
@@ -206,8 +206,8 @@ has-room r room is none = absurd cc
 
 -- the head of a write came, and there is memory for its data, or not
 kept-begun : (e : Export) (past : Past) (h : RequestHead) (missing : ℕ) (new : Stage) (c : Coming) (room : ℕ) → room ≡ h.len → refusal e h ≡ None
-    → StandsAt e past (stages.Data h None missing) → past.part ≡ [] → ((new ≡ stages.Data h None missing) × (room ≤ vec_capacity c.data)) ⊎ (new ≡ stages.Data h (Some NoMemory) missing)
-    → c.room ≡ Some room → c.data.items ≡ [] → IsKept e new c
+    → StandsAt e past (stages.Data h None missing) → past.part ≡ [] → ((new ≡ stages.Data h None missing) × (room ≤ vec_capacity c.payload)) ⊎ (new ≡ stages.Data h (Some NoMemory) missing)
+    → c.room ≡ Some room → c.payload.items ≡ [] → IsKept e new c
 kept-begun e past h missing new c room is passes stands empty (inl (new_is, has)) room_is none =
     kept-at e (stages.Data h None missing) new past c new_is stands (none ∙ sym empty, room_is ∙ ap Some is, rw (sym is) has)
 kept-begun e past h missing new c room is passes stands empty (inr new_is) room_is none =
@@ -217,8 +217,8 @@ kept-begun e past h missing new c room is passes stands empty (inr new_is) room_
 
 kept-begins : (l : Laws) (e : Export) (past : Past) (c c' : Coming) (bytes : List ℕ) (len : ℕ) (h : RequestHead) (missing : ℕ) (new : Stage)
     → StandsAt e past stages.Head → c.room ≡ None → None ≡ refusal e h → StandsAt e (past_head past (take len bytes)) (stages.Data h None missing)
-    → ((new ≡ stages.Data h None missing) × (room_needed e c.room bytes ≤ vec_capacity c'.data)) ⊎ (new ≡ stages.Data h (Some NoMemory) missing)
-    → c'.room ≡ Some (room_needed e c.room bytes) → c'.data.items ≡ [] → IsKept e new c'
+    → ((new ≡ stages.Data h None missing) × (room_needed e c.room bytes ≤ vec_capacity c'.payload)) ⊎ (new ≡ stages.Data h (Some NoMemory) missing)
+    → c'.room ≡ Some (room_needed e c.room bytes) → c'.payload.items ≡ [] → IsKept e new c'
 kept-begins l e past c c' bytes len h missing new before none_yet verdict stands begun room_is none =
     let b = stands.begins in
     let needed : room_needed e c.room bytes ≡ h.len =
@@ -228,7 +228,7 @@ kept-begins l e past c c' bytes len h missing new before none_yet verdict stands
     kept-begun e (past_head past (take len bytes)) h missing new c' (room_needed e c.room bytes) needed (sym verdict) stands refl begun room_is none
 
 -- no data was kept of a request that is refused
-none-refused : (e : Export) (old : Stage) (part : List ℕ) (c : Coming) (h : RequestHead) (error : NbdError) → IsKeptAt old part c → IsVerdictFrom e old h (Some error) → c.data.items ≡ []
+none-refused : (e : Export) (old : Stage) (part : List ℕ) (c : Coming) (h : RequestHead) (error : NbdError) → IsKeptAt old part c → IsVerdictFrom e old h (Some error) → c.payload.items ≡ []
 none-refused e stages.Head part c h error kept verdict = kept.0
 none-refused e (stages.Data b None missing) part c h error kept verdict = absurd cc
 none-refused e (stages.Data b (Some other) missing) part c h error kept verdict = kept.0
@@ -237,7 +237,7 @@ none-refused e stages.Ended part c h error kept verdict = absurd verdict
 -- a piece of a write's data came
 kept-data : (e : Export) (past : Past) (c c' : Coming) (bytes front : List ℕ) (h : RequestHead) (missing missing' : ℕ) (taken new : Stage)
     → IsKeptAt (stages.Data h None missing) past.part c → StandsAt e (past_data past front) (stages.Data h None missing') → new ≡ stages.Data h None missing'
-    → vec_capacity c.data ≤ vec_capacity c'.data → c'.room ≡ Some (room_needed e c.room bytes) → c'.data.items ≡ c.data.items ++ front → IsKept e new c'
+    → vec_capacity c.payload ≤ vec_capacity c'.payload → c'.room ≡ Some (room_needed e c.room bytes) → c'.payload.items ≡ c.payload.items ++ front → IsKept e new c'
 kept-data e past c c' bytes front h missing missing' taken new kept stands new_is grows room_is items_is =
     kept-at e (stages.Data h None missing') new (past_data past front) c' new_is stands (
       items_is ∙ ap (λ (x : List ℕ). x ++ front) kept.0,
@@ -290,9 +290,9 @@ stage-of events.Ended room taken new c c' b = b
 -- what was done is what is taken of the bytes that came
 pub takes-by : (e : Export) (event : Event) (old taken new : Stage) (bytes unread unread' : List ℕ) (len room : ℕ) (c c' : Coming) (d d' : DeskState) → bytes ≡ unread
     → ((past : Past) → StandsAt e past old → Follows e past old bytes len event taken) → Did event (take len bytes) room taken new c c' d d' → unread' ≡ drop len unread
-    → Takes e event old new unread unread' c.data.items c'.data.items d d'
+    → Takes e event old new unread unread' c.payload.items c'.payload.items d d'
 takes-by e event old taken new bytes unread unread' len room c c' d d' is follows did rest =
-    subst (λ (b : List ℕ). unread' ≡ drop len b → Takes e event old new b unread' c.data.items c'.data.items d d') is (λ rest. record {
+    subst (λ (b : List ℕ). unread' ≡ drop len b → Takes e event old new b unread' c.payload.items c'.payload.items d d') is (λ rest. record {
       len = len;
       call = did.call;
       taken = taken;

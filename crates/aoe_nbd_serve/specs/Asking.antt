@@ -41,9 +41,9 @@ room_needed e (Some room) bytes = room
 
 -- what is kept of the request that comes, where this came of its data: that of a write which is carried out, in room for all of it
 abbrev pub IsKeptAt : Stage → List ℕ → Coming → Type 0
-IsKeptAt stages.Head part c = (c.data.items ≡ []) × (c.room ≡ None)
-IsKeptAt (stages.Data h None missing) part c = (c.data.items ≡ part) × (c.room ≡ Some h.len) × (h.len ≤ vec_capacity c.data)
-IsKeptAt (stages.Data h (Some error) missing) part c = (c.data.items ≡ []) × (c.room ≢ None)
+IsKeptAt stages.Head part c = (c.payload.items ≡ []) × (c.room ≡ None)
+IsKeptAt (stages.Data h None missing) part c = (c.payload.items ≡ part) × (c.room ≡ Some h.len) × (h.len ≤ vec_capacity c.payload)
+IsKeptAt (stages.Data h (Some error) missing) part c = (c.payload.items ≡ []) × (c.room ≢ None)
 IsKeptAt stages.Ended part c = Unit {0}
 
 pub record IsKept (e : Export) (stage : Stage) (c : Coming) : Type 0 where
@@ -52,7 +52,7 @@ pub record IsKept (e : Export) (stage : Stage) (c : Coming) : Type 0 where
   pub kept : IsKeptAt stage past.part c
 
 abbrev pub IsKeptIn : Export → Phase → Coming → Type 0
-IsKeptIn e (phases.Handshake stage) c = (c.data.items ≡ []) × (c.room ≡ None)
+IsKeptIn e (phases.Handshake stage) c = (c.payload.items ≡ []) × (c.room ≡ None)
 IsKeptIn e (phases.Transmission stage) c = IsKept e stage c
 IsKeptIn e phases.Leaving c = Unit {0}
 IsKeptIn e phases.BadOption c = Unit {0}
@@ -68,15 +68,15 @@ pub record Fits (at len : ℕ) (d : DeskState) : Type 0 where
 
 -- the desk can take the request, with the data that was kept and these last bytes of it
 abbrev pub CanHandIn : Action → Coming → List ℕ → DeskState → Type 0
-CanHandIn (Read span) c last d = Fits span.at (512 * span.count) d × (c.data.items ≡ [])
-CanHandIn (Write span lasts) c last d = Fits span.at (length (c.data.items ++ last)) d × (length (c.data.items ++ last) ≤ vec_capacity c.data)
-CanHandIn Flush c last d = HasRoom 0 d × (c.data.items ≡ [])
+CanHandIn (Read span) c last d = Fits span.at (512 * span.count) d × (c.payload.items ≡ [])
+CanHandIn (Write span lasts) c last d = Fits span.at (length (c.payload.items ++ last)) d × (length (c.payload.items ++ last) ≤ vec_capacity c.payload)
+CanHandIn Flush c last d = HasRoom 0 d × (c.payload.items ≡ [])
 
 -- what came can be done, where these bytes of it were taken
 abbrev pub CanDo : Event → Coming → List ℕ → DeskState → Type 0
 CanDo events.More c bytes d = Unit {0}
-CanDo (events.Begins request) c bytes d = c.data.items ≡ []
-CanDo events.Data c bytes d = length (c.data.items ++ bytes) ≤ vec_capacity c.data
+CanDo (events.Begins request) c bytes d = c.payload.items ≡ []
+CanDo events.Data c bytes d = length (c.payload.items ++ bytes) ≤ vec_capacity c.payload
 CanDo events.Skipped c bytes d = Unit {0}
 CanDo (events.Came request) c bytes d = CanHandIn request.action c bytes d
 CanDo (events.Refused error handle) c bytes d = HasRoom 0 d
@@ -110,12 +110,12 @@ room_after events.Ended room = None
 
 -- there is memory for the data of a write, or it is given up
 abbrev pub IsBegunAt : ℕ → Stage → Stage → Coming → Type 0
-IsBegunAt room stage stage' c = ((stage' ≡ stage) × (room ≤ vec_capacity c.data)) ⊎ (stage' ≡ given_up stage)
+IsBegunAt room stage stage' c = ((stage' ≡ stage) × (room ≤ vec_capacity c.payload)) ⊎ (stage' ≡ given_up stage)
 
 abbrev pub IsBegunBy : Event → ℕ → Stage → Stage → Coming → Coming → Type 0
 IsBegunBy events.More room stage stage' c c' = stage' ≡ stage
 IsBegunBy (events.Begins request) room stage stage' c c' = IsBegunAt room stage stage' c'
-IsBegunBy events.Data room stage stage' c c' = (stage' ≡ stage) × (vec_capacity c.data ≤ vec_capacity c'.data)
+IsBegunBy events.Data room stage stage' c c' = (stage' ≡ stage) × (vec_capacity c.payload ≤ vec_capacity c'.payload)
 IsBegunBy events.Skipped room stage stage' c c' = stage' ≡ stage
 IsBegunBy (events.Came request) room stage stage' c c' = stage' ≡ stage
 IsBegunBy (events.Refused error handle) room stage stage' c c' = stage' ≡ stage
@@ -128,8 +128,8 @@ pub record Did (event : Event) (bytes : List ℕ) (room : ℕ) (stage stage' : S
   pub call : Option Call
   pub begun : IsBegunBy event room stage stage' c c'
   pub room_is : c'.room ≡ room_after event room
-  pub payload_is : c'.data.items ≡ payload_asked event c.data.items bytes
-  pub handed : IsHandedIn d.max event (c.data.items ++ bytes) call
+  pub payload_is : c'.payload.items ≡ payload_asked event c.payload.items bytes
+  pub handed : IsHandedIn d.max event (c.payload.items ++ bytes) call
   pub desk : Does call d d'
 
 -- where a connection stands behind what was taken; a write for which there is no memory is given up

@@ -6,6 +6,7 @@ use Rattle.aoe_base.specs.declared.counted.Lifetimes.{Lifetimes}
 use Rattle.aoe_block.specs.Steps.{owns, turns_of}
 use Rattle.aoe_block.specs.Turns.{host_of}
 use Rattle.aoe_initiator.specs.Host.{Host, Matches}
+use Rattle.aoe_initiator.specs.declared.op.FlushCommand.{FlushCommand}
 use Rattle.aoe_initiator.specs.declared.outcome.Outcome.TheVariants as outcome
 use Rattle.aoe_nbd_serve.specs.Account.{is_flush_wanted, AreServed, HasServed, IsOver, LastEnded, ServeSeen, ServeStep, Setting}
 use Rattle.aoe_nbd_serve.specs.Deeds.{accepted_in, calls_of, handed, talk_of, Deed}
@@ -23,7 +24,8 @@ pub record IsNew (t : Terms) (host : Host) : Type 0 where
   pub life : Lifetimes
   pub id : TargetId
   pub remote : Mac
-  pub is : host ≡ host_of port life id remote t.total t.max
+  pub flush : FlushCommand
+  pub is : host ≡ host_of port life id remote t.total t.max flush
   pub matches : Matches [] host
 
 -- the link said last that no frame will come any more

@@ -53,7 +53,7 @@ impl<'a> Model for Conversation<'a> {
       phase = c.phase;
       unread = c.input;
       unsent = c.answer;
-      payload = c.coming.data.items;
+      payload = c.coming.payload.items;
       replied = c.replied;
       is_through = c.is_through;
       limit = c.limit;

@@ -20,7 +20,7 @@ pub(crate) struct Coming {
     alloc: Global,
 
     /// The data that came of a write.
-    data: Vec<u8>,
+    payload: Vec<u8>,
 
     /// How many bytes the request holds at the desk, where its head came and not all of its data.
     room: Option<u32>,
@@ -77,12 +77,12 @@ fn room_after(event: Event, room: u32) -> Option<u32>
 impl Coming {
     /// None yet.
     pub(crate) fn new(alloc: Global) -> Coming
-        ensures kept_data { result.data.items ≡ [] }
+        ensures kept_data { result.payload.items ≡ [] }
         ensures room { result.room ≡ None }
     {
         Coming {
             alloc,
-            data: Vec::new(alloc),
+            payload: Vec::new(alloc),
             room: None,
         }
     }
@@ -100,30 +100,30 @@ impl Coming {
 
     /// Keeps bytes as data of the write, for which there is room.
     fn keep(&mut self, bytes: &[u8])
-        requires { length (self.old.data.items ++ bytes.now) ≤ vec_capacity self.old.data }
-        ensures items { self.new.data.items ≡ self.old.data.items ++ bytes.now }
-        ensures capacity { vec_capacity self.old.data ≤ vec_capacity self.new.data }
+        requires { length (self.old.payload.items ++ bytes.now) ≤ vec_capacity self.old.payload }
+        ensures items { self.new.payload.items ≡ self.old.payload.items ++ bytes.now }
+        ensures capacity { vec_capacity self.old.payload ≤ vec_capacity self.new.payload }
         ensures room { self.new.room ≡ self.old.room }
     {
-        let _ = self.data.extend_from_slice(bytes);
+        let _ = self.payload.extend_from_slice(bytes);
     }
 
     /// The data that was kept.
     fn take_data(&mut self) -> Blob
-        ensures value { result ≡ self.old.data.items }
-        ensures none_left { self.new.data.items ≡ [] }
+        ensures value { result ≡ self.old.payload.items }
+        ensures none_left { self.new.payload.items ≡ [] }
         ensures room { self.new.room ≡ self.old.room }
     {
-        Blob::from_vec(std::mem::replace(&mut self.data, Vec::new(self.alloc)))
+        Blob::from_vec(std::mem::replace(&mut self.payload, Vec::new(self.alloc)))
     }
 
     /// Hands a request to the desk, whose last bytes these are.
     fn hand_in(&mut self, desk: &mut Desk, request: Request, last: &[u8])
         requires { CanHandIn request.action self.old last.now desk.old }
         ensures call { (call : Call)
-            × IsCallOf desk.old.max request (self.old.data.items ++ last.now) call
+            × IsCallOf desk.old.max request (self.old.payload.items ++ last.now) call
             × CanCall call desk.old × (desk.new ≡ after call desk.old) }
-        ensures kept_data { self.new.data.items ≡ [] }
+        ensures kept_data { self.new.payload.items ≡ [] }
         ensures room { self.new.room ≡ self.old.room }
     {
         match request.action {
@@ -139,12 +139,12 @@ impl Coming {
 
     /// Makes room for the data of a write, or gives it up.
     fn begin(&mut self, transmission: &mut Transmission, len: u32)
-        requires { self.old.data.items ≡ [] }
+        requires { self.old.payload.items ≡ [] }
         ensures begun { IsBegunAt len transmission.old transmission.new self.new }
-        ensures kept_data { self.new.data.items ≡ [] }
+        ensures kept_data { self.new.payload.items ≡ [] }
         ensures room { self.new.room ≡ self.old.room }
     {
-        if self.data.reserve(len as usize).is_err() {
+        if self.payload.reserve(len as usize).is_err() {
             transmission.give_up();
         }
     }
@@ -184,11 +184,11 @@ impl Coming {
         requires kept { IsKept export.now transmission.old self.old }
         requires size { export.now.size ≤ 512 * desk.old.total }
         ensures takes { result ≢ Event.More → Takes export.now result transmission.old
-            transmission.new input.old input.new self.old.data.items self.new.data.items desk.old
+            transmission.new input.old input.new self.old.payload.items self.new.payload.items desk.old
             desk.new }
         ensures kept { IsKept export.now transmission.new self.new }
         ensures more { result ≡ Event.More → (transmission.new ≡ transmission.old)
-            × (input.new ≡ input.old) × (self.new.data.items ≡ self.old.data.items)
+            × (input.new ≡ input.old) × (self.new.payload.items ≡ self.old.payload.items)
             × (desk.new ≡ desk.old) }
     {
         let front = input.bytes();

@@ -5,6 +5,7 @@ use aoe_base::{Failed, Lifetimes, Mac, Millis, TargetId};
 use aoe_block::attach;
 use aoe_clients::{Clients, MemBell, MemClient, MemClients};
 use aoe_frame::Frame;
+use aoe_initiator::FlushCommand;
 use aoe_io::{Got, Link, SetClock};
 use aoe_nbd::{Export, ExportName};
 use aoe_nbd_serve::{Asked, Ending, ServeEnd, Terms, serve};
@@ -123,7 +124,9 @@ fn serves_a_client(rt: HostRuntime) -> Result<(), Fail> {
         };
         let port = Mac([2, 0, 0, 0, 0, 0x0b]);
         let id = TargetId { major: 1, minor: 0 };
-        let host = attach(alloc, port, life, id, Mac([2, 0, 0, 0, 0, 1]), 2048, 17)?;
+        let remote = Mac([2, 0, 0, 0, 0, 1]);
+        let flush = FlushCommand::CacheExt;
+        let host = attach(alloc, port, life, id, remote, 2048, 17, flush)?;
         let mut link = Device {
             answers: VecDeque::new(alloc),
             turns: 0,

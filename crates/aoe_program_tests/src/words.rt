@@ -3,9 +3,9 @@ mod refused;
 mod slips;
 
 use aoe_args::{
-    Alone, Answer, Asking, Audit, Cfg, Command, CommandLine, Discover, Flush, Get, Live, Mask,
-    Mirror, Nbd, PortKinds, PortWords, Put, Reserve, Serve, SlipText, Soak, Stat, Switch, Tool,
-    meant, read_words, slip_of,
+    Alone, Answer, Asking, Audit, Cfg, Command, CommandLine, Discover, Flush, Get, InputFile, Live,
+    Mask, Mirror, Nbd, PortKinds, PortWords, Put, Reserve, Serve, SlipText, Soak, Stat, Switch,
+    Tool, meant, read_words, slip_of,
 };
 use aoe_base::{Blob, Mac, NoMemory, Ports, TargetId};
 use aoe_lists::Dir;
@@ -107,8 +107,22 @@ fn add_alone(alloc: Global, alone: &Option<Alone>, joined: &mut Vec<u8>) -> Resu
     Ok(())
 }
 
+/// Adds the part of a file that is read, as `name+skip` and `*count` where there is a number.
+fn add_input(alloc: Global, input: &Option<InputFile>, joined: &mut Vec<u8>) -> Result<(), Fail> {
+    if let Some(input) = input {
+        let text = format!(in alloc; "<{}+{}", input.name, input.skip)?;
+        add_part(joined, text.as_bytes())?;
+        if let Some(count) = input.count {
+            let text = format!(in alloc; "*{count}")?;
+            joined.extend_from_slice(text.as_bytes())?;
+        }
+    }
+    Ok(())
+}
+
 /// What a line opens, its files and then its links, its socket behind an at sign, the file whose coming
-/// ends the run behind an exclamation mark, whether it is told how far the run has come, the side of a
+/// ends the run behind an exclamation mark, the file that is written behind `>`, the part that is read of
+/// one behind `<`, whether it is told how far the run has come, the side of a
 /// mirror that is there with its MARK, and whether the other side may lead.
 fn opened(alloc: Global, line: &str) -> Result<Vec<u8>, Fail> {
     let mut joined = Vec::new(alloc);
@@ -117,6 +131,8 @@ fn opened(alloc: Global, line: &str) -> Result<Vec<u8>, Fail> {
         add_links(alloc, read.links.as_slice(), &mut joined)?;
         add_name(b"@", &read.socket, &mut joined)?;
         add_name(b"!", &read.stop, &mut joined)?;
+        add_name(b">", &read.output, &mut joined)?;
+        add_input(alloc, &read.input, &mut joined)?;
         if read.is_told {
             add_part(&mut joined, b"told")?;
         }
@@ -348,6 +364,7 @@ fn mask(edit: Option<&[Dir]>) -> Command {
         asking: asking(),
         id: device(),
         dirs,
+        anyway: false,
     }))
 }
 

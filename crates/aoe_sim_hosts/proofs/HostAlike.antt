@@ -56,7 +56,7 @@ module _ {a b : Host} (x : IsAlike a b) where
   spelled-alike : (op : Op) (device : DeviceNo) (path : PathNo) (tag : ℕ) → spelled_for a op device path tag ≡ spelled_for b op device path tag
   spelled-alike op device path tag =
       let spelled = λ (ports : List Mac) (o : Option Device).
-      option_and_then (λ (d : Device). option_map (λ pair. request op d.about.id pair.1 pair.0 tag) (pair_at ports d.about.remotes.items path.0)) o in
+      option_and_then (λ (d : Device). option_map (λ pair. request d.about.flush op d.about.id pair.1 pair.0 tag) (pair_at ports d.about.remotes.items path.0)) o in
       both-about (λ o p. spelled a.ports o ≡ spelled b.ports p) _ _ (about-at device.0) refl (λ d e same. rw (x.ports, same))
 
   pub frame-alike : (cs : List HostCommand) (sent : Sent) (f : List ℕ) → IsFrameOf a cs sent f → IsFrameOf b cs sent f

@@ -14,6 +14,7 @@ use Rattle.aoe_frame.specs.Header.{fields, header_bytes}
 use Rattle.aoe_base.proofs.MacLemmas.{six-is}
 use Rattle.aoe_base.specs.declared.counted.Lifetimes.{Lifetimes}
 use Rattle.aoe_initiator.specs.declared.device.Attached.{Attached}
+use Rattle.aoe_initiator.specs.declared.op.FlushCommand.{FlushCommand}
 use Rattle.aoe_initiator.specs.declared.op.Op.{Op}
 use Rattle.aoe_initiator.specs.declared.step.Sent as step
 use Rattle.aoe_initiator.specs.Host.{Host, Matches}
@@ -61,12 +62,12 @@ bears-header h rest d s small = record {
   tag = rw (six-is h.dst.0 d, six-is h.src.0 s) (from_be_bytes-to_be_bytes_4 h.tag small);
 }
 
-request-bears : (op : Op) (id : TargetId) (remote local : Mac) (tag : ℕ) → length remote.0 ≡ 6 → length local.0 ≡ 6 → tag < 4294967296
-    → Bears (request op id remote local tag) (request_header op id remote local tag)
+request-bears : (flush : FlushCommand) (op : Op) (id : TargetId) (remote local : Mac) (tag : ℕ) → length remote.0 ≡ 6 → length local.0 ≡ 6 → tag < 4294967296
+    → Bears (request flush op id remote local tag) (request_header op id remote local tag)
 unfolding request
-request-bears op id remote local tag d s small =
+request-bears flush op id remote local tag d s small =
     let h = request_header op id remote local tag in
-    rw (append_assoc (header_bytes h) (arguments op)) (bears-header h _ d s small)
+    rw (append_assoc (header_bytes h) (arguments flush op)) (bears-header h _ d s small)
 
 -- THE FRAME THAT IS SENT
 
@@ -77,7 +78,7 @@ pub record IsRequest (host : HostSetup) (op : Op) (device : DeviceNo) (path : Pa
   pub local : Mac
   pub remote : Mac
   pub joined : pair_at host.ports about.remotes.items path.0 ≡ Some (local, remote)
-  pub is : request op about.id remote local tag ≡ f
+  pub is : request about.flush op about.id remote local tag ≡ f
 
 module _ (s : Setup) (host : HostSetup) (h : List Entry) (x : SimHost) (settled : IsSettled s host h x) (lawful : IsLawful s h)
     (sent : step.Sent) (f : List ℕ) (frame : IsFrameOf x.core (commands_of host h) sent f) (small : sent.tag < 4294967296) where
@@ -110,7 +111,7 @@ module _ (s : Setup) (host : HostSetup) (h : List Entry) (x : SimHost) (settled 
       let remotes = All-contains (λ (d : Attached). AreAddresses d.remotes.items) host.devices of.about is.remote_addresses there in
       let other = All-contains (λ (a : Mac). length a.0 ≡ 6) of.about.remotes.items of.remote remotes (Contains-get _ _ of.remote ends.1) in
       subst (λ (g : List ℕ). Bears g (request_header c.op of.about.id of.remote of.local sent.tag)) of.is
-      (request-bears c.op of.about.id of.remote of.local sent.tag other own small)
+      (request-bears of.about.flush c.op of.about.id of.remote of.local sent.tag other own small)
 
   -- the history reads the path of a frame from its addresses
   path-back : path_of host (submission host h sent.ticket.0) f ≡ sent.path

@@ -18,7 +18,7 @@ ghost use Rattle.aoe_history.specs.Run.{is_plain};
 use crate::copies::op_copy;
 use aoe_base::{DeviceNo, FrameNo, Lifetimes, Millis, NoMemory, Ports, TargetId, Ticket, copy_of};
 use aoe_history::{Boxed, Entry, Run};
-use aoe_initiator::{Initiator, Op, SubmitRefusal, Taken, held_law};
+use aoe_initiator::{FlushCommand, Initiator, Op, SubmitRefusal, Taken, held_law};
 use aoe_script::Name;
 use std::alloc::Global;
 use std::marker::Model;
@@ -114,14 +114,15 @@ impl SimHost {
         })
     }
 
-    /// Attaches a device of `total` sectors that takes at most `max` of them in one command, and
-    /// whose shelf has the ports `remotes`.
+    /// Attaches a device of `total` sectors that takes at most `max` of them in one command, is
+    /// flushed by `flush`, and whose shelf has the ports `remotes`.
     pub fn attach(
         &mut self,
         dev: TargetId,
         remotes: &Ports,
         total: u64,
         max: u32,
+        flush: FlushCommand,
     ) -> Result<(), NoMemory>
         requires differ { IsDistinct remotes.now.items }
         requires total { total ≤ 2 ^ 48 }
@@ -131,14 +132,14 @@ impl SimHost {
         requires allowed { attach_refusal dev remotes.now.items self.old.core.devices ≡ None }
         ensures ok { OnOk result (self.new ≡ record self.old {
           core = with_device self.old.core
-              (new_device self.old.core.ports dev remotes.now.items total max self.old.core.life.requests.0);
+              (new_device self.old.core.ports dev remotes.now.items total max flush self.old.core.life.requests.0);
         }) }
         ensures matches { OnOk result ((log : List LogEvent) → Matches log self.old.core
             → Matches log self.new.core) }
         ensures err { OnErr result (self.new ≡ self.old) }
     {
         self.ids.reserve(1)?;
-        match self.core.attach(dev, remotes, total, max) {
+        match self.core.attach(dev, remotes, total, max, flush) {
             Ok(_) => {
                 self.ids.push_reserved(dev);
                 Ok(())

@@ -5,6 +5,7 @@ use Rattle.arrayvec.specs.ArrayVec.{ArrayVec}
 use Rattle.aoe_base.specs.declared.address.Mac.{Mac}
 use Rattle.aoe_base.specs.declared.counted.Lifetimes.{Lifetimes}
 use Rattle.aoe_initiator.specs.declared.device.Attached.{Attached}
+use Rattle.aoe_initiator.specs.declared.op.FlushCommand.TheVariants.{CacheExt}
 use Rattle.aoe_initiator.specs.Defaults.{default_dead, default_life, default_room}
 use Rattle.aoe_target.specs.Mounted.{station_of}
 use Rattle.aoe_history.specs.Groups.{Station}
@@ -52,9 +53,9 @@ abbrev pub slot_named : List Line → ArrayVec ℕ → ℕ → Option SlotSetup
 slot_named lines shelf minor =
     option_and_then (λ (s : Line). option_and_then (slot_by lines s) (find (is_slot shelf minor) lines)) (find (is_shelf_named shelf) lines)
 
--- what a host knows of a slot that it is attached to
+-- what a host knows of a slot that it is attached to: shelves take FLUSH CACHE EXT
 abbrev pub about : SlotSetup → Attached
-about slot = record { id = slot.station.id; remotes = slot.station.ports; total = slot.station.sectors; max = slot.station.max }
+about slot = record { id = slot.station.id; remotes = slot.station.ports; total = slot.station.sectors; max = slot.station.max; flush = CacheExt }
 
 abbrev pub attached_to : List Line → ArrayVec ℕ → Line → Option Attached
 attached_to lines host (Attach other shelf minor) = if same other host then option_map about (slot_named lines shelf minor) else None

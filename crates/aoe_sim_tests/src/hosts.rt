@@ -7,7 +7,7 @@ ghost use Rattle.aoe_script.specs.Classes.{is_name};
 use aoe_base::{FrameNo, Mac, NoMemory, Ports, Span, TargetId};
 use aoe_frame::Frame;
 use aoe_history::{Entry, History, Run};
-use aoe_initiator::{DEAD, LIFETIMES, Op, Outcome, SubmitRefusal};
+use aoe_initiator::{DEAD, FlushCommand, LIFETIMES, Op, Outcome, SubmitRefusal};
 use aoe_net::NetRefusal;
 use aoe_script::Name;
 use aoe_sim_hosts::SimHost;
@@ -50,7 +50,7 @@ fn attached(alloc: Global) -> Result<SimHost, NoMemory>
     ensures tickets { IfOk result (λ x. x.core.last_ticket ≡ 0) }
 {
     let mut host = SimHost::new(alloc, name(), &one(A), LIFETIMES, 4, DEAD)?;
-    host.attach(DEVICE, &one(SHELF), 16, 2)?;
+    host.attach(DEVICE, &one(SHELF), 16, 2, FlushCommand::CacheExt)?;
     Ok(host)
 }
 

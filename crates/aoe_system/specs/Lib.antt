@@ -1,2 +1,5 @@
--- `Names`: the absolute name of a file.
+-- `Names`: the absolute name of a file. `Named`: which part of a file is read, and what in one is left out. `Keeps`: what is taken
+-- for a keep.
+pub mod Keeps
 pub mod Names
+pub mod Named

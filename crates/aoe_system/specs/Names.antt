@@ -1,5 +1,5 @@
 -- The absolute name of a file.
-use Rattle.std.specs.Prelude.{Bool, List, ℕ, [], ◌∷◌, ◌++◌, ◌==◌, false, length, not, if◌then◌else◌, slice_index_or}
+use Rattle.std.specs.Prelude.{Bool, List, ℕ, [], ◌∷◌, ◌++◌, ◌==◌, length, not, if◌then◌else◌, slice_index_or}
 use Rattle.std.specs.List.{flat_map, slice_split}
 
 -- whether a part of a name says something: it isn't empty, and not `.` (46)

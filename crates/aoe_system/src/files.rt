@@ -1,9 +1,9 @@
 //! A file or a block device as a disk. It tells nothing of its content.
 ghost use Rattle.std.specs.Prelude.{◌≡◌, ◌<◌, ◌≤◌, ◌+◌, ◌^◌, ◌==◌, ◌&&◌, not, if◌then◌else◌, IfOk, IsErr, IsTrue, None, Some, OnErr, is_ok, length};
-ghost use Rattle.aoe_keep.specs.Content.{may_hold_keep as may_hold};
 ghost use Rattle.aoe_base.specs.Faults.{Rose};
 ghost use Rattle.aoe_disk.specs.Calls.{IsRange};
 ghost use Rattle.aoe_disk.specs.State.{DiskState};
+ghost use Rattle.aoe_system.specs.Keeps.{are_zeros, device_doubt, file_doubt};
 ghost use Rattle.libc.specs.Io.{Moved};
 
 use crate::log::FileLog;
@@ -28,6 +28,25 @@ const KEEP_LEN: usize = 8192;
 /// How many bytes at the beginning of a file tell whether it is an image of a known form.
 const FRONT_LEN: usize = 68;
 
+/// How many bytes of a mark are looked at.
+const MARK_LEN: usize = 8;
+
+/// Kinds of data that are often on a disk: where a mark of each stands, and what it is.
+static MARKS: [(u64, &[u8], &str); 12] = [
+    (0, b"QFI\xfb", "a qcow2 image"),
+    (0, b"XFSB", "XFS"),
+    (0, b"LUKS\xba\xbe", "LUKS"),
+    (3, b"NTFS", "NTFS"),
+    (512, b"EFI PART", "a partition table"),
+    (510, b"\x55\xaa", "a partition table or FAT"),
+    (512, b"LABELONE", "LVM"),
+    (1080, b"\x53\xef", "ext2, ext3 or ext4"),
+    (4086, b"SWAPSPAC", "swap space"),
+    (32768, b"JFS1", "JFS"),
+    (32769, b"CD001", "ISO 9660"),
+    (65600, b"_BHRfS_M", "btrfs"),
+];
+
 /// Why a file can't be a disk.
 #[derive(Drop)]
 pub enum FileRefusal {
@@ -49,6 +68,9 @@ pub enum KeepDoubt {
 
     /// It holds other data.
     Content,
+
+    /// It is a block device that holds none yet.
+    Device,
 
     /// It can't be read.
     Unread,
@@ -84,12 +106,18 @@ fn done_by(all: usize, answer: isize) -> io::Result<usize>
     Err(error)
 }
 
-/// Why a file, or a device, with these bytes at its beginning isn't taken for a keep.
-fn doubt_of(image: &[u8; KEEP_LEN], is_file: bool, len: u64) -> Option<KeepDoubt>
-    ensures { result ≡ (if is_file && not (len == 8192) then Some KeepDoubt.Size
-        else if may_hold image.now then None else Some KeepDoubt.Content) }
+/// Whether all bytes are zero.
+fn are_zeros(bytes: &[u8]) -> bool
+    ensures { result ≡ are_zeros bytes.now }
 {
-    if is_file && len != KEEP_LEN as u64 {
+    bytes.iter().all(|byte| *byte == 0)
+}
+
+/// Why a file of this length with these bytes at its beginning isn't taken for a keep.
+fn file_doubt(image: &[u8; KEEP_LEN], len: u64) -> Option<KeepDoubt>
+    ensures { result ≡ file_doubt len image.now }
+{
+    if len != KEEP_LEN as u64 {
         return Some(KeepDoubt::Size);
     }
     if may_hold_keep(image) {
@@ -97,6 +125,29 @@ fn doubt_of(image: &[u8; KEEP_LEN], is_file: bool, len: u64) -> Option<KeepDoubt
     } else {
         Some(KeepDoubt::Content)
     }
+}
+
+/// Why a block device with these bytes at its beginning isn't taken for a keep. Other data may stand
+/// behind zeros.
+fn device_doubt(image: &[u8; KEEP_LEN]) -> Option<KeepDoubt>
+    ensures { result ≡ device_doubt image.now }
+{
+    if may_hold_keep(image) && !are_zeros(image) {
+        None
+    } else {
+        Some(KeepDoubt::Device)
+    }
+}
+
+/// The kind of data whose mark stands on a file, where it is one of `MARKS`.
+fn kind_of(file: &File) -> Option<&'static str> {
+    'marks: for (at, mark, kind) in &MARKS {
+        let mut bytes = [0; MARK_LEN];
+        if file.read_exact_at(&mut bytes, *at).is_ok() && bytes.starts_with(mark) {
+            return Some(kind);
+        }
+    }
+    None
 }
 
 /// The form of the image that begins with these bytes, of those whose content isn't the disk itself.
@@ -226,9 +277,24 @@ impl FileDisk {
         }
         let mut image = [0; KEEP_LEN];
         match (self.file.metadata(), self.file.read_exact_at(&mut image, 0)) {
-            (Ok(metadata), Ok(())) => doubt_of(&image, metadata.is_file(), metadata.len()),
+            (Ok(metadata), Ok(())) if metadata.is_file() => file_doubt(&image, metadata.len()),
+            (Ok(_), Ok(())) => device_doubt(&image),
             _ => Some(KeepDoubt::Unread),
         }
+    }
+
+    /// How many of the bytes that a keep overwrites aren't zero; none where they can't be read.
+    pub fn used_bytes(&self) -> usize {
+        let mut image = [0; KEEP_LEN];
+        match self.file.read_exact_at(&mut image, 0) {
+            Ok(()) => image.iter().filter(|byte| **byte != 0).count(),
+            Err(_) => 0,
+        }
+    }
+
+    /// The kind of data that the file has, by a mark of its own, of those that are often on a disk.
+    pub fn kind(&self) -> Option<&'static str> {
+        kind_of(&self.file)
     }
 
     /// Counts a failed call, with the system's reason where it was made, and says it.

@@ -59,12 +59,12 @@ pub struct Flow {
 impl Flow {
     /// Of what is no copy: nothing is said.
     pub fn nowhere(rt: &HostRuntime) -> Flow {
-        Flow::at(rt, Place::Nowhere, Duration::from_millis(0), None)
+        Flow::at(rt, Place::Nowhere, Duration::from_millis(0))
     }
 
-    /// Of a copy of so many sectors, where that is known. It is said where standard error is a terminal, and
-    /// else by lines where that is asked for; and nowhere where the system tells no time.
-    pub fn new(rt: &HostRuntime, is_asked: bool, sectors: Option<u64>) -> Flow {
+    /// Of a copy. It is said where standard error is a terminal, and else by lines where that is asked for; and
+    /// nowhere where the system tells no time.
+    pub fn new(rt: &HostRuntime, is_asked: bool) -> Flow {
         let Ok(begin) = rt.monotonic() else {
             return Flow::nowhere(rt);
         };
@@ -75,14 +75,14 @@ impl Flow {
         } else {
             Place::Nowhere
         };
-        Flow::at(rt, place, begin, sectors)
+        Flow::at(rt, place, begin)
     }
 
-    fn at(rt: &HostRuntime, place: Place, begin: Duration, sectors: Option<u64>) -> Flow {
+    fn at(rt: &HostRuntime, place: Place, begin: Duration) -> Flow {
         Flow {
             rt: *rt,
             place,
-            sectors: Cell::new(sectors),
+            sectors: Cell::new(None),
             reached: Cell::new(0),
             begin,
             due: Cell::new(begin.saturating_add(Duration::from_millis(PERIOD))),
@@ -234,7 +234,7 @@ fn input_place(rt: &HostRuntime) -> Option<u64> {
 }
 
 /// How many whole sectors standard input has left, where it is a file.
-pub fn input_sectors(rt: &HostRuntime) -> Option<u64> {
+pub(crate) fn input_sectors(rt: &HostRuntime) -> Option<u64> {
     let input = fs::metadata(rt, INPUT).ok()?;
     if !input.file_type().is_file() {
         return None;

@@ -4,10 +4,12 @@
 -- `ListenLemmas`, `FoundLemmas`, `DiscoverLemmas`; of one device `OneLemmas`; of `stat` the specs
 -- Page, Visits and Stat, then `VisitLemmas`, `StatLemmas`; of the look-up before a copy the specs
 -- LookUp, then `AskLemmas`.
--- One more tool needs a question, `counted`, and what is said of the responses.
+-- One more tool needs a question, `counted`, and what is said of the responses. What holds an edit of masks back is in the spec
+-- Guard, with `GuardLemmas`.
 mod AskLemmas
 mod DiscoverLemmas
 mod FoundLemmas
+mod GuardLemmas
 mod JoinLemmas
 pub mod ListenLemmas
 mod OneLemmas

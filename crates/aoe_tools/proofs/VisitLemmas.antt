@@ -6,6 +6,7 @@ use Rattle.std.specs.Prelude.{Ok, Err, slice_get, slice_set}
 use Rattle.aoe_base.specs.declared.address.Mac.{Mac}
 use Rattle.aoe_base.specs.declared.failure.Failed.{Failed}
 use Rattle.aoe_initiator.specs.Request.{request}
+use Rattle.aoe_initiator.specs.declared.op.FlushCommand.TheVariants.{CacheExt}
 use Rattle.aoe_initiator.specs.declared.op.Op.TheVariants as op
 use Rattle.aoe_io.proofs.LinkLemmas.{Added-then, turned-then}
 use Rattle.aoe_io.specs.Link.{Added, Turn, Turned}
@@ -40,7 +41,7 @@ module _ {q : Question} {request : List ℕ} {limit start last : ℕ} {given giv
 module _ {first : ℕ} {port : Mac} {limit i : ℕ} {found found' : List Seen} {start last : ℕ} {given given' : Option (List Turn)} {taken taken' : Option Frames}
     {s : Seen} {q : Question} {bytes : List ℕ}
     (at : slice_get found i ≡ Some s) (q_is : q ≡ page_question first port (i + 1) s)
-    (bytes_are : bytes ≡ request op.Identify s.id (first_port s.ports.items) port q.tag) where
+    (bytes_are : bytes ≡ request CacheExt op.Identify s.id (first_port s.ports.items) port q.tag) where
   pub visited : {k : Known} {x : Seen} → slice_get found i ≡ Some x → found' ≡ slice_set found i (with_known x k)
       → AsksPage (Ok k) q bytes limit start last given given' taken taken'
       → VisitsOne (Ok tt) first port limit i found found' start last given given' taken taken'

@@ -3,6 +3,7 @@ use Rattle.std.specs.Prelude.{ℕ, ◌≡◌, ◌≤◌, ◌<◌, List, [], ◌�
 use Rattle.aoe_base.specs.Addresses.{broadcast}
 use Rattle.aoe_base.specs.declared.address.Mac.{Mac}
 use Rattle.aoe_initiator.specs.Request.{request}
+use Rattle.aoe_initiator.specs.declared.op.FlushCommand.TheVariants.{CacheExt}
 use Rattle.aoe_initiator.specs.declared.op.Op.TheVariants as op
 use Rattle.aoe_io.specs.Link.{Added, Turn, Turned}
 use Rattle.aoe_tools.specs.Asking.{Response, IsAnswered, everyone, responses, tag_of}
@@ -19,7 +20,7 @@ abbrev pub finding_question : ℕ → Mac → Question
 finding_question first port = record { subject = subject.Config; id = None; port = port; tag = tag_of first 0 }
 
 abbrev pub finding_request : ℕ → Mac → List ℕ
-finding_request first port = request (op.Config 0 []) everyone broadcast port (tag_of first 0)
+finding_request first port = request CacheExt (op.Config 0 []) everyone broadcast port (tag_of first 0)
 
 -- the devices that were found, or that nobody answered
 abbrev pub unless_none : ℕ → List Seen → Result (List Seen) ToolRefusal

@@ -1,7 +1,7 @@
 -- The exit status and the text of each way that a tool ends without its answer.
 use Rattle.std.specs.Prelude.{ℕ, List, ◌++◌, codes}
 use Rattle.std.specs.Fmt.{decimal}
-use Rattle.aoe_base.specs.Names.{pair_text}
+use Rattle.aoe_base.specs.Names.{mac_text, pair_text}
 use Rattle.aoe_tools.specs.declared.end.Refusal.{Refusal}
 use Rattle.aoe_tools.specs.declared.end.Refusal.TheVariants as refusal
 use Rattle.aoe_tools.specs.declared.end.ToolRefusal.{ToolRefusal}
@@ -20,6 +20,9 @@ refusal_text (refusal.Ata status error) = codes "aoe: refused: ATA status " ++ (
 refusal_text (refusal.Mask error) = codes "aoe: refused: mask error " ++ decimal error
 refusal_text refusal.Range = codes "aoe: refused: range"
 refusal_text (refusal.Differs sector) = codes "aoe: refused: sector " ++ (decimal sector ++ codes " differs")
+refusal_text (refusal.LocksOut port) = codes "aoe: this would lock " ++ (mac_text (record { 0 = port }) ++ codes " out: --anyway does it")
+refusal_text (refusal.Group mac) =
+    codes "aoe: " ++ (mac_text (record { 0 = mac }) ++ codes " is a group, from which no frame comes: --anyway adds it")
 
 abbrev pub text_of : ToolRefusal → List ℕ
 text_of tool.LinkFault = codes "aoe: link fault on port 0"

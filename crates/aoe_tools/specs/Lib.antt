@@ -2,6 +2,7 @@ pub mod Asking
 pub mod Discovery
 pub mod Ending
 pub mod Found
+pub mod Guard
 pub mod Listening
 pub mod LookUp
 pub mod One

@@ -1,15 +1,17 @@
--- The look-up of a device by two requests: where it is, and how long it is.
+-- The look-up of a device by two requests: where it is, how long it is, and by which command it is flushed.
 use Rattle.std.specs.Prelude.{ℕ, ◌≡◌, min, true, false, nat_lt, List, [], ◌∷◌, drop, Option, Some, None, Result, Ok, Err, if◌then◌else◌, slice_index, unwrap_or}
 use Rattle.aoe_base.specs.declared.address.Mac.{Mac}
 use Rattle.aoe_base.specs.declared.address.TargetId.{TargetId}
 use Rattle.aoe_base.specs.Addresses.{broadcast}
+use Rattle.aoe_initiator.specs.declared.op.FlushCommand.{FlushCommand}
+use Rattle.aoe_initiator.specs.declared.op.FlushCommand.TheVariants.{CacheExt}
 use Rattle.aoe_initiator.specs.declared.op.Op.TheVariants as op
 use Rattle.aoe_initiator.specs.declared.response.Answer.{Answer}
 use Rattle.aoe_initiator.specs.Request.{request}
 use Rattle.aoe_io.specs.Link.{Added, Turn, Turned}
 use Rattle.aoe_tools.specs.Asking.{Response, responses, tag_of}
 use Rattle.aoe_tools.specs.Waiting.{TookSome, asked}
-use Rattle.aoe_tools.specs.Page.{total_in as declared_in}
+use Rattle.aoe_tools.specs.Page.{flush_in, total_in}
 use Rattle.aoe_tools.specs.One.{is_done, refusal_of, GoesOn}
 use Rattle.aoe_tools.specs.declared.end.Refusal.{Refusal}
 use Rattle.aoe_tools.specs.declared.end.ToolRefusal.{ToolRefusal}
@@ -65,7 +67,7 @@ max_of most args = if nat_lt 1 (slice_index args 4) then min most (slice_index a
 
 -- how many sectors a device has: none where its page declares no number
 abbrev pub total_of : Answer → List ℕ → ℕ
-total_of a args = unwrap_or (declared_in a args) 0
+total_of a args = unwrap_or (total_in a args) 0
 
 abbrev pub config_question : Ask → TargetId → ℕ → Question
 config_question ask id first = record { subject = subject.Config; id = Some id; port = ask.port; tag = tag_of first 0 }
@@ -74,28 +76,29 @@ abbrev pub page_question : Ask → TargetId → ℕ → Question
 page_question ask id first = record { subject = subject.Page; id = Some id; port = ask.port; tag = tag_of first 1 }
 
 abbrev pub config_frame : Ask → TargetId → ℕ → List ℕ
-config_frame ask id first = request (op.Config 0 []) id broadcast ask.port (tag_of first 0)
+config_frame ask id first = request CacheExt (op.Config 0 []) id broadcast ask.port (tag_of first 0)
 
 abbrev pub page_frame : Ask → TargetId → ℕ → Mac → List ℕ
-page_frame ask id first remote = request op.Identify id remote ask.port (tag_of first 1)
+page_frame ask id first remote = request CacheExt op.Identify id remote ask.port (tag_of first 1)
 
 abbrev pub port_in : ℕ → Result Response ToolRefusal → Result (Mac × ℕ) ToolRefusal
 port_in most (Ok r) = Ok (r.reply.source, max_of most r.args)
 port_in most (Err e) = Err e
 
-abbrev pub total_in : Result Response ToolRefusal → Result ℕ ToolRefusal
-total_in (Ok r) = Ok (total_of r.reply.answer r.args)
-total_in (Err e) = Err e
+-- how many sectors it has by its page, and by which command it is flushed
+abbrev pub page_facts : Result Response ToolRefusal → Result (ℕ × FlushCommand) ToolRefusal
+page_facts (Ok r) = Ok (total_of r.reply.answer r.args, flush_in r.reply.answer r.args)
+page_facts (Err e) = Err e
 
-abbrev pub with_total : Mac × ℕ → Result ℕ ToolRefusal → Result Device ToolRefusal
-with_total (port, max) (Ok total) = Ok record { port = port; max = max; total = total }
-with_total found (Err e) = Err e
+abbrev pub with_page : Mac × ℕ → Result (ℕ × FlushCommand) ToolRefusal → Result Device ToolRefusal
+with_page (port, max) (Ok (total, flush)) = Ok record { port = port; max = max; total = total; flush = flush }
+with_page found (Err e) = Err e
 
--- once the device answered where it is, it is asked there how long it is
+-- once the device answered where it is, it is asked there for its page
 abbrev pub FindsAt : Result (Mac × ℕ) ToolRefusal → Result Device ToolRefusal → Ask → TargetId → ℕ → LinkState → LinkState → Type 0
 FindsAt (Ok found) result ask id first mid after =
     (page : Result Response ToolRefusal) × Asks page (page_question ask id first) (page_frame ask id first found.0) (look_up_turns ask) mid after
-    × (result ≡ with_total found (total_in page))
+    × (result ≡ with_page found (page_facts page))
 FindsAt (Err e) result ask id first mid after = (result ≡ Err e) × (after ≡ mid)
 
 -- a device is found by its response to a query config request to all, and by its page; a command has no more sectors than a number

@@ -5,6 +5,7 @@ use Rattle.aoe_base.specs.Addresses.{broadcast}
 use Rattle.aoe_base.specs.declared.address.Mac.{Mac}
 use Rattle.aoe_base.specs.declared.failure.Failed.{Failed}
 use Rattle.aoe_initiator.specs.Request.{request}
+use Rattle.aoe_initiator.specs.declared.op.FlushCommand.TheVariants.{CacheExt}
 use Rattle.aoe_initiator.specs.declared.op.Op.TheVariants as op
 use Rattle.aoe_io.specs.Link.{Added, Turn, Turned}
 use Rattle.aoe_tools.specs.Asking.{responses, tag_of}
@@ -26,7 +27,7 @@ abbrev pub page_question : ℕ → Mac → ℕ → Seen → Question
 page_question first port i s = record { subject = subject.Page; id = Some s.id; port = port; tag = tag_of first i }
 
 abbrev pub page_request : ℕ → Mac → ℕ → Seen → List ℕ
-page_request first port i s = request op.Identify s.id (first_port s.ports.items) port (tag_of first i)
+page_request first port i s = request CacheExt op.Identify s.id (first_port s.ports.items) port (tag_of first i)
 
 -- a device is asked in these turns, the latest first
 pub record Visit : Type 0 where

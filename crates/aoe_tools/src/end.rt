@@ -2,7 +2,7 @@
 ghost use Rattle.std.specs.Prelude.{◌≡◌, ◌<◌, IfOk};
 ghost use Rattle.aoe_tools.specs.Ending.{code_of, refusal_text, text_of};
 
-use aoe_base::{Blob, NoMemory, append, pair};
+use aoe_base::{Blob, Mac, NoMemory, append, pair, put, put_mac};
 use arrayvec::ArrayVec;
 use std::alloc::Global;
 
@@ -39,6 +39,12 @@ pub enum Refusal {
 
     /// This sector, the first such one, was written and flushed, and came back with other bytes.
     Differs { sector: u64 },
+
+    /// The edit of a mask list would shut out this port, from which it is asked for; it wasn't sent.
+    LocksOut { port: [u8; 6] },
+
+    /// The edit of a mask list would add this address of a group; it wasn't sent.
+    Group { mac: [u8; 6] },
 }
 
 impl ToolRefusal {
@@ -85,7 +91,34 @@ fn refused_text(alloc: Global, refusal: Refusal) -> Result<Blob, NoMemory>
         Refusal::Mask(error) => mask_text(alloc, error),
         Refusal::Range => Blob::of(alloc, b"aoe: refused: range"),
         Refusal::Differs { sector } => differs_text(alloc, sector),
+        Refusal::LocksOut { port } => locks_out_text(alloc, Mac(port)),
+        Refusal::Group { mac } => group_text(alloc, Mac(mac)),
     }
+}
+
+/// The text for an edit that would shut out the port that asks for it.
+fn locks_out_text(alloc: Global, port: Mac) -> Result<Blob, NoMemory>
+    ensures { IfOk result (λ text. text ≡ refusal_text (Refusal.LocksOut port.0)) }
+{
+    let mut out = Vec::new(alloc);
+    put(&mut out, b"aoe: this would lock ")?;
+    put_mac(&mut out, &port)?;
+    put(&mut out, b" out: --anyway does it")?;
+    Ok(Blob::from_vec(out))
+}
+
+/// The text for an edit that would add the address of a group.
+fn group_text(alloc: Global, mac: Mac) -> Result<Blob, NoMemory>
+    ensures { IfOk result (λ text. text ≡ refusal_text (Refusal.Group mac.0)) }
+{
+    let mut out = Vec::new(alloc);
+    put(&mut out, b"aoe: ")?;
+    put_mac(&mut out, &mac)?;
+    put(
+        &mut out,
+        b" is a group, from which no frame comes: --anyway adds it",
+    )?;
+    Ok(Blob::from_vec(out))
 }
 
 /// The text for a sector that came back with other bytes.

@@ -4,10 +4,11 @@ ghost use Rattle.aoe_base.specs.Faults.{Blamed};
 ghost use Rattle.aoe_initiator.specs.Response.{CanFill};
 ghost use Rattle.aoe_lists.specs.Settings.{max_directives};
 ghost use Rattle.aoe_tools.specs.One.{AsksOne, args_of, edits_by, told_len};
-ghost use Rattle.aoe_tools.specs.Runs.{RunsConfig, RunsMasks, RunsReserves, told};
+ghost use Rattle.aoe_tools.specs.Runs.{AsksMasks, EditsGuarded, RunsConfig, RunsMasks, RunsReserves, told};
 
 use crate::asking::ask;
 use crate::end::ToolRefusal;
+use crate::guard::held_back;
 use crate::question::{Ask, Question, Reply, Subject};
 use crate::request::{config_request, mask_request, reserve_request};
 use aoe_base::{Mac, TargetId, append};
@@ -85,28 +86,82 @@ pub fn cfg<L: Link, C: Clock>(
     ask_one(&question, &request, ask.turns, link)
 }
 
-/// Reads the mask list of a device, or edits it by directives. Takes no memory.
+/// Asks for the mask list of a device, or for an edit of it, as request number `i` of a tool.
+fn ask_masks<L: Link>(
+    ask_by: &Ask,
+    id: TargetId,
+    dirs: Option<&[Dir]>,
+    first: u64,
+    i: u64,
+    link: &mut L,
+) -> Result<Args, ToolRefusal>
+    requires { length (edits_by (option_copied dirs)).1 ≤ max_directives }
+    ensures run { AsksMasks result (option_copied dirs.entry) id ask_by.now first i
+        (record { turns = L.turns link.old; given = L.given link.old; taken = L.taken link.old })
+        (record { turns = L.turns link.new; given = L.given link.new; taken = L.taken link.new }) }
+    ensures count { L.faults link.old ≤ L.faults link.new }
+    ensures link { Blamed (result ≡ Err ToolRefusal.LinkFault) (L.faults link.old)
+        (L.faults link.new) }
+{
+    let question = ask_by.question(Subject::Masks, Some(id), first, i);
+    let mut request = Frame::new();
+    match dirs {
+        Some(dirs) => mask_request(true, dirs, id, ask_by.port, question.tag, &mut request),
+        None => mask_request(false, &[], id, ask_by.port, question.tag, &mut request),
+    }
+    ask_one(&question, &request, ask_by.turns, link)
+}
+
+/// Reads the mask list of a device, and edits it unless that would shut out the port that asks, or add a
+/// group.
+fn edit_guarded<L: Link>(
+    ask_by: &Ask,
+    id: TargetId,
+    dirs: &[Dir],
+    first: u64,
+    link: &mut L,
+) -> Result<Args, ToolRefusal>
+    requires { length dirs.now ≤ max_directives }
+    ensures run { EditsGuarded result dirs.now id ask_by.now first
+        (record { turns = L.turns link.old; given = L.given link.old; taken = L.taken link.old })
+        (record { turns = L.turns link.new; given = L.given link.new; taken = L.taken link.new }) }
+    ensures count { L.faults link.old ≤ L.faults link.new }
+    ensures link { Blamed (result ≡ Err ToolRefusal.LinkFault) (L.faults link.old)
+        (L.faults link.new) }
+{
+    let list = match ask_masks(ask_by, id, None, first, 0, link) {
+        Ok(list) => list,
+        Err(refusal) => return Err(refusal),
+    };
+    match held_back(ask_by.port, dirs, &list) {
+        Some(refusal) => Err(ToolRefusal::Refused(refusal)),
+        None => ask_masks(ask_by, id, Some(dirs), first, 1, link),
+    }
+}
+
+/// Reads the mask list of a device, or edits it by directives. Unless `anyway` is set the list is read
+/// before an edit, and the edit isn't sent where it would shut out the port that asks, or add a group's
+/// address. Takes no memory.
 pub fn mask<L: Link, C: Clock>(
     ask: &Ask,
     id: TargetId,
     dirs: Option<&[Dir]>,
+    anyway: bool,
     link: &mut L,
     clock: &mut C,
 ) -> Result<Args, ToolRefusal>
     requires { length (edits_by (option_copied dirs)).1 ≤ max_directives }
-    ensures run { RunsMasks result (option_copied dirs.entry) id ask.now
+    ensures run { RunsMasks result (option_copied dirs.entry) anyway id ask.now
         (told C.least C.answers L.turns L.given L.taken clock.old clock.new link.old link.new) }
     ensures count { L.faults link.old ≤ L.faults link.new }
     ensures link { Blamed (result ≡ Err ToolRefusal.LinkFault) (L.faults link.old)
         (L.faults link.new) }
 {
-    let question = ask.question(Subject::Masks, Some(id), clock.now(), 0);
-    let mut request = Frame::new();
+    let first = clock.now();
     match dirs {
-        Some(dirs) => mask_request(true, dirs, id, ask.port, question.tag, &mut request),
-        None => mask_request(false, &[], id, ask.port, question.tag, &mut request),
+        Some(dirs) if !anyway => edit_guarded(ask, id, dirs, first, link),
+        dirs => ask_masks(ask, id, dirs, first, 0, link),
     }
-    ask_one(&question, &request, ask.turns, link)
 }
 
 /// Reads or sets the reserve list of a device: `rcmd` is the field RCmd. Takes no memory.

@@ -3,16 +3,16 @@ ghost use Rattle.std.specs.Prelude.{◌≡◌, ◌≤◌, ◌<◌, ◌^◌, Err,
 ghost use Rattle.aoe_base.specs.Faults.{Blamed};
 ghost use Rattle.aoe_tools.specs.Asking.{Response};
 ghost use Rattle.aoe_tools.specs.declared.end.ToolRefusal.{ToolRefusal as Refused};
-ghost use Rattle.aoe_tools.specs.LookUp.{config_frame, config_question, look_up_turns, max_of, page_frame, page_question, port_in, total_in, Asks, Finds};
+ghost use Rattle.aoe_tools.specs.LookUp.{config_frame, config_question, look_up_turns, max_of, page_facts, page_frame, page_question, port_in, Asks, Finds};
 
 use crate::asking::ask;
 use crate::end::ToolRefusal;
+use crate::page::{flush_in, total_in};
 use crate::question::{Ask, Subject};
 use crate::request::config_request;
-use crate::visiting::total_in;
 use aoe_base::{Mac, TargetId};
 use aoe_frame::{Frame, HEADER_LEN};
-use aoe_initiator::{Op, write_request};
+use aoe_initiator::{FlushCommand, Op, write_request};
 use aoe_io::Link;
 
 /// How many turns a request of a look-up waits at most: three seconds on a link where nothing comes,
@@ -30,6 +30,9 @@ pub struct Device {
 
     /// How many sectors the device has.
     pub total: u64,
+
+    /// The command by which it is flushed.
+    pub flush: FlushCommand,
 }
 
 /// How many sectors a command has at most, by the arguments of a query config response: as many as
@@ -80,17 +83,18 @@ fn find_port<L: Link>(
     }
 }
 
-/// Asks a device at a port how many sectors it has: none where its page declares no number.
-fn find_total<L: Link>(
+/// Asks a device at a port how many sectors it has, none where its page declares no number, and by
+/// which command it is flushed.
+fn find_page<L: Link>(
     ask_by: &Ask,
     id: TargetId,
     remote: Mac,
     first: u64,
     link: &mut L,
-) -> Result<u64, ToolRefusal>
+) -> Result<(u64, FlushCommand), ToolRefusal>
     ensures asks { (r : Result Response Refused) × Asks r (page_question ask_by.now id first) (page_frame ask_by.now id first remote) (look_up_turns ask_by.now) (record { turns = L.turns link.old; given = L.given link.old; taken = L.taken link.old }) (record { turns = L.turns link.new; given = L.given link.new; taken = L.taken link.new })
-        × (result ≡ total_in r) }
-    ensures bound { IfOk result (λ total. total < 2 ^ 48) }
+        × (result ≡ page_facts r) }
+    ensures bound { IfOk result (λ found. found.0 < 2 ^ 48) }
     ensures count { L.faults link.old ≤ L.faults link.new }
     ensures link { Blamed (result ≡ Err ToolRefusal.LinkFault) (L.faults link.old)
         (L.faults link.new) }
@@ -99,6 +103,7 @@ fn find_total<L: Link>(
     let mut request = Frame::new();
     write_request(
         &Op::Identify,
+        FlushCommand::CacheExt,
         id,
         remote,
         ask_by.port,
@@ -107,12 +112,16 @@ fn find_total<L: Link>(
     );
     let mut frame = Frame::new();
     match ask(&question, &request, turns_of(ask_by), link, &mut frame) {
-        Ok(reply) => Ok(total_in(reply.answer, &frame[HEADER_LEN..]).unwrap_or(0)),
+        Ok(reply) => {
+            let args = &frame[HEADER_LEN..];
+            let total = total_in(reply.answer, args).unwrap_or(0);
+            Ok((total, flush_in(reply.answer, args)))
+        }
         Err(refusal) => Err(refusal),
     }
 }
 
-/// Finds a device: where it is, and how long. A command to it has at most `most` sectors. Each of the
+/// Finds a device: where it is, how long, and by which command it is flushed. A command to it has at most `most` sectors. Each of the
 /// two requests waits as many turns as `ask_by` says, but no more than 300.
 pub fn look_up<L: Link>(
     ask_by: &Ask,
@@ -135,8 +144,13 @@ pub fn look_up<L: Link>(
         Ok(found) => found,
         Err(refusal) => return Err(refusal),
     };
-    match find_total(ask_by, id, port, first, link) {
-        Ok(total) => Ok(Device { port, max, total }),
+    match find_page(ask_by, id, port, first, link) {
+        Ok((total, flush)) => Ok(Device {
+            port,
+            max,
+            total,
+            flush,
+        }),
         Err(refusal) => Err(refusal),
     }
 }

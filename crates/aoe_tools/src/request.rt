@@ -1,7 +1,8 @@
-//! The frames that tools send.
+//! The frames that tools send. None is a flush, so that any flush command makes them what they are.
 ghost use Rattle.std.specs.Prelude.{◌≡◌, ◌≤◌, length};
 ghost use Rattle.aoe_base.specs.Addresses.{broadcast};
 ghost use Rattle.aoe_frame.specs.Header.{header_bytes};
+ghost use Rattle.aoe_initiator.specs.declared.op.FlushCommand.TheVariants.{CacheExt};
 ghost use Rattle.aoe_initiator.specs.declared.op.Op.TheVariants as op;
 ghost use Rattle.aoe_initiator.specs.Request.{request};
 ghost use Rattle.aoe_lists.specs.Settings.{max_directives};
@@ -40,7 +41,7 @@ pub(crate) fn config_request(
     out: &mut Frame,
 )
     requires { length text.now ≤ 1024 }
-    ensures { out.new.items ≡ request (op.Config ccmd text.now) id broadcast port tag }
+    ensures { out.new.items ≡ request CacheExt (op.Config ccmd text.now) id broadcast port tag }
 {
     begin(1, id, port, tag, out);
     append_config_args(ccmd, text, out);
@@ -58,7 +59,7 @@ pub(crate) fn mask_request(
     out: &mut Frame,
 )
     requires { length dirs.now ≤ max_directives }
-    ensures { out.new.items ≡ request (op.Masks edit
+    ensures { out.new.items ≡ request CacheExt (op.Masks edit
         (record { items = dirs.now })) id broadcast port tag }
 {
     begin(2, id, port, tag, out);
@@ -77,7 +78,7 @@ pub(crate) fn reserve_request(
     out: &mut Frame,
 )
     requires { length list.now ≤ max_directives }
-    ensures { out.new.items ≡ request (op.Reserve rcmd
+    ensures { out.new.items ≡ request CacheExt (op.Reserve rcmd
         (record { items = list.now })) id broadcast port tag }
 {
     begin(3, id, port, tag, out);

@@ -189,7 +189,7 @@ fn behind(args: &[u8], fixed: usize) -> &[u8]
 }
 
 /// The arguments behind the fixed ones, in pieces of `N` bytes each.
-fn pieces<const N: usize>(args: &[u8], fixed: usize) -> &[[u8; N]]
+pub(crate) fn pieces<const N: usize>(args: &[u8], fixed: usize) -> &[[u8; N]]
     requires { 0 < N }
     ensures { result.now ≡ pieces N fixed args.now }
 {

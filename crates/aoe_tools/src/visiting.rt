@@ -2,9 +2,10 @@
 ghost use Rattle.std.specs.Prelude.{◌≡◌, ◌≤◌, ◌<◌, ◌-◌, ◌^◌, Err, IfSome, length, is_err, true};
 ghost use Rattle.aoe_base.specs.Faults.{Blamed};
 ghost use Rattle.aoe_initiator.specs.Response.{CanFill};
+ghost use Rattle.aoe_initiator.specs.declared.op.FlushCommand.TheVariants.{CacheExt};
 ghost use Rattle.aoe_initiator.specs.declared.op.Op.TheVariants as op;
 ghost use Rattle.aoe_initiator.specs.Request.{request};
-ghost use Rattle.aoe_tools.specs.Page.{known_by, state_by, total_in};
+ghost use Rattle.aoe_tools.specs.Page.{known_by, state_by};
 ghost use Rattle.aoe_tools.specs.Runs.{RunsStat, told};
 ghost use Rattle.aoe_tools.specs.Visits.{AsksPage, VisitsAll, VisitsOne, first_port};
 
@@ -12,39 +13,17 @@ use crate::asking::listen;
 use crate::end::ToolRefusal;
 use crate::finding::find;
 use crate::found::{Found, Known, Seen, State};
+use crate::page::total_in;
 use crate::question::{Ask, Question, Subject};
 use crate::wait::Wait;
-use aoe_ata::read_identify;
 use aoe_base::{BROADCAST, Failed, Mac};
 use aoe_frame::{Frame, HEADER_LEN};
-use aoe_initiator::{Answer, Op, write_request};
+use aoe_initiator::{Answer, FlushCommand, Op, write_request};
 use aoe_io::{Clock, Link};
 use std::alloc::Global;
 
 /// The error of a device that other stations reserve (AoEr11, "Error").
 const IS_RESERVED: u8 = 6;
-
-/// The registers stand before the page (AoEr11, "ATA Command").
-const REGISTERS_LEN: usize = 12;
-
-/// How many sectors the page of a response declares.
-pub(crate) fn total_in(answer: Answer, args: &[u8]) -> Option<u64>
-    requires { CanFill answer args.now 512 }
-    ensures value { result ≡ total_in answer args.now }
-    ensures bound { IfSome result (λ total. total < 2 ^ 48) }
-{
-    match answer {
-        Answer::Data { .. } => match args[REGISTERS_LEN..].first_chunk::<512>() {
-            Some(page) => read_identify(page),
-            None => None,
-        },
-        Answer::Told { .. }
-        | Answer::Written
-        | Answer::Flushed
-        | Answer::AtaError { .. }
-        | Answer::AoeError(_) => None,
-    }
-}
 
 /// The state of a device by its response.
 fn state_by(total: Option<u64>, answer: Answer) -> State
@@ -79,11 +58,19 @@ fn first_port(ports: &[Mac]) -> Mac
 
 /// Makes `out` the request for the page of a device.
 fn page_request(seen: &Seen, port: Mac, tag: u32, out: &mut Frame)
-    ensures { out.new.items ≡ request op.Identify seen.now.id
+    ensures { out.new.items ≡ request CacheExt op.Identify seen.now.id
         (first_port seen.now.ports.items) port tag }
 {
     let remote = first_port(seen.ports.as_slice());
-    write_request(&Op::Identify, seen.id, remote, port, tag, out);
+    write_request(
+        &Op::Identify,
+        FlushCommand::CacheExt,
+        seen.id,
+        remote,
+        port,
+        tag,
+        out,
+    );
 }
 
 /// Sends a request for a page, and waits for the first response that counts.

@@ -1,6 +1,7 @@
 -- A keep that was mounted, and what is left of it.
 use Rattle.std.proofs.Common.{◌≡◌, ◌⊎◌, ℕ, Bool, true, false, if◌then◌else◌, List, [], ◌∷◌, ◌==◌, length, Option, Some, None, IfSome, OnOk, OnErr, Result, Ok, Err, is_err, ap, inl, inr, refl, sym, subst, ◌∙◌, arith, ne_eqb}
 use Rattle.std.proofs.Math.Bool.{beq}
+use Rattle.std.proofs.lemmas.Bool.{both_ways, cases_Bool, cases_eq}
 use Rattle.aoe_base.specs.Faults.{Rose}
 use Rattle.aoe_base.specs.declared.failure.Failed.{Failed}
 use Rattle.aoe_base.specs.declared.address.Mac.{Mac}
@@ -13,7 +14,8 @@ use Rattle.aoe_keep.specs.Keep.{Kept, KeepsOthers, Mounts}
 use Rattle.aoe_keep.specs.declared.place.Place.{Place}
 use Rattle.aoe_keep.specs.declared.refusal.MountRefusal.{MountRefusal}
 use Rattle.aoe_keep.proofs.Offers.{finds_offered}
-use Rattle.aoe_lists.specs.Settings.{Settings}
+use Rattle.aoe_lists.specs.Settings.{Settings, empty_settings, same_settings}
+use Rattle.aoe_lists.proofs.ChangeLemmas.{same_settings-Decides}
 use Rattle.aoe_upkeep.specs.Upkeep.{Change, Changed, Changes, Holds, IsCaused, Says, Shows, cleared, clearing, ended_by, is_clear, is_disk_fault, line, marked, marking}
 use Rattle.aoe_upkeep.specs.declared.change.Part.{Part}
 use Rattle.aoe_upkeep.specs.declared.change.Part.TheVariants as part
@@ -167,13 +169,42 @@ module _ {D : Type 0} (state : D → DiskState) (change : Change) (Still : Type 
         → ((Still → ⊥) → IsRun 6 (is_err w) (state old.disk) (state new.disk)) → IsCaused state (ended_by w) disk new.disk
     causes-of w same run = mounted-causes state disk new.disk (ended_by w) (state old.disk) old.lists holds.mounts (ended-in w) (rose-in w same run)
 
--- ---- the mark
+-- ---- which lists are the same
 
-pub decide-mark : (a b : Bool) → (a ≡ b) ⊎ (a ≡ b → ⊥)
-decide-mark true true = inl refl
-decide-mark false false = inl refl
-decide-mark true false = inr (λ e. absurd cc)
-decide-mark false true = inr (λ e. absurd cc)
+pub decide-lists : (a b : Settings) → (a ≡ b) ⊎ (a ≡ b → ⊥)
+decide-lists a b = let d = same_settings-Decides a b in elim (cases_Bool (same_settings a b)) [
+  | inl same ↦ inl (d.0 same)
+  | inr other ↦ inr (λ e. both_ways (same_settings a b) other (d.1 e))
+]
+
+pub decide-new : (l : Settings) (format : ℕ) → ((l ≡ empty_settings) × (format ≡ 2)) ⊎ ((l ≡ empty_settings) × (format ≡ 2) → ⊥)
+decide-new l format = elim (decide-lists l empty_settings) [
+  | inl same ↦ elim (cases_eq format 2) [
+    | inl is ↦ inl (same, is)
+    | inr not ↦ inr (λ e. not e.1)
+  ]
+  | inr other ↦ inr (λ e. other e.0)
+]
+
+-- lists were to stand, and were written where they didn't
+module _ {D : Type 0} (state : D → DiskState) (change : Change) (disk : D) (old new : Kept D)
+    (holds : Holds (state disk) (state old.disk) (format_at old.place) old.lists) (next : Settings) (is : next ≡ change.lists old.lists)
+    (w : Result Unit Failed) (same : old.lists ≡ next → (new ≡ old) × (is_err w ≡ false))
+  where
+    pub put-changes : (old.lists ≡ change.lists old.lists → change.format (format_at old.place) old.lists ≡ format_at old.place)
+        → ((old.lists ≡ change.lists old.lists → ⊥) → change.format (format_at old.place) old.lists ≡ 2)
+        → ((old.lists ≡ next → ⊥) → OnOk w (AlwaysFinds (state new.disk) next × AlwaysFindsFormat (state new.disk) 2))
+        → ((old.lists ≡ next → ⊥) → OnErr w (FindsOffered (state old.disk) (state new.disk) old.lists next))
+        → ((old.lists ≡ next → ⊥) → KeepsOthers (state old.disk) (state new.disk)) → Changes state change (ended_by w) disk new.disk
+    put-changes quiet loud finds offered others = changes-of state change (old.lists ≡ next) disk old new holds (decide-lists old.lists next)
+        (λ e. (sym is ∙ sym e, quiet (e ∙ is))) (λ not. loud (λ e. not (e ∙ sym is))) (λ not e f. not (sym e ∙ sym is)) w same
+        (λ not. subst (λ (l : Settings). OnOk w (AlwaysFinds (state new.disk) l × AlwaysFindsFormat (state new.disk) 2)) is (finds not))
+        (λ not. subst (λ (l : Settings). OnErr w (FindsOffered (state old.disk) (state new.disk) old.lists l)) is (offered not)) others
+
+    pub put-causes : ((old.lists ≡ next → ⊥) → IsRun 6 (is_err w) (state old.disk) (state new.disk)) → IsCaused state (ended_by w) disk new.disk
+    put-causes run = causes-of state change (old.lists ≡ next) disk old new holds (decide-lists old.lists next) w same run
+
+-- ---- the mark
 
 same-format : (a b : Bool) (f : ℕ) → a ≡ b → (if beq a b then f else 2) ≡ f
 same-format true true f e = refl
@@ -181,7 +212,7 @@ same-format false false f e = refl
 same-format true false f e = absurd cc
 same-format false true f e = absurd cc
 
-pub new-format : (a b : Bool) (f : ℕ) → (a ≡ b → ⊥) → (if beq a b then f else 2) ≡ 2
+new-format : (a b : Bool) (f : ℕ) → (a ≡ b → ⊥) → (if beq a b then f else 2) ≡ 2
 new-format true true f not = absurd (not refl)
 new-format false false f not = absurd (not refl)
 new-format true false f not = refl
@@ -190,21 +221,13 @@ new-format false true f not = refl
 same-lists : (l : Settings) (b : Bool) → l.read_only ≡ b → marked b l ≡ l
 same-lists l b e = subst (λ (x : Bool). marked x l ≡ l) e refl
 
-pub quiet-mark : (b : Bool) (f : ℕ) (l : Settings) → l.read_only ≡ b → ((marking b).lists l ≡ l) × ((marking b).format f l ≡ f)
-quiet-mark b f l e = (same-lists l b e, same-format l.read_only b f e)
+pub quiet-mark : (b : Bool) (f : ℕ) (l : Settings) → l ≡ marked b l → (marking b).format f l ≡ f
+quiet-mark b f l e = same-format l.read_only b f (ap (λ (s : Settings). s.read_only) e)
 
-pub apart-mark : (b : Bool) (l : Settings) → (l.read_only ≡ b → ⊥) → marked b l ≡ l → ⊥
-apart-mark b l not e = not (sym (ap (λ s. s.read_only) e))
+pub loud-mark : (b : Bool) (f : ℕ) (l : Settings) → (l ≡ marked b l → ⊥) → (marking b).format f l ≡ 2
+loud-mark b f l not = new-format l.read_only b f (λ e. not (sym (same-lists l b e)))
 
 -- ---- a part that is emptied
-
-pub decide-clear : (a : Bool) → (a ≡ true) ⊎ (a ≡ true → ⊥)
-decide-clear true = inl refl
-decide-clear false = inr (λ e. absurd cc)
-
-pub full-format : (a : Bool) (f : ℕ) → (a ≡ true → ⊥) → (if a then f else 2) ≡ 2
-full-format true f not = absurd (not refl)
-full-format false f not = refl
 
 is-empty : {A : Type 0} (xs : List A) → (length xs == 0) ≡ true → xs ≡ []
 is-empty [] e = refl
@@ -215,10 +238,17 @@ clear-lists part.Config l e = subst (λ (x : List ℕ). (let s : Settings = reco
 clear-lists part.Masks l e = subst (λ (x : List Mac). (let s : Settings = record l { masks = x } in s) ≡ l) (is-empty l.masks e) refl
 clear-lists part.Reserves l e = subst (λ (x : List Mac). (let s : Settings = record l { reserves = x } in s) ≡ l) (is-empty l.reserves e) refl
 
-pub quiet-clear : (p : Part) (f : ℕ) (l : Settings) → is_clear p l ≡ true → ((clearing p).lists l ≡ l) × ((clearing p).format f l ≡ f)
-quiet-clear p f l e = (clear-lists p l e, rw e refl)
+clear-is : (p : Part) (l : Settings) → l ≡ cleared p l → is_clear p l ≡ true
+clear-is part.Config l e = ap (λ (s : Settings). length s.config == 0) e
+clear-is part.Masks l e = ap (λ (s : Settings). length s.masks == 0) e
+clear-is part.Reserves l e = ap (λ (s : Settings). length s.reserves == 0) e
 
-pub apart-clear : (p : Part) (l : Settings) → (is_clear p l ≡ true → ⊥) → cleared p l ≡ l → ⊥
-apart-clear part.Config l not e = not (ap (λ s. length s.config == 0) (sym e))
-apart-clear part.Masks l not e = not (ap (λ s. length s.masks == 0) (sym e))
-apart-clear part.Reserves l not e = not (ap (λ s. length s.reserves == 0) (sym e))
+pub quiet-clear : (p : Part) (f : ℕ) (l : Settings) → l ≡ cleared p l → (clearing p).format f l ≡ f
+quiet-clear p f l e = rw (clear-is p l e) refl
+
+pub loud-clear : (p : Part) (f : ℕ) (l : Settings) → (l ≡ cleared p l → ⊥) → (clearing p).format f l ≡ 2
+loud-clear p f l not = full-format (is_clear p l) f (λ e. not (sym (clear-lists p l e)))
+  where
+    full-format : (a : Bool) (f : ℕ) → (a ≡ true → ⊥) → (if a then f else 2) ≡ 2
+    full-format true f not = absurd (not refl)
+    full-format false f not = refl

@@ -5,10 +5,10 @@ use Rattle.aoe_base.specs.Faults.{Rose}
 use Rattle.aoe_base.specs.declared.failure.Failed.{Failed}
 use Rattle.aoe_disk.specs.State.{DiskState}
 use Rattle.aoe_io.specs.Bytes.{Took, TookSome}
-use Rattle.aoe_keep.specs.Found.{AlwaysFinds, AlwaysFindsFormat, Finds, format_found, found}
-use Rattle.aoe_keep.specs.Keep.{IsRefused, KeepsOthers, Mounts}
+use Rattle.aoe_keep.specs.Found.{AlwaysFinds, AlwaysFindsFormat, Finds, format_at, format_found, found}
+use Rattle.aoe_keep.specs.Keep.{IsRefused, Kept, KeepsOthers, Mounts}
 use Rattle.aoe_keep.specs.declared.refusal.MountRefusal.TheVariants as refusal
-use Rattle.aoe_lists.specs.Settings.{Settings}
+use Rattle.aoe_lists.specs.Settings.{Settings, empty_settings}
 use Rattle.aoe_script.specs.Print.{line_text, lists_words}
 use Rattle.aoe_upkeep.specs.declared.change.Part.{Part}
 use Rattle.aoe_upkeep.specs.declared.change.Part.TheVariants as part
@@ -91,6 +91,14 @@ clearing part = record {
   lists = cleared part;
   format = λ format lists. if is_clear part lists then format else 2;
 }
+
+-- what a new keep has: empty lists, in format 2
+abbrev pub creating : Change
+creating = record { lists = λ lists. empty_settings; format = λ format lists. 2 }
+
+-- a keep that has just these
+abbrev pub IsNew : {D : Type 0} → Kept D → Type 0
+IsNew keep = (keep.lists ≡ empty_settings) × (format_at keep.place ≡ 2)
 
 -- A keep was mounted and changed: every crash finds the lists and the format that the change makes. Where it makes nothing new no device
 -- call is made.

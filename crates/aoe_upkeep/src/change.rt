@@ -3,13 +3,14 @@ ghost use Rattle.std.specs.Prelude.{◌≡◌, ◌≢◌, OnErr, OnOk, is_err, f
 ghost use Rattle.aoe_disk.specs.Calls.{IsRun};
 ghost use Rattle.aoe_keep.specs.Found.{AlwaysFinds, AlwaysFindsFormat, FindsOffered};
 ghost use Rattle.aoe_keep.specs.Keep.{KeepsOthers};
-ghost use Rattle.aoe_upkeep.specs.Upkeep.{Changes, IsCaused, cleared, clearing, ended_by, is_clear, marked, marking, upgrading};
+ghost use Rattle.aoe_lists.specs.Settings.{empty_settings};
+ghost use Rattle.aoe_upkeep.specs.Upkeep.{Changes, IsCaused, IsNew, cleared, clearing, creating, ended_by, marked, marking, upgrading};
 
 use crate::UpkeepStop;
 use aoe_base::Failed;
 use aoe_disk::Disk;
 use aoe_keep::Keep;
-use aoe_lists::Lists;
+use aoe_lists::{Lists, same_settings_is_equality};
 
 /// A part of what a device keeps for its hosts.
 #[derive(Clone, Copy, Debug, PartialEq, Eq)]
@@ -48,26 +49,24 @@ pub fn upgrade<D: Disk>(disk: D) -> (Result<(), UpkeepStop>, D)
     (ended_by(written), keep.close())
 }
 
-/// Sets or clears the mark of a keep's lists. Where it stands so nothing is written.
-fn set_mark<D: Disk>(keep: &mut Keep<D>, read_only: bool) -> Result<(), Failed>
-    ensures same { keep.old.lists.read_only ≡ read_only → (keep.new ≡ keep.old)
-        × (is_err result ≡ false) }
-    ensures finds { keep.old.lists.read_only ≢ read_only → OnOk result
-        (AlwaysFinds (D.state keep.new.disk) (marked read_only keep.old.lists)
+/// Makes these the lists of a keep. Where they are nothing is written.
+fn put<D: Disk>(keep: &mut Keep<D>, next: &Lists) -> Result<(), Failed>
+    ensures same { keep.old.lists ≡ next.now → (keep.new ≡ keep.old) × (is_err result ≡ false) }
+    ensures finds { keep.old.lists ≢ next.now → OnOk result
+        (AlwaysFinds (D.state keep.new.disk) next.now
         × AlwaysFindsFormat (D.state keep.new.disk) 2) }
-    ensures offered { keep.old.lists.read_only ≢ read_only → OnErr result (FindsOffered
-        (D.state keep.old.disk) (D.state keep.new.disk) keep.old.lists
-        (marked read_only keep.old.lists)) }
-    ensures others { keep.old.lists.read_only ≢ read_only
+    ensures offered { keep.old.lists ≢ next.now → OnErr result (FindsOffered
+        (D.state keep.old.disk) (D.state keep.new.disk) keep.old.lists next.now) }
+    ensures others { keep.old.lists ≢ next.now
         → KeepsOthers (D.state keep.old.disk) (D.state keep.new.disk) }
-    ensures run { keep.old.lists.read_only ≢ read_only
+    ensures run { keep.old.lists ≢ next.now
         → IsRun 6 (is_err result) (D.state keep.old.disk) (D.state keep.new.disk) }
 {
-    if keep.lists().read_only == read_only {
+    same_settings_is_equality();
+    if keep.lists() == next {
         return Ok(());
     }
-    let next = keep.lists().marked(read_only);
-    keep.replace(&next)
+    keep.replace(next)
 }
 
 /// Mounts the keep on a disk and sets or clears its read-only mark. Where it stands so nothing is
@@ -80,19 +79,9 @@ pub fn mark<D: Disk>(disk: D, read_only: bool) -> (Result<(), UpkeepStop>, D)
         Ok(keep) => keep,
         Err((refusal, disk)) => return (Err(UpkeepStop::Keep(refusal)), disk),
     };
-    let written = set_mark(&mut keep, read_only);
+    let next = keep.lists().marked(read_only);
+    let written = put(&mut keep, &next);
     (ended_by(written), keep.close())
-}
-
-/// Whether a part of lists is empty.
-fn is_clear(lists: &Lists, part: Part) -> bool
-    ensures { result ≡ is_clear part lists.now }
-{
-    match part {
-        Part::Config => lists.config.is_empty(),
-        Part::Masks => lists.masks.is_empty(),
-        Part::Reserves => lists.reserves.is_empty(),
-    }
 }
 
 /// A copy of lists in which a part is empty.
@@ -108,28 +97,6 @@ fn cleared(lists: &Lists, part: Part) -> Lists
     next
 }
 
-/// Empties a part of a keep's lists. Where it is empty nothing is written.
-fn clear_part<D: Disk>(keep: &mut Keep<D>, part: Part) -> Result<(), Failed>
-    ensures same { is_clear part keep.old.lists ≡ true → (keep.new ≡ keep.old)
-        × (is_err result ≡ false) }
-    ensures finds { is_clear part keep.old.lists ≢ true → OnOk result
-        (AlwaysFinds (D.state keep.new.disk) (cleared part keep.old.lists)
-        × AlwaysFindsFormat (D.state keep.new.disk) 2) }
-    ensures offered { is_clear part keep.old.lists ≢ true → OnErr result (FindsOffered
-        (D.state keep.old.disk) (D.state keep.new.disk) keep.old.lists
-        (cleared part keep.old.lists)) }
-    ensures others { is_clear part keep.old.lists ≢ true
-        → KeepsOthers (D.state keep.old.disk) (D.state keep.new.disk) }
-    ensures run { is_clear part keep.old.lists ≢ true
-        → IsRun 6 (is_err result) (D.state keep.old.disk) (D.state keep.new.disk) }
-{
-    if is_clear(keep.lists(), part) {
-        return Ok(());
-    }
-    let next = cleared(keep.lists(), part);
-    keep.replace(&next)
-}
-
 /// Mounts the keep on a disk and empties its config string, its mask list or its reserve list. Where it
 /// is empty nothing is written. The disk is given back.
 pub fn clear<D: Disk>(disk: D, part: Part) -> (Result<(), UpkeepStop>, D)
@@ -140,6 +107,44 @@ pub fn clear<D: Disk>(disk: D, part: Part) -> (Result<(), UpkeepStop>, D)
         Ok(keep) => keep,
         Err((refusal, disk)) => return (Err(UpkeepStop::Keep(refusal)), disk),
     };
-    let written = clear_part(&mut keep, part);
+    let next = cleared(keep.lists(), part);
+    let written = put(&mut keep, &next);
+    (ended_by(written), keep.close())
+}
+
+/// Makes a keep's lists empty, in the format that is written now. Where they stand so nothing is
+/// written.
+fn make_empty<D: Disk>(keep: &mut Keep<D>) -> Result<(), Failed>
+    ensures same { IsNew keep.old → (keep.new ≡ keep.old) × (is_err result ≡ false) }
+    ensures finds { (IsNew keep.old → ⊥) → OnOk result
+        (AlwaysFinds (D.state keep.new.disk) empty_settings
+        × AlwaysFindsFormat (D.state keep.new.disk) 2) }
+    ensures offered { (IsNew keep.old → ⊥) → OnErr result (FindsOffered
+        (D.state keep.old.disk) (D.state keep.new.disk) keep.old.lists empty_settings) }
+    ensures others { (IsNew keep.old → ⊥)
+        → KeepsOthers (D.state keep.old.disk) (D.state keep.new.disk) }
+    ensures run { (IsNew keep.old → ⊥)
+        → IsRun 6 (is_err result) (D.state keep.old.disk) (D.state keep.new.disk) }
+{
+    same_settings_is_equality();
+    let next = Lists::new();
+    if *keep.lists() == next {
+        return keep.upgrade();
+    }
+    keep.replace(&next)
+}
+
+/// Makes a new keep of a disk: empty lists, which let every station in. They are written where they
+/// don't stand so, also on a disk that holds none yet, and then a crash of a later change finds lists.
+/// The disk is given back.
+pub fn create<D: Disk>(disk: D) -> (Result<(), UpkeepStop>, D)
+    ensures changes { Changes D.state creating result.0 disk result.1 }
+    ensures causes { IsCaused D.state result.0 disk result.1 }
+{
+    let mut keep = match Keep::mount(disk) {
+        Ok(keep) => keep,
+        Err((refusal, disk)) => return (Err(UpkeepStop::Keep(refusal)), disk),
+    };
+    let written = make_empty(&mut keep);
     (ended_by(written), keep.close())
 }

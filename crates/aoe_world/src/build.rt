@@ -21,7 +21,7 @@ use crate::sim::Sim;
 use aoe_base::{Lifetimes, Millis, NoMemory, Ports, TargetId, copy_of};
 use aoe_frame::Frame;
 use aoe_history::Run;
-use aoe_initiator::{Attached, DEAD, LIFETIMES, ROOM};
+use aoe_initiator::{Attached, DEAD, FlushCommand, LIFETIMES, ROOM};
 use aoe_script::{Name, Script, Setup};
 use aoe_sim_hosts::SimHost;
 use aoe_sim_setup::layout_law;
@@ -193,6 +193,7 @@ fn known_of(script: &Script, shelf: &Name, minor: u64) -> Option<Attached>
         remotes: line.ports,
         total: slot.sectors,
         max: max_sectors(line.mtu as u32),
+        flush: FlushCommand::CacheExt,
     })
 }
 
@@ -226,7 +227,7 @@ fn attach(host: &mut SimHost, known: Option<Attached>) -> Result<(), NoMemory>
         → Matches log host.new.core) }
 {
     match known {
-        Some(d) => host.attach(d.id, &d.remotes, d.total, d.max),
+        Some(d) => host.attach(d.id, &d.remotes, d.total, d.max, d.flush),
         None => Ok(()),
     }
 }

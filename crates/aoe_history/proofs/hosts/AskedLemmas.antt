@@ -10,6 +10,7 @@ use Rattle.aoe_frame.specs.Header.{Fits}
 use Rattle.aoe_ata.specs.Decision.{written}
 use Rattle.aoe_ata.specs.declared.decision.AtaDecision.{AtaDecision}
 use Rattle.aoe_initiator.specs.declared.device.Attached.{Attached}
+use Rattle.aoe_initiator.specs.declared.op.FlushCommand.{FlushCommand}
 use Rattle.aoe_initiator.specs.declared.op.Op.{Op}
 use Rattle.aoe_initiator.specs.declared.op.Op.TheVariants.{Write}
 use Rattle.aoe_initiator.specs.HostLaw.{op_refusal, same_id}
@@ -98,11 +99,11 @@ heard-at : (station : Station) (h : Header) → is_heard station h ≡ true → 
 heard-at station h e major minor = grind (arith, nat_tests)
 
 -- what a write asks stands in its frame
-data-is : (f : List ℕ) (op : Op) (at : ℕ) (bytes : List ℕ) (id : TargetId) (remote local : Mac) (tag : ℕ) → op ≡ Write at bytes
+data-is : (f : List ℕ) (flush : FlushCommand) (op : Op) (at : ℕ) (bytes : List ℕ) (id : TargetId) (remote local : Mac) (tag : ℕ) → op ≡ Write at bytes
     → CanSpell op → HasSectors op → Fits (request_header op id remote local tag)
-    → f ≡ request op id remote local tag → written (drop 24 f) (span_of (Write at bytes)) ≡ bytes
-data-is f op at bytes id remote local tag e can some fits is =
-    rw (is, e) (request-writes at bytes id remote local tag (rw e at can).0 (rw e at some).1 (rw e at fits))
+    → f ≡ request flush op id remote local tag → written (drop 24 f) (span_of (Write at bytes)) ≡ bytes
+data-is f flush op at bytes id remote local tag e can some fits is =
+    rw (is, e) (request-writes flush at bytes id remote local tag (rw e at can).0 (rw e at some).1 (rw e at fits))
 
 module _ (s : Setup) (host : HostSetup) (h : List Entry) (run : HasHost s host h) (slot : SlotSetup) (there : Contains s.slots slot) where
   pub understood : (frame : SentFrame) (lists : Settings) (d : AtaDecision) → (sent : IsSentFor host h frame)
@@ -114,8 +115,8 @@ module _ (s : Setup) (host : HostSetup) (h : List Entry) (run : HasHost s host h
       let r : IsRequest host (device_no host x.dev) x.op sent.sending.tag frame.bytes = rw is at sent.request in
       let same : r.about ≡ k.about = same_Some _ _ (sym r.there ∙ k.place) in
       let fits = request-fits s host (device_no host x.dev) x.op sent.sending.tag frame.bytes run.setup mine r in
-      let w : verdict slot.station lists (request x.op r.about.id r.remote r.local sent.sending.tag) ≡ Ata d = rw r.is at v in
-      let c = comes-of _ _ _ _ d (request-head _ _ _ _ _ fits) w in
+      let w : verdict slot.station lists (request r.about.flush x.op r.about.id r.remote r.local sent.sending.tag) ≡ Ata d = rw r.is at v in
+      let c = comes-of _ _ _ _ d (request-head _ _ _ _ _ _ fits) w in
       let at : IsAttachedTo s r.about = run.setup.attached host r.about mine (Contains-get _ _ r.about r.there) in
       let its = found _ s.slots at.slot at.there in
       let eq = same-id at.slot.station.id r.about.id its.1 in
@@ -123,6 +124,6 @@ module _ (s : Setup) (host : HostSetup) (h : List Entry) (run : HasHost s host h
       let heard = heard-at slot.station header c.heard (rw eq at (run.setup.majors at.slot its.0)) (rw eq at (run.setup.minors at.slot its.0)) in
       record {
         slot_is = rw (ap (λ (a : Attached). a.id) same ∙ k.id) at heard;
-        answer_is = request-asks x.op r.about.id r.remote r.local sent.sending.tag slot.station lists d k.can k.sectors fits w;
-        bytes_are = λ at bytes e. data-is frame.bytes x.op at bytes _ _ _ _ e k.can k.sectors fits r.is;
+        answer_is = request-asks r.about.flush x.op r.about.id r.remote r.local sent.sending.tag slot.station lists d k.can k.sectors fits w;
+        bytes_are = λ at bytes e. data-is frame.bytes r.about.flush x.op at bytes _ _ _ _ e k.can k.sectors fits r.is;
       }

@@ -79,7 +79,7 @@ module _ (s : Setup) (host : HostSetup) (device : DeviceNo) (op : Op) (tag : ℕ
       }
 
   pub request-kind : is_response f ≡ false
-  request-kind = kind-read f _ (ap head r.is ∙ request-head _ _ _ _ _ request-fits)
+  request-kind = kind-read f _ (ap head r.is ∙ request-head _ _ _ _ _ _ request-fits)
 
   pub request-header : fields f ≡ request_header op r.about.id r.remote r.local tag
-  request-header = ap fields r.is ∙ head-fields _ _ (request-head _ _ _ _ _ request-fits)
+  request-header = ap fields r.is ∙ head-fields _ _ (request-head _ _ _ _ _ _ request-fits)

@@ -110,7 +110,7 @@ module _ {s : Setup} {host : HostSetup} {h : List Entry} (run : HasHost s host h
       → TellsTruly op (state_after slot h) e r a
   tells device op tag f req dev ask law a ans ata =
       let fits = request-fits s host device op tag f run.setup (host-there s run.name host run.called).0 req in
-      response-tells op req.about.id req.remote req.local tag slot.station (state_after slot h) e r a ata ask.can ask.sectors fits
+      response-tells req.about.flush op req.about.id req.remote req.local tag slot.station (state_after slot h) e r a ata ask.can ask.sectors fits
       (can-reply slot there _) (rw req.is at law) ans
 
   pub new-reply : IsSomeAnd (slot_of s dev) (λ z. IsArrival s z h k (Replied e number r)) → IsReplyTo host slot r

@@ -16,6 +16,7 @@ use Rattle.aoe_ata.specs.declared.reply.AtaOutcome.TheVariants as outcome
 use Rattle.aoe_frame.specs.declared.header.Header.{Header}
 use Rattle.aoe_frame.specs.Header.{fields, head, Fits}
 use Rattle.aoe_frame.proofs.HeaderLemmas.{head-fields}
+use Rattle.aoe_initiator.specs.declared.op.FlushCommand.{FlushCommand}
 use Rattle.aoe_initiator.specs.declared.op.Op.{Op}
 use Rattle.aoe_initiator.specs.declared.op.Op.TheVariants.{Read, Write, Flush}
 use Rattle.aoe_initiator.specs.declared.response.Answer.{Answer}
@@ -120,26 +121,28 @@ ata-by read_only (Read span) {station} x k e args y =
 ata-by read_only Flush x k e args y = flush-by x k e args y
 ata-by _ _ x k e args y = tt
 
-pub response-tells : (op : Op) (id : TargetId) (remote local : Mac) (tag : ℕ) (station : Station) (k : State) (e : Effect) (reply : List ℕ) (a : Answer)
+pub response-tells : (flush : FlushCommand) (op : Op) (id : TargetId) (remote local : Mac) (tag : ℕ) (station : Station) (k : State) (e : Effect)
+    (reply : List ℕ) (a : Answer)
     → (command_of op == 0) ≡ true → CanSpell op → HasSectors op → Fits (request_header op id remote local tag)
     → CanReply station (request_header op id remote local tag)
-    → Allows station k (request op id remote local tag) (verdict station k.lists (request op id remote local tag)) (replied e reply)
+    → Allows station k (request flush op id remote local tag) (verdict station k.lists (request flush op id remote local tag)) (replied e reply)
     → answer op (fields reply) (drop 24 reply) ≡ Some a → TellsTruly op k e reply a
-response-tells op id remote local tag station k e reply a ata spell some fits can allows says =
-    go (verdict station k.lists (request op id remote local tag)) refl allows
+response-tells flush op id remote local tag station k e reply a ata spell some fits can allows says =
+    go (verdict station k.lists (request flush op id remote local tag)) refl allows
   where
-    its-head : head (request op id remote local tag) ≡ Some (request_header op id remote local tag)
-    its-head = request-head op id remote local tag fits
+    its-head : head (request flush op id remote local tag) ≡ Some (request_header op id remote local tag)
+    its-head = request-head flush op id remote local tag fits
 
-    is : fields (request op id remote local tag) ≡ request_header op id remote local tag
+    is : fields (request flush op id remote local tag) ≡ request_header op id remote local tag
     is = head-fields _ _ its-head
 
     x : IsHeard op station (request_header op id remote local tag) reply a
     x = record { fits = fits; can = can; says = says }
 
-    go : (v : Verdict) → verdict station k.lists (request op id remote local tag) ≡ v → Allows station k (request op id remote local tag) v (replied e reply)
+    go : (v : Verdict) → verdict station k.lists (request flush op id remote local tag) ≡ v
+        → Allows station k (request flush op id remote local tag) v (replied e reply)
         → TellsTruly op k e reply a
     go (Refused error) q y = refused x k e error _ (same-reply e effect.None reply _ (rw is at y))
     go (Lists c) q y = absurd (no-list-step station k.lists _ _ c its-head ata q)
-    go (Ata d) q y = ata-by k.lists.read_only op x k e d.args (rw (is, request-asks op id remote local tag station k.lists d spell some fits q) at y)
+    go (Ata d) q y = ata-by k.lists.read_only op x k e d.args (rw (is, request-asks flush op id remote local tag station k.lists d spell some fits q) at y)
     go _ q y = absurd (cc)

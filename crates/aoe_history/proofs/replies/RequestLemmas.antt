@@ -27,10 +27,12 @@ use Rattle.aoe_base.specs.declared.address.TargetId.{TargetId}
 use Rattle.aoe_frame.specs.declared.header.Header.{Header}
 use Rattle.aoe_frame.specs.Header.{head, header_bytes, padded, Fits}
 use Rattle.aoe_frame.proofs.HeaderLemmas.{head-header_bytes}
+use Rattle.aoe_initiator.specs.declared.op.FlushCommand.{FlushCommand}
+use Rattle.aoe_initiator.specs.declared.op.FlushCommand.TheVariants.{Cache, CacheExt}
 use Rattle.aoe_initiator.specs.declared.op.Op.{Op}
 use Rattle.aoe_initiator.specs.declared.op.Op.TheVariants.{Read, Write, Flush, Identify}
 use Rattle.aoe_initiator.specs.Op.{command_of as command, span_of}
-use Rattle.aoe_initiator.specs.Request.{arguments, registers_of, request, request_header, CanSpell}
+use Rattle.aoe_initiator.specs.Request.{arguments, flush_registers, registers_of, request, request_header, CanSpell}
 
 header-length : (h : Header) → Fits h → length (header_bytes h) ≡ 24
 header-length h fits = let d = fits.dst in let s = fits.src in simp length-append (omega arith)
@@ -110,18 +112,26 @@ answer-by : (total : ℕ) (args bytes : List ℕ) (a : AtaArgs) (answer : AtaAns
     → answer_of total (command_of (registers args)) ≡ answer
 answer-by total args bytes a answer is lt e = subst (λ r. answer_of total (command_of r) ≡ answer) (sym (ap registers is ∙ registers-are a bytes lt)) e
 
-asked-as : (total : ℕ) (op : Op) (args zeros : List ℕ) → CanSpell op → HasSectors op → (command op == 0) ≡ true → args ≡ arguments op ++ zeros
+-- both flush commands ask for a flush
+flush-as : (flush : FlushCommand) (total : ℕ) (args zeros : List ℕ) → args ≡ args_bytes (flush_registers flush) ++ zeros
+    → answer_of total (command_of (registers args)) ≡ Sync
+flush-as Cache total args zeros is = answer-by total args zeros (registers_of 0 0xe7 (record { at = 0; count = 0 })) Sync is (omega arith) refl
+flush-as CacheExt total args zeros is = answer-by total args zeros (registers_of 0x40 0xea (record { at = 0; count = 0 })) Sync is (omega arith) refl
+
+asked-as : (flush : FlushCommand) (total : ℕ) (op : Op) (args zeros : List ℕ) → CanSpell op → HasSectors op → (command op == 0) ≡ true
+    → args ≡ arguments flush op ++ zeros
     → answer_of total (command_of (registers args)) ≡ asked_for total op
-asked-as total (Read span) args zeros can some c is = answer-by total args zeros (registers_of 0x40 0x24 span) _ is can.0 (rw (zero-no span.count some) refl)
-asked-as total (Write at bytes) args zeros can some c is =
+asked-as flush total (Read span) args zeros can some c is = answer-by total args zeros (registers_of 0x40 0x24 span) _ is can.0 (rw (zero-no span.count some) refl)
+asked-as flush total (Write at bytes) args zeros can some c is =
     answer-by total args (bytes ++ zeros) (registers_of 0x41 0x34 (span_of (Write at bytes))) _ is can.0 (rw (zero-no (length bytes / 512) some.0) refl)
-asked-as total Flush args zeros can some c is = answer-by total args zeros (registers_of 0x40 0xea (record { at = 0; count = 0 })) Sync is (omega arith) refl
-asked-as total Identify args zeros can some c is = answer-by total args zeros (registers_of 0 0xec (record { at = 0; count = 1 })) Page is (omega arith) refl
-asked-as total _ args zeros can some c is = absurd (cc)
+asked-as flush total Flush args zeros can some c is = flush-as flush total args zeros is
+asked-as flush total Identify args zeros can some c is = answer-by total args zeros (registers_of 0 0xec (record { at = 0; count = 1 })) Page is (omega arith) refl
+asked-as flush total _ args zeros can some c is = absurd (cc)
 
 -- the data of a write are those that it was asked for
-written-as : (at : ℕ) (bytes zeros : List ℕ) → length bytes % 512 ≡ 0 → written (arguments (Write at bytes) ++ zeros) (span_of (Write at bytes)) ≡ bytes
-written-as at bytes zeros whole = take_at bytes zeros (12 + 512 * (length bytes / 512) - 12) (omega arith)
+written-as : (flush : FlushCommand) (at : ℕ) (bytes zeros : List ℕ) → length bytes % 512 ≡ 0
+    → written (arguments flush (Write at bytes) ++ zeros) (span_of (Write at bytes)) ≡ bytes
+written-as flush at bytes zeros whole = take_at bytes zeros (12 + 512 * (length bytes / 512) - 12) (omega arith)
 
 pub no-list-step : (station : Station) (lists : Settings) (f : List ℕ) (h : Header) (c : ListCommand) → head f ≡ Some h → (h.command == 0) ≡ true
     → verdict station lists f ≡ Lists c → ⊥
@@ -131,28 +141,28 @@ no-list-step station lists f h c is ata e =
 
 -- A REQUEST AT A TARGET
 
-pub request-head : (op : Op) (id : TargetId) (remote local : Mac) (tag : ℕ) → Fits (request_header op id remote local tag)
-    → head (request op id remote local tag) ≡ Some (request_header op id remote local tag)
+pub request-head : (flush : FlushCommand) (op : Op) (id : TargetId) (remote local : Mac) (tag : ℕ) → Fits (request_header op id remote local tag)
+    → head (request flush op id remote local tag) ≡ Some (request_header op id remote local tag)
 unfolding request
-request-head op id remote local tag fits = padded-head (request_header op id remote local tag) (arguments op) fits
+request-head flush op id remote local tag fits = padded-head (request_header op id remote local tag) (arguments flush op) fits
 
-request-rest : (op : Op) (id : TargetId) (remote local : Mac) (tag : ℕ) → Fits (request_header op id remote local tag)
-    → (zeros : List ℕ) × (drop 24 (request op id remote local tag) ≡ arguments op ++ zeros)
+request-rest : (flush : FlushCommand) (op : Op) (id : TargetId) (remote local : Mac) (tag : ℕ) → Fits (request_header op id remote local tag)
+    → (zeros : List ℕ) × (drop 24 (request flush op id remote local tag) ≡ arguments flush op ++ zeros)
 unfolding request
-request-rest op id remote local tag fits = (_, padded-rest (request_header op id remote local tag) (arguments op) fits)
+request-rest flush op id remote local tag fits = (_, padded-rest (request_header op id remote local tag) (arguments flush op) fits)
 
-pub request-asks : (op : Op) (id : TargetId) (remote local : Mac) (tag : ℕ) (station : Station) (lists : Settings) (d : AtaDecision) → CanSpell op
-    → HasSectors op
-    → Fits (request_header op id remote local tag) → verdict station lists (request op id remote local tag) ≡ Ata d
+pub request-asks : (flush : FlushCommand) (op : Op) (id : TargetId) (remote local : Mac) (tag : ℕ) (station : Station) (lists : Settings) (d : AtaDecision)
+    → CanSpell op → HasSectors op
+    → Fits (request_header op id remote local tag) → verdict station lists (request flush op id remote local tag) ≡ Ata d
     → d.answer ≡ as_marked lists.read_only (asked_for station.sectors op)
-request-asks op id remote local tag station lists d can some fits e =
-    let c = comes-of station lists _ _ d (request-head op id remote local tag fits) e in
-    let r = request-rest op id remote local tag fits in
-    c.answer_is ∙ ap (as_marked lists.read_only) (asked-as station.sectors op _ r.0 can some c.ata r.1)
+request-asks flush op id remote local tag station lists d can some fits e =
+    let c = comes-of station lists _ _ d (request-head flush op id remote local tag fits) e in
+    let r = request-rest flush op id remote local tag fits in
+    c.answer_is ∙ ap (as_marked lists.read_only) (asked-as flush station.sectors op _ r.0 can some c.ata r.1)
 
-pub request-writes : (at : ℕ) (bytes : List ℕ) (id : TargetId) (remote local : Mac) (tag : ℕ) → at < 2 ^ 48 → length bytes % 512 ≡ 0
+pub request-writes : (flush : FlushCommand) (at : ℕ) (bytes : List ℕ) (id : TargetId) (remote local : Mac) (tag : ℕ) → at < 2 ^ 48 → length bytes % 512 ≡ 0
     → Fits (request_header (Write at bytes) id remote local tag)
-    → written (drop 24 (request (Write at bytes) id remote local tag)) (span_of (Write at bytes)) ≡ bytes
-request-writes at bytes id remote local tag lt whole fits =
-    let r = request-rest (Write at bytes) id remote local tag fits in
-    ap (λ (l : List ℕ). written l (span_of (Write at bytes))) r.1 ∙ written-as at bytes r.0 whole
+    → written (drop 24 (request flush (Write at bytes) id remote local tag)) (span_of (Write at bytes)) ≡ bytes
+request-writes flush at bytes id remote local tag lt whole fits =
+    let r = request-rest flush (Write at bytes) id remote local tag fits in
+    ap (λ (l : List ℕ). written l (span_of (Write at bytes))) r.1 ∙ written-as flush at bytes r.0 whole

@@ -100,7 +100,10 @@ fn says_what_is_wrong_with_a_mirror(rt: HostRuntime) -> Result<(), Fail> {
             "mirror 1 0 one two mark keep --tap t --peers y",
             "--tap and --peers exclude each other",
         ),
-        ("mirror 1 0 - - mark keep", "-: only hyphens"),
+        (
+            "mirror 1 0 - - mark keep",
+            "-: one FILE of a mirror has to be there",
+        ),
         ("mirror 1 0 one two mark -", "-: only hyphens"),
         ("mirror 1 0 one two mark keep --tap -", "-: only hyphens"),
         ("mirror - 0 one two mark keep", "-: only hyphens"),
@@ -224,6 +227,24 @@ fn says_what_is_wrong_with_numbers(rt: HostRuntime) -> Result<(), Fail> {
             "COUNT: 0 isn't a number from 1 to 281474976710656",
         ),
         (
+            "put e1.0 0 --tap t --input f --count 0",
+            "--count: 0 isn't a number from 1 to 281474976710656",
+        ),
+        (
+            "put e1.0 0 --tap t --input f --skip 281474976710656",
+            "--skip: 281474976710656 isn't a number from 0 to 281474976710655",
+        ),
+        (
+            "put e1.0 0 --tap t --skip 1",
+            "--input is missing beside --skip",
+        ),
+        (
+            "put e1.0 0 --tap t --count 1",
+            "--input is missing beside --count",
+        ),
+        ("put e1.0 0 --tap t --input -", "-: only hyphens"),
+        ("soak 1 0", "N: 0 isn't a number from 1 to 16000"),
+        (
             "audit 1 0 1099511627777 keep",
             "SECTORS: 1099511627777 isn't a number from 0 to 1099511627776",
         ),
@@ -325,7 +346,7 @@ fn says_what_is_wrong_with_actions_and_ports(rt: HostRuntime) -> Result<(), Fail
         ),
         (
             "keep lists open",
-            "ACTION: open isn't one of show, upgrade, lock, unlock, clear",
+            "ACTION: open isn't one of show, upgrade, lock, unlock, create, clear",
         ),
         (
             "keep lists clear mask",

@@ -12,7 +12,7 @@ returns-clause-route c =
     let there : slice_get c.args.devices.now.items c.args.device.0 ≡ Some d =
     slice_get_read c.args.devices.now.items (length c.args.devices.now.items) c.args.device.0 d refl c.requires.inside c.index_mut-device.ensures.value in
     let r = c.route.ensures.route in
-    rw there (record { next = r.next; inside = r.inside; target = r.target; pair = r.pair; timeout = r.timeout })
+    rw there (record { next = r.next; inside = r.inside; target = r.target; flush = r.flush; pair = r.pair; timeout = r.timeout })
 
 pub returns-clause-value : goal.returns-clause-value
 returns-clause-value c =

@@ -9,7 +9,7 @@ use Rattle.aoe_initiator.proofs.initiator.Initiator.attach.Goals as goal
 pub invariant_of-self-2 : goal.invariant_of-self-2
 invariant_of-self-2 c =
     let d : Device = record {
-      about = record { id = c.args.id; remotes = c.copy_of.result; total = c.args.total; max = c.args.max };
+      about = record { id = c.args.id; remotes = c.copy_of.result; total = c.args.total; max = c.args.max; flush = c.args.flush };
       holds = no_commands c.self.inside.life.requests.0;
       paths = new_paths c.self.inside.ports.items c.copy_of.result.items;
     } in
@@ -21,7 +21,7 @@ invariant_of-self-2 c =
 pub returns-clause-matches : goal.returns-clause-matches
 returns-clause-matches c = λ log m.
     let d : Device = record {
-      about = record { id = c.args.id; remotes = c.copy_of.result; total = c.args.total; max = c.args.max };
+      about = record { id = c.args.id; remotes = c.copy_of.result; total = c.args.total; max = c.args.max; flush = c.args.flush };
       holds = no_commands c.self.inside.life.requests.0;
       paths = new_paths c.self.inside.ports.items c.copy_of.result.items;
     } in

@@ -1,7 +1,9 @@
+use Rattle.std.proofs.Common.{refl}
 use Rattle.aoe_mirror.specs.Calls.{copy_blamed}
 use Rattle.aoe_mirror.specs.Sides.{pair_of}
 use Rattle.aoe_mirror.proofs.Cleaning.{clean_copies, clean_syncs}
 use Rattle.aoe_mirror.proofs.Copying.{copied_is}
+use Rattle.aoe_mirror.proofs.Lowest.{all_same, lowest_then, still}
 use Rattle.aoe_mirror.proofs.Syncing.{blames_before, blames_then, copied_syncs, err_syncs, lowest_blames, next_counts, ok_syncs}
 use Rattle.aoe_mirror.proofs.mirror.MirrorStore.sync.Goals as goal
 
@@ -65,3 +67,20 @@ pub returns-then-self-clause-copied : goal.returns-then-self-clause-copied
 returns-then-self-clause-copied g c =
     let p = pair_of g.D.Disk.state c.self.inside.sides in
     rw (← c.self.view_is) (clean_copies c.self.inside.next p c.self.invariant.mirror (c.self.invariant.marked.clean c.if-self.true))
+
+pub returns-in-Ok-clause-lowest : goal.returns-in-Ok-clause-lowest
+returns-in-Ok-clause-lowest g c =
+    let old = pair_of g.D.Disk.state c.self.inside.sides in
+    let mid = pair_of g.D.Disk.state c.sync.new.self in
+    let new = pair_of g.D.Disk.state c.resync-next.new.self in
+    rw (← c.self.view_is, c.lowest-self-inside.ensures) (lowest_then c.in-Ok.failed (copy_blamed c.resync-next.result.1) old mid new
+    c.in-Ok.ensures.blames c.in-Ok.ensures.lowest c.resync-next.ensures.blames c.resync-next.ensures.lowest)
+
+pub returns-in-Err-clause-lowest : goal.returns-in-Err-clause-lowest
+returns-in-Err-clause-lowest g c = rw (← c.self.view_is) c.in-Err.ensures.lowest
+
+pub returns-then-self-clause-lowest : goal.returns-then-self-clause-lowest
+returns-then-self-clause-lowest g c =
+    let p = pair_of g.D.Disk.state c.self.inside.sides in
+    let m = c.self.invariant.mirror in
+    rw (← c.self.view_is) (all_same p p refl (still p.lead m.lead) (still p.follower m.follower) (still p.mark m.mark.disk))

@@ -2,6 +2,7 @@ use Rattle.std.proofs.Common.{◌≡◌, ◌*◌, ap, is_err, length, take, arit
 use Rattle.std.proofs.lemmas.List.{length-take-le}
 use Rattle.aoe_mirror.specs.Sides.{pair_of}
 use Rattle.aoe_mirror.proofs.Copying.{copy_blames, done_copies, failed_copies}
+use Rattle.aoe_mirror.proofs.Lowest.{copied_lowest}
 use Rattle.aoe_mirror.proofs.sides.Sides.resync_run.Goals as goal
 
 pub returns-in-Err-clause-copies : goal.returns-in-Err-clause-copies
@@ -25,3 +26,11 @@ returns-clause-copies g c =
     rw c.put_each.ensures (done_copies
     (pair_of g.D.Disk.state c.args.self.now) c.requires.mirror c.args.at c.args.n c.requires.run c.copy_run.result
     (pair_of g.D.Disk.state c.copy_run.new.self) (rw size at c.copy_run.ensures) (ap is_err c.in_default.is))
+
+pub returns-in-Err-clause-lowest : goal.returns-in-Err-clause-lowest
+returns-in-Err-clause-lowest g c = rw c.in-Err.is at (copied_lowest (pair_of g.D.Disk.state c.args.self.now) c.requires.mirror c.args.at _
+    (pair_of g.D.Disk.state c.copy_run.new.self) c.copy_run.result c.copy_run.ensures)
+
+pub returns-clause-lowest : goal.returns-clause-lowest
+returns-clause-lowest g c = rw c.in_default.is at (copied_lowest (pair_of g.D.Disk.state c.args.self.now) c.requires.mirror c.args.at _
+    (pair_of g.D.Disk.state c.copy_run.new.self) c.copy_run.result c.copy_run.ensures)

@@ -8,12 +8,12 @@ use Rattle.aoe_nbd_serve.proofs.requests.Coming.hand_in.Goals as goal
 pub returns-in-Read-clause-call : goal.returns-in-Read-clause-call
 returns-in-Read-clause-call c =
     let can = subst (λ (a : Action). CanHandIn a c.args.self.now c.args.last.now c.args.desk.now) c.in-Read.is c.requires in
-    handed-read c.args.request (c.args.self.now.data.items ++ c.args.last.now) c.in-Read.span.at c.in-Read.span.count c.args.desk.now c.read.new.self c.in-Read.is can.0.room
+    handed-read c.args.request (c.args.self.now.payload.items ++ c.args.last.now) c.in-Read.span.at c.in-Read.span.count c.args.desk.now c.read.new.self c.in-Read.is can.0.room
     (c.read.ensures.taken (omega (arith, can.0.within, count-again c.in-Read.span.count)))
 
 pub returns-in-Write-clause-call : goal.returns-in-Write-clause-call
 returns-in-Write-clause-call c =
-    let bytes = c.args.self.now.data.items ++ c.args.last.now in
+    let bytes = c.args.self.now.payload.items ++ c.args.last.now in
     let at = c.in-Write.span.at in
     let can = subst (λ (a : Action). CanHandIn a c.args.self.now c.args.last.now c.args.desk.now) c.in-Write.is c.requires in
     let all : c.take_data-data.result ≡ bytes = c.take_data-data.ensures.value ∙ c.keep.ensures.items in
@@ -23,4 +23,4 @@ returns-in-Write-clause-call c =
 pub returns-in-Flush-clause-call : goal.returns-in-Flush-clause-call
 returns-in-Flush-clause-call c =
     let can = subst (λ (a : Action). CanHandIn a c.args.self.now c.args.last.now c.args.desk.now) c.in-Flush.is c.requires in
-    handed-flush c.args.request (c.args.self.now.data.items ++ c.args.last.now) c.args.desk.now c.flush.new.self c.in-Flush.is can.0 c.flush.ensures.taken
+    handed-flush c.args.request (c.args.self.now.payload.items ++ c.args.last.now) c.args.desk.now c.flush.new.self c.in-Flush.is can.0 c.flush.ensures.taken
