@@ -48,8 +48,12 @@ fn response(
     Blob::of(alloc, out.as_slice())
 }
 
-/// The responses to the two requests before a transfer: the device has 16 sectors.
-fn found(alloc: Global) -> Result<Vec<Option<Blob>>, Fail>
+/// The upper half of word 83 of a page: it is valid, and FLUSH CACHE EXT is supported.
+const HAS_FLUSH_EXT: u8 = 0x60;
+
+/// The responses to the two requests before a transfer: the device has 16 sectors, and its page this
+/// upper half of word 83.
+fn found(alloc: Global, supported: u8) -> Result<Vec<Option<Blob>>, Fail>
     ensures { IfOk result (λ coming. All IsShort coming.items) }
 {
     let config = [0, 16, 0, 1, 17, 0x10, 0, 0];
@@ -57,6 +61,7 @@ fn found(alloc: Global) -> Result<Vec<Option<Blob>>, Fail>
     let mut page = [0u8; 512];
     page[99] = 2;
     page[120] = 16;
+    page[167] = supported;
     let mut coming = Vec::new(alloc);
     coming.push(Some(response(alloc, 1, [0x80, 0, 0, 0], &config, &[])?))?;
     coming.push(Some(response(alloc, 0, [0x80, 0, 0, 1], &registers, &page)?))?;
@@ -77,7 +82,7 @@ fn turn(alloc: Global, told: &Option<(u8, &[u8])>) -> Result<Option<Blob>, NoMem
 
 /// A link that brings the two responses, and then these turns.
 fn link_of(alloc: Global, turns: &[Option<(u8, &[u8])>]) -> Result<MemLink, Fail> {
-    let mut coming = found(alloc)?;
+    let mut coming = found(alloc, HAS_FLUSH_EXT)?;
     'turns: for told in turns {
         coming.push(turn(alloc, told)?)?;
     }
@@ -203,7 +208,7 @@ fn gives_the_front_of_a_copy_that_breaks_off(rt: HostRuntime) -> Result<(), Fail
 /// A link that brings the two responses, and then a sector for each of 17 commands. The first eight
 /// come latest first; that of the ninth comes before them too, with other bytes.
 fn long_link(alloc: Global) -> Result<MemLink, Fail> {
-    let mut coming = found(alloc)?;
+    let mut coming = found(alloc, HAS_FLUSH_EXT)?;
     coming.push(turn(alloc, &Some((9, [0xee; 512].as_slice())))?)?;
     let order = [8, 7, 6, 5, 4, 3, 2, 1, 9, 10, 11, 12, 13, 14, 15, 16];
     'commands: for tag in &order {
@@ -330,13 +335,25 @@ fn puts_sectors_without_a_flush(rt: HostRuntime) -> Result<(), Fail> {
     Ok(())
 }
 
-#[test]
-fn flushes(rt: HostRuntime) -> Result<(), Fail> {
-    let mut link = link_of(rt.alloc(), &[None, Some((1, &[]))])?;
+/// Whether a device whose page has this upper half of word 83 is flushed by the request with these
+/// arguments.
+fn is_flushed_by(alloc: Global, supported: u8, args: &[u8]) -> Result<bool, Fail> {
+    let mut coming = found(alloc, supported)?;
+    coming.push(None)?;
+    coming.push(turn(alloc, &Some((1, [].as_slice())))?)?;
+    let mut link = MemLink::of(alloc, coming, 4)?;
     let mut clock = SetClock::new(0, 10);
-    let done = flush(rt.alloc(), &terms(17), DEVICE, &mut link, &mut clock);
-    let args = [0x40, 0, 0, 0xea, 0, 0];
-    assert!(rt; done == Ok(()) && link.count() == 3 && is_sent(&link, 2, &args));
+    let done = flush(alloc, &terms(17), DEVICE, &mut link, &mut clock);
+    Ok(done == Ok(()) && link.count() == 3 && is_sent(&link, 2, args))
+}
+
+#[test]
+fn flushes_by_the_command_of_the_page(rt: HostRuntime) -> Result<(), Fail> {
+    let by_flush_cache_ext = [0x40, 0, 0, 0xea, 0, 0];
+    assert!(rt; is_flushed_by(rt.alloc(), HAS_FLUSH_EXT, &by_flush_cache_ext)?);
+    let by_flush_cache = [0, 0, 0, 0xe7, 0, 0];
+    assert!(rt; is_flushed_by(rt.alloc(), 0, &by_flush_cache)?);
+    assert!(rt; is_flushed_by(rt.alloc(), 0xe0, &by_flush_cache)?);
     Ok(())
 }
 
