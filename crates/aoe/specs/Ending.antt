@@ -77,9 +77,9 @@ limit_text what.CaptureBytes = codes "aoe: limit: capture bytes"
 
 -- what is wrong with a record of a capture, in a word
 abbrev pub finding_of : Kind → List ℕ
-finding_of kind.Short = codes "short"
-finding_of kind.Reply = codes "reply"
-finding_of kind.Missing = codes "missing"
+finding_of (kind.Short ends) = codes "short"
+finding_of (kind.Reply ends differs) = codes "reply"
+finding_of (kind.Missing ends) = codes "missing"
 
 abbrev pub text_of : Status → List ℕ
 text_of status.Ok = []

@@ -1,15 +1,15 @@
 //! What a service's log gets on standard error, where the environment asks for it or that is a terminal.
 use aoe_args::{Command, PortWords};
-use aoe_base::{Mac, put_macs};
+use aoe_base::{Mac, TargetId, put_macs};
 use aoe_disk::Disk;
 use aoe_keep::Keep;
-use aoe_system::{FileDisk, FileLog, Until, Wire, say};
+use aoe_system::{FileDisk, FileLog, Report, Slot, Tally, Until, Wire, last_line, log_period, say};
 use aoe_wire::WireLink;
 use std::alloc::AllocError;
-use std::env;
 use std::io::IsTerminal;
+use std::{env, mem};
 
-/// The variable of the environment that asks for it by the value 1, and by another has none.
+/// The variable of the environment that asks for it by a number of seconds between two lines, 1 for none.
 const ASKED: &str = "AOE_LOG";
 
 /// The log of a run. Its first line is gathered while files and links are opened. What it has no memory for
@@ -18,22 +18,58 @@ const ASKED: &str = "AOE_LOG";
 pub struct Log {
     rt: HostRuntime,
     line: Vec<u8>,
+
+    /// How many seconds there are between two lines; 1 where there are none.
+    period: u64,
+
+    /// The slots whose files are opened, where there are such lines.
+    slots: Vec<Slot>,
 }
 
 impl Log {
-    /// None where none is asked for. Of a shelf that is served a terminal asks, too.
-    pub fn asked(rt: &HostRuntime, is_served: bool) -> Option<Log> {
-        let is_asked = match env::var(rt, ASKED) {
-            Ok(value) => value.as_str() == "1",
-            Err(_) => is_served && rt.stderr().is_terminal(),
+    /// None where none is asked for. Of a shelf that is served a terminal asks, too. What asks for it in vain,
+    /// since it is no number.
+    pub fn asked(rt: &HostRuntime, is_served: bool) -> Result<Option<Log>, String> {
+        let period = match env::var(rt, ASKED) {
+            Ok(value) => match log_period(value.as_bytes()) {
+                Some(period) => period,
+                None => return Err(value),
+            },
+            Err(_) if is_served && rt.stderr().is_terminal() => 1,
+            Err(_) => 0,
         };
-        if !is_asked {
-            return None;
+        if period == 0 {
+            return Ok(None);
         }
-        Some(Log {
+        Ok(Some(Log {
             rt: *rt,
             line: Vec::new(rt.alloc()),
-        })
+            period,
+            slots: Vec::new(rt.alloc()),
+        }))
+    }
+
+    /// The files that are opened from now on are those of this slot.
+    pub fn open_slot(&mut self, id: TargetId) {
+        if self.period > 1
+            && let Some(slot) = Slot::new(self.rt.alloc(), id)
+        {
+            let _ = self.slots.push(slot);
+        }
+    }
+
+    /// What counts the calls of the slot that was opened last.
+    fn tally(&self) -> Option<Tally> {
+        self.slots.last()?.tally()
+    }
+
+    /// The report on these slots, where one is asked for.
+    pub fn report(&mut self) -> Option<Report> {
+        if self.period == 1 {
+            return None;
+        }
+        let slots = mem::replace(&mut self.slots, Vec::new(self.rt.alloc()));
+        Report::new(&self.rt, self.period, slots)
     }
 
     fn add(&mut self, text: &[u8]) {
@@ -66,7 +102,7 @@ impl Log {
     pub fn watch(&mut self, mut disk: FileDisk, name: &str, is_keep: bool) -> FileDisk {
         let rt = self.rt;
         if let Ok(name) = format!(in rt.alloc(); "{name}") {
-            disk.log_to(FileLog::new(&rt, name));
+            disk.log_to(FileLog::new(&rt, name, self.tally()));
         }
         if is_keep {
             return self.add_keep(disk, name);
@@ -126,17 +162,10 @@ impl Log {
         say(&rt, self.line.as_slice());
     }
 
-    /// Says what came of the shelf.
-    pub fn end(&self, disks: &[Option<FileDisk>], link: &Until<WireLink<Wire>>) {
-        let mut failed = 0u64;
-        'disks: for disk in disks.iter().flatten() {
-            failed = failed.saturating_add(disk.faults());
-        }
-        let (came, sent) = (link.came(), link.sent());
-        if let Ok(text) = format!(in self.rt.alloc();
-            "aoe: {came} frames came, {sent} were sent, {failed} calls of files failed\n"
-        ) {
-            say(&self.rt, text.as_bytes());
+    /// Says what came of the shelf, of whose files so many calls failed.
+    pub fn end(&self, failed: u64, link: &Until<WireLink<Wire>>) {
+        if let Ok(line) = last_line(self.rt.alloc(), link.traffic(), failed) {
+            say(&self.rt, line.bytes());
         }
     }
 }

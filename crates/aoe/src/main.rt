@@ -29,12 +29,14 @@ ghost use Rattle.aoe_args.specs.Words.{IsInRange, command, file_count, is_word, 
 mod audit;
 mod compare;
 mod door;
+mod finding;
 mod live;
 mod log;
 mod mirror;
 mod nbd;
 mod plan;
 mod settle;
+mod slots;
 mod status;
 mod streams;
 mod switch;
@@ -46,7 +48,7 @@ mod upkeep;
 use aoe_args::{
     Command, CommandLine, KeepAction, PortWords, SlipText, is_command, meant, read_words, slip_of,
 };
-use aoe_base::{Blob, NoMemory};
+use aoe_base::{Blob, NoMemory, TargetId};
 use aoe_clients::Clients;
 use aoe_disk::Disk;
 use aoe_system::{
@@ -59,8 +61,10 @@ use aoe_tools::Refusal;
 use aoe_udp::{OpenRefusal, UdpMedium};
 use aoe_wire::WireLink;
 use door::{Door, Stopping};
+use finding::finding_lines;
 use log::Log;
 use settle::Settling;
+use slots::{Mirrors, SlotVolume};
 use status::Status;
 use std::alloc::Global;
 use std::fs::File;
@@ -92,6 +96,9 @@ const NO_SOCKET: &[u8] = b": not a socket";
 
 /// What is wrong with a block device that holds no keep.
 const NO_KEEP: &[u8] = b"not a keep, which `aoe keep DEVICE create` makes of it: ";
+
+/// What is wrong with what asks for a log.
+const NO_PERIOD: &[u8] = b"AOE_LOG: not a number of seconds: ";
 
 /// A folder that is always there.
 const ROOT: &str = "/";
@@ -188,10 +195,18 @@ fn tell_doubt(rt: &HostRuntime, name: &[u8], disk: u32, doubt: KeepDoubt) -> u8 
     }
 }
 
+/// Says by which error nobody can be awaited at a socket of this name, and gives the exit status.
+fn tell_unawaited(rt: &HostRuntime, name: &[u8], error: &io::Error) -> u8 {
+    if error.kind() == ErrorKind::OutOfMemory {
+        return tell(rt, Status::NoMemory);
+    }
+    tell_failed(rt, name, error, 6)
+}
+
 /// Says why nobody can be awaited at a socket of this name, and gives the exit status.
 fn tell_unheard(rt: &HostRuntime, name: &[u8], refusal: SocketRefusal) -> u8 {
     match refusal {
-        SocketRefusal::Unbound(error) => tell_failed(rt, name, &error, 6),
+        SocketRefusal::Unbound(error) => tell_unawaited(rt, name, &error),
         SocketRefusal::Kind => tell_unopened(rt, name, NO_SOCKET, 6),
         SocketRefusal::InUse => tell_name(rt, b"in use: ", name, 6),
     }
@@ -236,6 +251,21 @@ fn is_served(command: &Command, number: usize) -> bool {
     }
 }
 
+/// The slot whose files begin with the one of this number, where it is served over a link.
+fn slot_at(command: &Command, number: usize) -> Option<TargetId> {
+    match command {
+        Command::Serve(asked) if number % 2 == 0 => {
+            let behind = u8::try_from(number / 2).unwrap_or(u8::MAX);
+            Some(TargetId {
+                major: asked.shelf,
+                minor: asked.slot.saturating_add(behind),
+            })
+        }
+        Command::Mirror(asked) if asked.is_served && number == 0 => Some(asked.id),
+        _ => None,
+    }
+}
+
 /// Says what of a file that is served may not be as whoever named it thinks.
 fn tell_odd(rt: &HostRuntime, name: &str, disk: &mut FileDisk) {
     if let Some(form) = disk.image_form()
@@ -255,8 +285,44 @@ fn tell_odd(rt: &HostRuntime, name: &str, disk: &mut FileDisk) {
     }
 }
 
+/// The file of this name, as it was opened; the exit status where it couldn't be, which is said. Of one that is
+/// served it is said what may not be as whoever named it thinks. Where there is a log it gets what fails.
+fn checked(
+    rt: &HostRuntime,
+    name: &str,
+    opened: Result<FileDisk, FileRefusal>,
+    is_served: bool,
+    is_keep: bool,
+    log: &mut Option<Log>,
+) -> Result<FileDisk, u8> {
+    let mut disk = match opened {
+        Ok(disk) => disk,
+        Err(refusal) => return Err(tell_refused(rt, name.as_bytes(), refusal)),
+    };
+    if is_served {
+        if disk.sectors() == 0 {
+            return Err(tell_name(rt, b"no sectors: ", name.as_bytes(), 5));
+        }
+        tell_odd(rt, name, &mut disk);
+    }
+    Ok(match log {
+        Some(log) => log.watch(disk, name, is_keep),
+        None => disk,
+    })
+}
+
+/// Opens the file of this name, which is no keep; the exit status where it can't be opened, which is said.
+fn open_named(
+    rt: &HostRuntime,
+    name: &str,
+    is_served: bool,
+    log: &mut Option<Log>,
+) -> Result<FileDisk, u8> {
+    checked(rt, name, FileDisk::open(rt, name), is_served, false, log)
+}
+
 /// Opens the file with this number; the exit status where it can't be opened, which is said. The copying
-/// to a mirror's first two files is shown, and where there is a log it gets what fails.
+/// to a mirror's first two files is shown.
 fn open_file(
     rt: &HostRuntime,
     command: &Command,
@@ -264,39 +330,41 @@ fn open_file(
     name: &str,
     log: &mut Option<Log>,
 ) -> Result<FileDisk, u8> {
-    let mut disk = match FileDisk::open(rt, name) {
-        Ok(disk) => disk,
-        Err(refusal) => return Err(tell_refused(rt, name.as_bytes(), refusal)),
+    // What a capture is judged by is only read, and may be the keep of a shelf that runs.
+    let opened = match command {
+        Command::Audit(_) => FileDisk::open_to_read(rt, name),
+        _ => FileDisk::open(rt, name),
     };
-    if is_served(command, number) {
-        if disk.sectors() == 0 {
-            return Err(tell_name(rt, b"no sectors: ", name.as_bytes(), 5));
-        }
-        tell_odd(rt, name, &mut disk);
-    }
+    let (is_served, is_keep) = (is_served(command, number), is_keep(command, number));
+    let mut disk = checked(rt, name, opened, is_served, is_keep, log)?;
     if matches!(command, Command::Mirror(_)) && number < 2 {
         disk.show_copying(rt);
     }
-    Ok(match log {
-        Some(log) => log.watch(disk, name, is_keep(command, number)),
-        None => disk,
-    })
+    Ok(disk)
 }
 
-/// Opens the files with these names; the exit status where one can't be opened, which is said.
+/// Opens the files with these names; the exit status where one can't be opened, which is said. Of one that is a
+/// mirror the rest is kept among `mirrors`.
 fn open_all(
     rt: &HostRuntime,
     command: &Command,
     names: &[String],
+    mirrors: &mut Mirrors,
     log: &mut Option<Log>,
-) -> Result<Vec<Option<FileDisk>>, u8>
+) -> Result<Vec<FileDisk>, u8>
     ensures count { IfOk result (λ disks. length disks.items ≡ length names.now) }
-    ensures there { IfOk result (λ disks. All IsSome disks.items) }
 {
     let mut disks = Vec::new(rt.alloc());
     'names: for name in names {
-        let disk = open_file(rt, command, disks.len(), name.as_str(), log)?;
-        if disks.push(Some(disk)).is_err() {
+        let number = disks.len();
+        if let (Some(log), Some(id)) = (&mut *log, slot_at(command, number)) {
+            log.open_slot(id);
+        }
+        let disk = match mirrors.open(command, number, name.as_str(), log)? {
+            Some(disk) => disk,
+            None => open_file(rt, command, number, name.as_str(), log)?,
+        };
+        if disks.push(disk).is_err() {
             return Err(tell(rt, Status::NoMemory));
         }
     }
@@ -345,12 +413,11 @@ fn look_at_keeps(
     rt: &HostRuntime,
     command: &Command,
     names: &[String],
-    disks: &[Option<FileDisk>],
+    disks: &[FileDisk],
     settling: &Settling,
 ) -> Result<(), u8> {
     'files: for (number, (name, disk)) in names.iter().zip(disks.iter()).enumerate() {
-        if let Some(disk) = disk
-            && is_keep(command, number)
+        if is_keep(command, number)
             && let Some(doubt) = doubt_of(rt, command, name.as_str(), disk)
         {
             let disk = settling.number(u32::try_from(number).unwrap_or(u32::MAX));
@@ -456,7 +523,7 @@ fn open_socket<'a>(
     };
     let bell = match PollBell::new(rt, link.link().medium(), waiter) {
         Ok(bell) => bell,
-        Err(error) => return Err(tell_failed(rt, shown.as_bytes(), &error, 6)),
+        Err(error) => return Err(tell_unawaited(rt, shown.as_bytes(), &error)),
     };
     match UnixClients::listen(rt, name, &bell) {
         Ok(mut clients) => {
@@ -554,7 +621,7 @@ fn run_over(
     command: &Command,
     streams: Streams,
     files: &[String],
-    disks: &mut [Option<FileDisk>],
+    disks: &mut [Option<SlotVolume>],
     links: &mut [Until<WireLink<Wire>>],
     flow: &Flow,
     disk: &Option<DiskTeller>,
@@ -574,7 +641,9 @@ fn run_over(
     let mut sink = Output::new(writer);
     let mut clock = SystemClock::new(rt);
     let mut watch = Teller::new(flow, disk);
-    let sides = SideTeller::new(rt, files);
+    let Ok(sides) = SideTeller::of(rt, files) else {
+        return Status::NoMemory;
+    };
     let status = aoe(
         rt.alloc(),
         command,
@@ -636,12 +705,10 @@ fn tell_reached(rt: &HostRuntime, command: &Command, is_sink: bool, reached: u64
 }
 
 /// Says how many sectors of a mirror have no second copy, and which file lacks them.
-fn tell_stale(rt: &HostRuntime, files: &[String], file: u32, sectors: u64) {
-    if let Some(name) = files.get(file as usize)
-        && let Ok(text) = format!(in rt.alloc();
-            "aoe: {sectors} sectors of {name} have no second copy\n"
-        )
-    {
+fn tell_stale(rt: &HostRuntime, name: &str, sectors: u64) {
+    if let Ok(text) = format!(in rt.alloc();
+        "aoe: {sectors} sectors of {name} have no second copy\n"
+    ) {
         say(rt, text.as_bytes());
     }
 }
@@ -655,8 +722,10 @@ fn tell_end(
     status: Status,
     reached: u64,
 ) -> u8 {
-    if let Status::Stale { file, sectors } = status {
-        tell_stale(rt, files, file, sectors);
+    if let Status::Stale { file, sectors } = status
+        && let Some(name) = files.get(file as usize)
+    {
+        tell_stale(rt, name.as_str(), sectors);
     }
     let is_whole = matches!(
         status,
@@ -664,23 +733,44 @@ fn tell_end(
     );
     let is_sink = matches!(status, Status::SinkFault);
     let code = tell(rt, status);
+    if let Status::Audit { kind, .. } = status
+        && let Ok(lines) = finding_lines(rt.alloc(), &kind)
+    {
+        say(rt, lines.as_slice());
+    }
     if !is_whole {
         tell_reached(rt, command, is_sink, reached);
     }
     code
 }
 
-/// Says what came of a shelf that was served over these disks and links, where there is a log.
-fn end_log(
-    log: &Option<Log>,
-    command: &Command,
-    disks: &[Option<FileDisk>],
-    links: &[Until<WireLink<Wire>>],
-) {
+/// Says what came of a shelf that was served over these links, where there is a log, and how many calls of files
+/// failed.
+fn end_log(log: &Option<Log>, command: &Command, failed: u64, links: &[Until<WireLink<Wire>>]) {
     if let (Some(log), [link]) = (log, links)
         && matches!(command, Command::Serve(_) | Command::Mirror(_))
     {
-        log.end(disks, link);
+        log.end(failed, link);
+    }
+}
+
+/// Says what is served over these links, where there is a log; where it is asked for, a link says again and
+/// again what comes of a shelf.
+fn start_log(
+    log: &mut Option<Log>,
+    command: &Command,
+    ends: &[PortWords],
+    links: &mut [Until<WireLink<Wire>>],
+) {
+    let Some(log) = log else {
+        return;
+    };
+    log.start(command, ends);
+    if let [link] = links
+        && matches!(command, Command::Serve(_) | Command::Mirror(_))
+        && let Some(report) = log.report()
+    {
+        link.report_to(report);
     }
 }
 
@@ -699,12 +789,12 @@ fn run_linked(
     rt: &HostRuntime,
     mut line: CommandLine,
     mut settling: Settling,
-    disks: &mut [Option<FileDisk>],
+    mut mirrors: Mirrors,
+    mut disks: Vec<FileDisk>,
     log: &mut Option<Log>,
 ) -> u8
     requires range { IsInRange line.command }
-    requires count { length disks.old ≡ file_count line.command }
-    requires there { All IsSome disks.old }
+    requires count { length disks.items ≡ file_count line.command }
     requires links { length line.links.items ≡ link_count line.command }
 {
     let (socket, stop) = (line.socket.take(), line.stop.take());
@@ -722,23 +812,25 @@ fn run_linked(
         Err(code) => return code,
     };
     let files = line.files.as_slice();
-    if let Err(code) = settling.settle(&line.command, files, disks) {
+    if let Err(code) = settling.settle(&line.command, files, disks.as_mut_slice()) {
         return code;
     }
+    let mut volumes = match mirrors.mount(files, disks) {
+        Ok(volumes) => volumes,
+        Err(code) => return code,
+    };
     let streams = match Streams::open(rt, &line, &flow) {
         Ok(streams) => streams,
         Err(code) => return code,
     };
-    if let Some(log) = &mut *log {
-        log.start(&line.command, line.links.as_slice());
-    }
     let links = links.as_mut_slice();
+    start_log(log, &line.command, line.links.as_slice(), links);
     let status = run_over(
         rt,
         &line.command,
         streams,
         files,
-        disks,
+        volumes.as_mut_slice(),
         links,
         &flow,
         &disk,
@@ -746,9 +838,11 @@ fn run_linked(
     );
     door.clients.tell_end();
     tell_offloaded(rt, links);
-    end_log(log, &line.command, disks, links);
     let status = settling.numbered(status);
-    settling.code(tell_end(rt, &line.command, files, status, flow.reached()))
+    let code = settling.code(tell_end(rt, &line.command, files, status, flow.reached()));
+    let finished = mirrors.finish(files, volumes, code);
+    end_log(log, &line.command, finished.failed, links);
+    finished.code
 }
 
 /// Opens the files of a command line and what else it names, runs its command over them, and gives the
@@ -763,20 +857,24 @@ fn run_line(rt: &HostRuntime, mut line: CommandLine) -> u8
     {
         return tell_stopped(rt, name.as_bytes());
     }
-    let mut log = Log::asked(rt, is_on_link(&line.command));
+    let mut log = match Log::asked(rt, is_on_link(&line.command)) {
+        Ok(log) => log,
+        Err(value) => return tell_name(rt, NO_PERIOD, value.as_bytes(), 1),
+    };
     let settling = match Settling::open(rt, line.alone.take(), line.lead_other, &mut log) {
         Ok(settling) => settling,
         Err(code) => return code,
     };
-    let mut disks = match open_all(rt, &line.command, line.files.as_slice(), &mut log) {
+    let mut mirrors = Mirrors::none(rt);
+    let files = line.files.as_slice();
+    let disks = match open_all(rt, &line.command, files, &mut mirrors, &mut log) {
         Ok(disks) => disks,
         Err(code) => return code,
     };
-    let files = line.files.as_slice();
     if let Err(code) = look_at_keeps(rt, &line.command, files, disks.as_slice(), &settling) {
         return code;
     }
-    run_linked(rt, line, settling, disks.as_mut_slice(), &mut log)
+    run_linked(rt, line, settling, mirrors, disks, &mut log)
 }
 
 /// What the arguments spell; the status where they spell no command, and where there is no memory to read

@@ -1,10 +1,10 @@
 //! What MARK is to say of the FILEs of a mirror before they are served; and where one of them is gone, what is
 //! said of the one that is left.
-ghost use Rattle.std.specs.Prelude.{◌≡◌, All, IsSome, length};
+ghost use Rattle.std.specs.Prelude.{◌≡◌, length};
 
 use crate::log::Log;
 use crate::status::Status;
-use crate::{tell, tell_failed, tell_refused};
+use crate::{open_named, tell, tell_failed};
 use aoe_args::{Alone, Command};
 use aoe_disk::Disk;
 use aoe_mirror::{Digest, MarkRefusal, Named, settle_mark};
@@ -19,7 +19,7 @@ const KEEP: u32 = 3;
 const PLACES: (&str, &str) = ("first", "second");
 
 /// The exit status of a run that leaves sectors without a second copy.
-const ONE_COPY: u8 = 18;
+pub const ONE_COPY: u8 = 18;
 
 /// The FILE that is left of a mirror, by its number, and what says which FILE leads.
 #[derive(Drop)]
@@ -67,34 +67,22 @@ impl<'a> Names<'a> {
     }
 }
 
-/// Opens the file of this name, which says of a mirror which FILE leads; the exit status where it can't be opened,
-/// which is said.
-fn open_mark(rt: &HostRuntime, name: &str, log: &mut Option<Log>) -> Result<FileDisk, u8> {
-    let disk = match FileDisk::open(rt, name) {
-        Ok(disk) => disk,
-        Err(refusal) => return Err(tell_refused(rt, name.as_bytes(), refusal)),
-    };
-    Ok(match log {
-        Some(log) => log.watch(disk, name, false),
-        None => disk,
-    })
-}
-
 /// Whether the first two of these disks have one size.
-fn have_one_size(disks: &[Option<FileDisk>]) -> bool {
+fn have_one_size(disks: &[FileDisk]) -> bool {
     match disks {
-        [Some(first), Some(second), ..] => first.sectors() == second.sectors(),
+        [first, second, ..] => first.sectors() == second.sectors(),
         _ => false,
     }
 }
 
-/// Says why MARK isn't settled for two FILEs, or for one that is there alone, and gives the exit status.
-fn tell_unsettled(rt: &HostRuntime, names: Names, refusal: MarkRefusal) -> u8 {
+/// Says why MARK isn't settled for two FILEs, or for one that is there alone, and gives the exit status. MARK
+/// has this number.
+fn tell_unsettled(rt: &HostRuntime, names: Names, disk: u32, refusal: MarkRefusal) -> u8 {
     let alloc = rt.alloc();
     let text = match refusal {
         MarkRefusal::NoMark => return tell(rt, Status::MirrorMark),
         MarkRefusal::NotMark => return tell(rt, Status::NotMark),
-        MarkRefusal::Failed => return tell(rt, Status::DiskFault { disk: MARK }),
+        MarkRefusal::Failed => return tell(rt, Status::DiskFault { disk }),
         MarkRefusal::Moved { side } => {
             let (name, _) = names.split(side);
             let (now, was) = if side == 0 {
@@ -125,6 +113,58 @@ fn tell_unsettled(rt: &HostRuntime, names: Names, refusal: MarkRefusal) -> u8 {
     8
 }
 
+/// Makes this disk, which has this number, say what it is to say of the FILEs with these names; the exit status
+/// where it is refused, which is said.
+pub fn settle_both(
+    rt: &HostRuntime,
+    mark: &mut FileDisk,
+    disk: u32,
+    one: &str,
+    two: &str,
+    lead_other: bool,
+) -> Result<(), u8> {
+    let named = Named {
+        one: Some(digest_of(rt, one)?),
+        two: Some(digest_of(rt, two)?),
+    };
+    match settle_mark(mark, &named, lead_other) {
+        Ok(()) => Ok(()),
+        Err(refusal) => Err(tell_unsettled(rt, Names::Both(one, two), disk, refusal)),
+    }
+}
+
+/// The same of the FILE with this name, the only one of the two, as which it has the number `side`.
+pub fn settle_alone(
+    rt: &HostRuntime,
+    mark: &mut FileDisk,
+    disk: u32,
+    name: &str,
+    side: u8,
+    lead_other: bool,
+) -> Result<(), u8> {
+    let digest = digest_of(rt, name)?;
+    let named = if side == 0 {
+        Named {
+            one: Some(digest),
+            two: None,
+        }
+    } else {
+        Named {
+            one: None,
+            two: Some(digest),
+        }
+    };
+    if let Err(refusal) = settle_mark(mark, &named, lead_other) {
+        return Err(tell_unsettled(rt, Names::One(name), disk, refusal));
+    }
+    if let Ok(text) = format!(in rt.alloc();
+        "aoe: {name} is served alone: it has no second copy\n"
+    ) {
+        say(rt, text.as_bytes());
+    }
+    Ok(())
+}
+
 impl Settling {
     /// Opens what says which FILE leads where one of them is gone; the exit status where it can't be opened, which
     /// is said.
@@ -137,7 +177,7 @@ impl Settling {
         let left = match alone {
             Some(Alone { mark, side }) => Some(Left {
                 side,
-                mark: open_mark(rt, mark.as_str(), log)?,
+                mark: open_named(rt, mark.as_str(), false, log)?,
             }),
             None => None,
         };
@@ -148,60 +188,23 @@ impl Settling {
         })
     }
 
-    /// Makes this disk say what it is to say of the FILEs with these names; the exit status where it is refused,
-    /// which is said.
-    fn settle_both(&self, mark: &mut FileDisk, one: &str, two: &str) -> Result<(), u8> {
-        let named = Named {
-            one: Some(digest_of(&self.rt, one)?),
-            two: Some(digest_of(&self.rt, two)?),
-        };
-        match settle_mark(mark, &named, self.lead_other) {
-            Ok(()) => Ok(()),
-            Err(refusal) => Err(tell_unsettled(&self.rt, Names::Both(one, two), refusal)),
-        }
-    }
-
     /// Makes the third of these disks say what it is to say, where there is one.
-    fn settle_third(&self, disks: &mut [Option<FileDisk>], one: &str, two: &str) -> Result<(), u8>
-        requires there { All IsSome disks.old }
-        ensures there { All IsSome disks.new }
+    fn settle_third(&self, disks: &mut [FileDisk], one: &str, two: &str) -> Result<(), u8>
         ensures count { length disks.new ≡ length disks.old }
     {
         if disks.len() < 3 {
             return Ok(());
         }
-        match &mut disks[2] {
-            Some(mark) => self.settle_both(mark, one, two),
-            None => Ok(()),
-        }
+        settle_both(&self.rt, &mut disks[2], MARK, one, two, self.lead_other)
     }
 
     /// The same of the FILE with this name, which is the only one.
     fn settle_left(&mut self, name: &str) -> Result<(), u8> {
-        let Some(left) = &mut self.left else {
-            return Ok(());
-        };
-        let digest = digest_of(&self.rt, name)?;
-        let named = if left.side == 0 {
-            Named {
-                one: Some(digest),
-                two: None,
-            }
-        } else {
-            Named {
-                one: None,
-                two: Some(digest),
-            }
-        };
-        if let Err(refusal) = settle_mark(&mut left.mark, &named, self.lead_other) {
-            return Err(tell_unsettled(&self.rt, Names::One(name), refusal));
+        let lead_other = self.lead_other;
+        match &mut self.left {
+            Some(left) => settle_alone(&self.rt, &mut left.mark, MARK, name, left.side, lead_other),
+            None => Ok(()),
         }
-        if let Ok(text) = format!(in self.rt.alloc();
-            "aoe: {name} is served alone: it has no second copy\n"
-        ) {
-            say(&self.rt, text.as_bytes());
-        }
-        Ok(())
     }
 
     /// Settles what there is to settle for a command over these files; the exit status where it is refused, which
@@ -210,10 +213,8 @@ impl Settling {
         &mut self,
         command: &Command,
         files: &[String],
-        disks: &mut [Option<FileDisk>],
+        disks: &mut [FileDisk],
     ) -> Result<(), u8>
-        requires there { All IsSome disks.old }
-        ensures there { All IsSome disks.new }
         ensures count { length disks.new ≡ length disks.old }
     {
         if let [name, ..] = files

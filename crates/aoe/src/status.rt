@@ -181,9 +181,9 @@ fn finding_of(kind: Kind) -> &'static str
     ensures { result.now ≡ finding_of kind }
 {
     match kind {
-        Kind::Short => "short",
-        Kind::Reply => "reply",
-        Kind::Missing => "missing",
+        Kind::Short { .. } => "short",
+        Kind::Reply { .. } => "reply",
+        Kind::Missing { .. } => "missing",
     }
 }
 

@@ -4,6 +4,7 @@ use aoe_base::TargetId;
 use aoe_copy::Watch;
 use aoe_mirror::{MirrorEvent, MirrorWatch};
 use aoe_system::{Flow, say};
+use std::alloc::AllocError;
 
 /// Says on standard error which device is served at a socket, and how long it is.
 #[derive(Drop)]
@@ -56,28 +57,41 @@ impl Watch for Teller<'_> {
     }
 }
 
-/// Says on standard error what becomes of the sides of a mirror, the first two of these files.
+/// Says on standard error what becomes of the sides of a mirror.
 #[derive(Drop)]
-pub struct SideTeller<'a> {
+pub struct SideTeller {
     rt: HostRuntime,
-    files: &'a [String],
+    one: String,
+    two: String,
 }
 
-impl<'a> SideTeller<'a> {
-    pub fn new(rt: &HostRuntime, files: &'a [String]) -> SideTeller<'a> {
-        SideTeller { rt: *rt, files }
+impl SideTeller {
+    /// Of sides with these names.
+    pub fn new(rt: &HostRuntime, one: &str, two: &str) -> Result<SideTeller, AllocError> {
+        let alloc = rt.alloc();
+        Ok(SideTeller {
+            rt: *rt,
+            one: format!(in alloc; "{one}")?,
+            two: format!(in alloc; "{two}")?,
+        })
+    }
+
+    /// Of the first two of these files; without names where there are fewer.
+    pub fn of(rt: &HostRuntime, files: &[String]) -> Result<SideTeller, AllocError> {
+        match files {
+            [one, two, ..] => SideTeller::new(rt, one.as_str(), two.as_str()),
+            _ => SideTeller::new(rt, "", ""),
+        }
     }
 }
 
-impl MirrorWatch for SideTeller<'_> {
+impl MirrorWatch for SideTeller {
     ghost use Rattle.std.specs.Prelude.{None};
 
     ghost told = { λ t. None };
 
     fn tell(&mut self, event: MirrorEvent) {
-        let [one, two, ..] = self.files else {
-            return;
-        };
+        let (one, two) = (self.one.as_str(), self.two.as_str());
         let alloc = self.rt.alloc();
         let text = match event {
             MirrorEvent::Leads(0) => format!(in alloc;

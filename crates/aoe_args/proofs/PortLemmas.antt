@@ -1,18 +1,24 @@
 -- A list of parts of a text, of ports or of other things, read one by one.
-use Rattle.std.proofs.Common.{◌≡◌, ◌∙◌, ◌+◌, ◌<◌, ◌≤◌, ◌==◌, ℕ, suc, Bool, true, false, cond, List, [], ◌∷◌, ◌++◌, length, get_or, drop, Option, Some, None, nat_le, refl, sym, ap, arith}
+use Rattle.std.proofs.Common.{◌≡◌, ◌≢◌, ne_eqb, ◌∙◌, ◌+◌, ◌<◌, ◌≤◌, ◌==◌, ℕ, suc, Bool, true, false, cond, List, [], ◌∷◌, ◌++◌, length, get_or, drop, Option, Some, None, nat_le, refl, sym, ap, arith}
 use Rattle.std.specs.Prelude.{option_and_then, option_map, IfSome, if◌then◌else◌}
 use Rattle.std.specs.List.{list_all, slice_split}
 use Rattle.std.proofs.lemmas.List.Splits.{length-slice_split}
-use Rattle.std.proofs.lemmas.List.{length-append}
+use Rattle.std.proofs.lemmas.List.{length-append, length-map}
+use Rattle.std.specs.Char.{to_ascii_lowercase}
+use Rattle.aoe_base.specs.Names.{mac_of}
 use Rattle.std.proofs.lemmas.Bool.Decides.{nat_tests}
 use Rattle.clap.specs.Words.{Text}
 use Rattle.aoe_base.specs.declared.address.Mac.{Mac}
-use Rattle.aoe_base.specs.Names.{mac_of}
 use Rattle.aoe_base.specs.Addresses.{all_unique, is_individual}
 use Rattle.aoe_base.proofs.EachLemmas.{AreRead, one_more, each_read}
 use Rattle.aoe_base.specs.Texts.{each}
-use Rattle.aoe_args.specs.Values.{port_of, up_to}
+use Rattle.aoe_args.specs.Values.{address_of, port_of, up_to}
 use Rattle.aoe_args.specs.Words.{ArePorts}
+
+-- a text of another length spells no address
+pub no_address : (text : Text) → length text ≢ 17 → None ≡ address_of text
+unfolding address_of mac_of
+no_address text other = rw (length-map text to_ascii_lowercase, ne_eqb (length text) 17 other) refl
 
 -- more than so many
 too_many : {T : Type 0} (read : Text → Option T) (most : ℕ) (texts : List Text) (n : ℕ) (xs : List T) → AreRead read texts n xs → most < n
@@ -42,7 +48,7 @@ all_read read most texts n xs h end few =
 -- each is the address of a single station, and there are as many as parts
 pub individual_ports : (texts : List Text) → IfSome (each port_of texts) (λ ports. (list_all is_individual ports ≡ true) × (length ports ≡ length texts))
 individual_ports [] = (refl, refl)
-individual_ports (text ∷ texts) = go (mac_of text) (each port_of texts) (individual_ports texts)
+individual_ports (text ∷ texts) = go (address_of text) (each port_of texts) (individual_ports texts)
   where
     with_port : (b : Bool) (mac : Mac) → is_individual mac ≡ b → (o : Option (List Mac))
         → IfSome o (λ ports. (list_all is_individual ports ≡ true) × (length ports ≡ length texts))

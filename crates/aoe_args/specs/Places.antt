@@ -138,8 +138,12 @@ is_gone_file form words n =
 abbrev pub is_second_file : Form → List Text → ℕ → Bool
 is_second_file form words n = not (is_some (awaits form words n)) && bytes_eq form.0 (codes "mirror") && plain_before form words n == 3
 
+-- the argument that a word at this place goes to where it is no option: the one that awaits its value, or the next by its place
+abbrev pub argument_due : Form → List Text → ℕ → Option Text
+argument_due form words n = option_or (awaits form words n) (argument_behind form.1 (plain_before form words n))
+
 -- the argument that the word at this place is or has a value for: it is an option, the value of the one before it, or goes by its place among the others
 abbrev pub argument_at : Form → List Text → ℕ → Option Text
 argument_at form words n =
-    if is_value (word_at n words) then option_or (awaits form words n) (argument_behind form.1 (plain_before form words n))
+    if is_value (word_at n words) then argument_due form words n
     else option_map (λ a. a.0) (option_at form words n)

@@ -1,15 +1,16 @@
 -- What is wrong with words that are no command.
-use Rattle.std.specs.Prelude.{ℕ, ◌≡◌, ◌<◌, ◌≤◌, ◌+◌, ◌⊎◌, Bool, true, false, is_some, ◌||◌, List, [], ◌∷◌, length, take, Option, Some, None, if◌then◌else◌, codes, IfSome, IsSomeAnd, MatchOption}
+use Rattle.std.specs.Prelude.{ℕ, ◌≡◌, ◌<◌, ◌≤◌, ◌+◌, ◌==◌, ◌&&◌, ◌⊎◌, Bool, slice_index, true, false, is_some, ◌||◌, List, [], ◌∷◌, length, take, Option, Some, None, if◌then◌else◌, codes, IfSome, IsSomeAnd, MatchOption}
 use Rattle.std.specs.List.{list_all, list_any}
+use Rattle.std.specs.Int.{is_in_range}
 use Rattle.std.specs.Str.{bytes_eq}
 use Rattle.clap.specs.Words.{Text}
-use Rattle.aoe_base.specs.Names.{device_of, mac_of}
+use Rattle.aoe_base.specs.Names.{device_of}
 use Rattle.aoe_base.specs.Sizes.{longest_lifetime, most_cached, most_simulated}
 use Rattle.aoe_args.specs.Lacks.{AreExclusive, IsAlone, IsLacking, IsLastPlain, IsUnlinked, IsUnset, follower, most_words, plain_count}
-use Rattle.aoe_args.specs.Places.{Form, argument_at, awaits, form_by, is_flag, is_given, is_gone_file, is_second_file, option_at, option_named, word_at}
+use Rattle.aoe_args.specs.Places.{Form, argument_at, argument_due, awaits, form_by, is_flag, is_given, is_gone_file, is_second_file, option_at, option_named, word_at}
 use Rattle.aoe_args.specs.Switching.{kind_of}
 use Rattle.aoe_args.specs.Tools.{dir_of, is_socket_path}
-use Rattle.aoe_args.specs.Values.{number_within, port_of, ports_of}
+use Rattle.aoe_args.specs.Values.{address_of, number_within, port_of, ports_of}
 use Rattle.aoe_args.specs.Words.{attached, is_hyphen, is_name, is_value, is_word}
 use Rattle.aoe_args.specs.declared.slip.Actions.{Actions}
 use Rattle.aoe_args.specs.declared.slip.Actions.TheVariants as for
@@ -42,7 +43,7 @@ IsMisfit want.Port text = port_of text ≡ None
 IsMisfit want.Ports text = ports_of text ≡ None
 IsMisfit want.SwitchPort text = kind_of text ≡ None
 IsMisfit want.Device text = device_of text ≡ None
-IsMisfit want.Address text = mac_of text ≡ None
+IsMisfit want.Address text = address_of text ≡ None
 IsMisfit want.Directive text = dir_of text ≡ None
 IsMisfit (want.Action actions) text = is_action actions text ≡ false
 IsMisfit want.List text = is_list text ≡ false
@@ -150,6 +151,17 @@ pub record IsUnfit (form : Form) (words : List Text) (n : ℕ) (name : Text) (ki
   pub asked : wanted form.0 name ≡ Some kind
   pub unfit : IsSomeAnd (text_in (word_at n words)) (IsMisfit kind)
 
+-- a word is meant as a number below 0: a hyphen (45) with a digit behind it
+abbrev pub is_negative : Text → Bool
+is_negative word = slice_index word 0 == 45 && is_in_range 48 57 (slice_index word 1)
+
+-- such a word stands where the argument of this name is due, which has to be something else
+pub record IsNegative (form : Form) (words : List Text) (n : ℕ) (name : Text) (kind : Wanted) : Type 0 where
+  pub negative : is_negative (word_at n words) ≡ true
+  pub due : argument_due form words n ≡ Some name
+  pub asked : wanted form.0 name ≡ Some kind
+  pub unfit : IsMisfit kind (word_at n words)
+
 -- the word at this place is one hyphen, and stands for no file of a mirror that is gone
 pub record IsMisplaced (form : Form) (words : List Text) (n : ℕ) : Type 0 where
   pub hyphen : is_hyphen (word_at n words) ≡ true
@@ -171,6 +183,7 @@ IsWrongIn form words n wrong.Further = (is_value (word_at n words) ≡ true) × 
 IsWrongIn form words n wrong.Hyphens = IsMisplaced form words n
 IsWrongIn form words n wrong.BothGone = AreBothGone form words n
 IsWrongIn form words n (wrong.Unfit name wanted) = IsUnfit form words n name.now wanted
+IsWrongIn form words n (wrong.Negative name wanted) = IsNegative form words n name.now wanted
 IsWrongIn form words n (wrong.Behind name) =
     IsLastPlain form words n × (follower form.0 (plain_count form words) (word_at n words) ≡ Some name.now)
 IsWrongIn form words n (wrong.TooMany limit) = IsLastPlain form words n × AreTooMany form words

@@ -6,13 +6,13 @@ use Rattle.aoe_base.specs.Decimal.{number_of}
 use Rattle.aoe_base.specs.declared.address.Mac.{Mac}
 use Rattle.aoe_base.specs.declared.address.TargetId.{TargetId}
 use Rattle.aoe_base.specs.Addresses.{is_individual}
-use Rattle.aoe_base.specs.Names.{device_of, mac_of}
+use Rattle.aoe_base.specs.Names.{device_of}
 use Rattle.arrayvec.specs.ArrayVec.{ArrayVec}
 use Rattle.aoe_base.specs.Sizes.{longest_lifetime}
 use Rattle.aoe_lists.specs.Settings.{max_directives}
 use Rattle.aoe_lists.specs.declared.dir.Dir.{Dir}
 use Rattle.aoe_base.specs.Texts.{each}
-use Rattle.aoe_args.specs.Values.{given, given_or, idle_of, is_set, link, nbd_port, number_within, port_of, tool_port}
+use Rattle.aoe_args.specs.Values.{address_of, given, given_or, idle_of, is_set, link, nbd_port, number_within, port_of, tool_port}
 use Rattle.aoe_args.specs.declared.command.Asking.{Asking}
 use Rattle.aoe_args.specs.declared.command.Cfg.{Cfg as Cfgs}
 use Rattle.aoe_args.specs.declared.command.Discover.{Discover as Discovers}
@@ -83,8 +83,8 @@ cfg_of rows =
 -- DIR: add=MAC or del=MAC
 abbrev pub dir_of : Text → Option Dir
 dir_of word =
-    if bytes_eq (take 4 word) (codes "add=") then option_map (λ mac. record { add = true; mac = mac }) (mac_of (drop 4 word))
-    else if bytes_eq (take 4 word) (codes "del=") then option_map (λ mac. record { add = false; mac = mac }) (mac_of (drop 4 word))
+    if bytes_eq (take 4 word) (codes "add=") then option_map (λ mac. record { add = true; mac = mac }) (address_of (drop 4 word))
+    else if bytes_eq (take 4 word) (codes "del=") then option_map (λ mac. record { add = false; mac = mac }) (address_of (drop 4 word))
     else None
 
 -- a list has one word to as many as one request takes
@@ -126,7 +126,7 @@ rcmd_with_list action =
 -- the command and its list
 abbrev pub reservation_of : Text → Option (List Text) → Option (ℕ × List Mac)
 reservation_of action None = option_map (λ rcmd. (rcmd, [])) (rcmd_alone action)
-reservation_of action (Some words) = option_and_then (λ rcmd. option_map (λ list. (rcmd, list)) (listed mac_of words)) (rcmd_with_list action)
+reservation_of action (Some words) = option_and_then (λ rcmd. option_map (λ list. (rcmd, list)) (listed address_of words)) (rcmd_with_list action)
 
 unfoldable pub reserve_of : List Row → Option Reserves
 reserve_of rows =

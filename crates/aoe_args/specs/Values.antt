@@ -1,12 +1,13 @@
 -- The values that words have: numbers, and the addresses of ports.
-use Rattle.std.specs.Prelude.{ℕ, ◌==◌, Bool, false, List, [], ◌∷◌, length, nat_le, Option, Some, None, if◌then◌else◌, option_and_then, option_map, codes}
+use Rattle.std.specs.Prelude.{ℕ, ◌≡◌, ◌==◌, Bool, true, false, not, List, [], ◌∷◌, length, map, take, slice_get, nat_le, IsSomeAnd, Option, Some, None, if◌then◌else◌, option_and_then, option_map, codes}
+use Rattle.std.specs.Char.{to_ascii_lowercase}
 use Rattle.std.specs.List.{slice_split}
 use Rattle.std.specs.Option.{option_map_or}
 use Rattle.std.specs.Str.{bytes_eq}
 use Rattle.clap.specs.Words.{Row, Text, first_of}
 use Rattle.aoe_base.specs.Decimal.{number_of}
 use Rattle.aoe_base.specs.declared.address.Mac.{Mac}
-use Rattle.aoe_base.specs.Addresses.{all_unique, is_individual}
+use Rattle.aoe_base.specs.Addresses.{all_unique, holds, is_individual}
 use Rattle.aoe_base.specs.Names.{mac_of}
 use Rattle.aoe_base.specs.Texts.{each}
 use Rattle.aoe_args.specs.declared.command.PortWords.{PortWords}
@@ -45,9 +46,17 @@ nbd_port = record { 0 = 2 ∷ 0 ∷ 0 ∷ 0 ∷ 0 ∷ 11 ∷ [] }
 abbrev pub idle_of : List Row → Option (Option ℕ)
 idle_of rows = option_map (λ turns. if turns == 0 then None else Some turns) (given_or (codes "idle") (number_within 0 1000000) 0 rows)
 
+-- the address that a text spells, with letters of either case, or nothing
+unfoldable pub address_of : Text → Option Mac
+address_of text = mac_of (map to_ascii_lowercase text)
+
 -- the address of a port that a text spells, or nothing
 abbrev pub port_of : Text → Option Mac
-port_of text = option_and_then (λ mac. if is_individual mac then Some mac else None) (mac_of text)
+port_of text = option_and_then (λ mac. if is_individual mac then Some mac else None) (address_of text)
+
+-- a text spells the address of a group of stations
+abbrev pub is_group : Text → Bool
+is_group text = option_map_or (λ mac. not (is_individual mac)) (address_of text) false
 
 -- so many at most, or nothing
 abbrev pub up_to : {T : Type 0} → ℕ → Option (List T) → Option (List T)
@@ -57,6 +66,12 @@ up_to most = option_and_then (λ xs. if nat_le (length xs) most then Some xs els
 unfoldable pub ports_of : Text → Option (List Mac)
 ports_of text =
     option_and_then (λ ports. if all_unique ports then Some ports else None) (up_to 4 (each port_of (slice_split (λ c. c == 44) text)))
+
+-- of at most four addresses of ports, joined by commas, the one at this place stands before it, too
+abbrev pub IsTwice : ℕ → Text → Type 0
+IsTwice n text =
+    IsSomeAnd (up_to 4 (each port_of (slice_split (λ c. c == 44) text))) (λ ports.
+    IsSomeAnd (slice_get ports n) (λ port. holds (take n ports) port ≡ true))
 
 -- the number of a VXLAN, of 24 bits (RFC 7348, section 5), where one is given
 abbrev pub vxlan_of : List Row → Option (Option ℕ)

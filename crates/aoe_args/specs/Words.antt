@@ -388,85 +388,48 @@ files_of (Keep action) rows = option_map_or (λ name. name ∷ []) (keep_name ro
 abbrev pub file_names : List Text → List Text
 file_names words = option_map_or (λ p. files_of p.0 p.1) (spelled words) []
 
--- the socket at which it listens
-abbrev pub socket_in : Command → List Row → Option Text
-socket_in (Answer answer) rows = None
-socket_in (Serve serve) rows = None
-socket_in (Mirror asked) rows = None
-socket_in Compare rows = None
-socket_in (Audit audit) rows = None
-socket_in Replay rows = None
-socket_in (Soak soak) rows = None
-socket_in (Live live) rows = None
-socket_in (Switch asked) rows = None
-socket_in (Ask tool) rows = None
-socket_in (Get get) rows = None
-socket_in (Put put) rows = None
-socket_in (Nbd nbd) rows = socket_path rows
-socket_in (Keep action) rows = None
+-- what a command names beside its files and links
+pub record Named : Type 0 where
+  -- the socket at which it listens
+  pub socket : Option Text
+  -- the file whose coming ends the run
+  pub stop : Option Text
+  -- the file that it writes in place of standard output
+  pub output : Option Text
+  -- the part of a file that it reads in place of standard input
+  pub input : Option (Text × ℕ × Option ℕ)
+
+-- a command that names none of them
+abbrev pub unnamed : Named
+unnamed = record { socket = None; stop = None; output = None; input = None }
+
+abbrev pub named_in : Command → List Row → Named
+named_in (Answer answer) rows = unnamed
+named_in (Serve serve) rows = record unnamed { stop = first_of (codes "stop") rows }
+named_in (Mirror asked) rows = record unnamed { stop = first_of (codes "stop") rows }
+named_in Compare rows = unnamed
+named_in (Audit audit) rows = unnamed
+named_in Replay rows = unnamed
+named_in (Soak soak) rows = unnamed
+named_in (Live live) rows = unnamed
+named_in (Switch asked) rows = unnamed
+named_in (Ask tool) rows = unnamed
+named_in (Get get) rows = record unnamed { output = output rows }
+named_in (Put put) rows = record unnamed { input = input rows }
+named_in (Nbd nbd) rows = record unnamed { socket = socket_path rows; stop = first_of (codes "stop") rows }
+named_in (Keep action) rows = unnamed
 
 abbrev pub socket_name : List Text → Option Text
-socket_name words = option_and_then (λ p. socket_in p.0 p.1) (spelled words)
-
--- the file whose coming ends the run, where one is named
-abbrev pub stop_in : Command → List Row → Option Text
-stop_in (Answer answer) rows = None
-stop_in (Serve serve) rows = first_of (codes "stop") rows
-stop_in (Mirror asked) rows = first_of (codes "stop") rows
-stop_in Compare rows = None
-stop_in (Audit audit) rows = None
-stop_in Replay rows = None
-stop_in (Soak soak) rows = None
-stop_in (Live live) rows = None
-stop_in (Switch asked) rows = None
-stop_in (Ask tool) rows = None
-stop_in (Get get) rows = None
-stop_in (Put put) rows = None
-stop_in (Nbd nbd) rows = first_of (codes "stop") rows
-stop_in (Keep action) rows = None
+socket_name words = option_and_then (λ p. (named_in p.0 p.1).socket) (spelled words)
 
 abbrev pub stop_name : List Text → Option Text
-stop_name words = option_and_then (λ p. stop_in p.0 p.1) (spelled words)
-
--- the file that it writes in place of standard output, where one is named
-abbrev pub output_in : Command → List Row → Option Text
-output_in (Answer answer) rows = None
-output_in (Serve serve) rows = None
-output_in (Mirror asked) rows = None
-output_in Compare rows = None
-output_in (Audit audit) rows = None
-output_in Replay rows = None
-output_in (Soak soak) rows = None
-output_in (Live live) rows = None
-output_in (Switch asked) rows = None
-output_in (Ask tool) rows = None
-output_in (Get get) rows = output rows
-output_in (Put put) rows = None
-output_in (Nbd nbd) rows = None
-output_in (Keep action) rows = None
+stop_name words = option_and_then (λ p. (named_in p.0 p.1).stop) (spelled words)
 
 abbrev pub output_name : List Text → Option Text
-output_name words = option_and_then (λ p. output_in p.0 p.1) (spelled words)
-
--- the part of a file that it reads in place of standard input, where one is named
-abbrev pub input_in : Command → List Row → Option (Text × ℕ × Option ℕ)
-input_in (Answer answer) rows = None
-input_in (Serve serve) rows = None
-input_in (Mirror asked) rows = None
-input_in Compare rows = None
-input_in (Audit audit) rows = None
-input_in Replay rows = None
-input_in (Soak soak) rows = None
-input_in (Live live) rows = None
-input_in (Switch asked) rows = None
-input_in (Ask tool) rows = None
-input_in (Get get) rows = None
-input_in (Put put) rows = input rows
-input_in (Nbd nbd) rows = None
-input_in (Keep action) rows = None
+output_name words = option_and_then (λ p. (named_in p.0 p.1).output) (spelled words)
 
 abbrev pub input_part : List Text → Option (Text × ℕ × Option ℕ)
-input_part words = option_and_then (λ p. input_in p.0 p.1) (spelled words)
+input_part words = option_and_then (λ p. (named_in p.0 p.1).input) (spelled words)
 
 -- how far it has come is told where standard error is no terminal, too
 abbrev pub is_told_in : Command → List Row → Bool
@@ -698,8 +661,8 @@ pub record Fits (rows : List Row) (c : Command) : Type 0 where
   pub range : IsInRange (run_of c rows)
   pub files : length (files_of c rows) ≡ file_count (run_of c rows)
   pub links : length (links_of c rows) ≡ link_count (run_of c rows)
-  pub socket : is_some (socket_in c rows) ≡ listens (run_of c rows)
-  pub path : IfSome (socket_in c rows) IsSocketPath
+  pub socket : is_some (named_in c rows).socket ≡ listens (run_of c rows)
+  pub path : IfSome (named_in c rows).socket IsSocketPath
 
 -- ---- words without options
 

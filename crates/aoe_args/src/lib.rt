@@ -22,12 +22,13 @@
 //! `command`, and none exactly where they spell none; with it files (`file_names`), links (`port_words`),
 //! socket (`socket_name`), stop file (`stop_name`), files of a copy (`output_name`, `input_part`),
 //! `is_told`, the side of a mirror that is there (`alone_of`) and `leads_other`. Numbers are in their
-//! ranges (`IsInRange`, `IsPart`), and the path of a socket has 1 to 107 bytes (`IsSocketPath`). `slip_of` returns none exactly for a command; else the argument that it
-//! names is there, and its reason holds of it or of all (`IsSlip`): an option is the command's or isn't
-//! (`option_at`), a text isn't what its argument has to be (`IsUnfit`), what is missing is missing
-//! (`IsLacking`, `follower`, `IsAlone`, `IsUnlinked`, `IsUnset`), two options exclude each other
-//! (`AreExclusive`), and a hyphen stands for no file that is gone (`IsMisplaced`). Law `plain_words_law` has
-//! the four arguments of `answer`.
+//! ranges (`IsInRange`, `IsPart`), and the path of a socket has 1 to 107 bytes (`IsSocketPath`).
+//! `slip_of` returns none exactly for a command; else the argument that it names is there, and its
+//! reason holds of it or of all (`IsSlip`): an option is the command's or isn't (`option_at`), a text or
+//! a number below 0 isn't what its argument has to be (`IsUnfit`, `IsNegative`), what is missing is
+//! missing (`IsLacking`, `follower`, `IsAlone`, `IsUnlinked`, `IsUnset`), two options exclude each other
+//! (`AreExclusive`), and a hyphen stands for no file that is gone (`IsMisplaced`). Law `plain_words_law`
+//! has the four arguments of `answer`.
 //!
 //! Only tested: tables of arguments that are a command, and of those that are none, with what is
 //! said of them (`words` of aoe_program_tests, `tests/check`). Which of several slips is named, that

@@ -1,10 +1,11 @@
 //! Words as directives of a mask list, as addresses of a reserve list, and as a config string.
 ghost use Rattle.std.specs.Prelude.{◌≡◌, ◌≤◌, length, map, option_map, IfSome};
-ghost use Rattle.aoe_base.specs.Names.{mac_of};
 ghost use Rattle.aoe_lists.specs.Settings.{max_directives};
 ghost use Rattle.aoe_args.specs.Tools.{dir_of, is_list, listed, text_of};
+ghost use Rattle.aoe_args.specs.Values.{address_of};
 
-use aoe_base::{Mac, append, read_mac};
+use crate::ports::read_address;
+use aoe_base::{Mac, append};
 use aoe_lists::{Dir, MAX_CONFIG, MAX_DIRS};
 use arrayvec::ArrayVec;
 
@@ -35,12 +36,12 @@ pub(crate) fn read_dir(text: &[u8]) -> Option<Dir>
     if action == b"add=".as_slice() {
         Some(Dir {
             add: true,
-            mac: read_mac(mac)?,
+            mac: read_address(mac)?,
         })
     } else if action == b"del=".as_slice() {
         Some(Dir {
             add: false,
-            mac: read_mac(mac)?,
+            mac: read_address(mac)?,
         })
     } else {
         None
@@ -73,7 +74,7 @@ pub(crate) fn read_dirs(words: &[&str]) -> Option<ArrayVec<Dir, MAX_DIRS>>
 /// The addresses that words spell, one each: 1 to 64 of them.
 pub(crate) fn read_macs(words: &[&str]) -> Option<ArrayVec<Mac, MAX_DIRS>>
     ensures value { option_map (λ macs. macs.items) result
-        ≡ listed mac_of (map (λ word. word.now) words.now) }
+        ≡ listed address_of (map (λ word. word.now) words.now) }
     ensures few { IfSome result (λ macs. (1 ≤ length macs.items) × (length macs.items ≤ max_directives)) }
 {
     if !is_list(words) {
@@ -81,7 +82,7 @@ pub(crate) fn read_macs(words: &[&str]) -> Option<ArrayVec<Mac, MAX_DIRS>>
     }
     let mut macs = ArrayVec::new();
     'words: for word in words {
-        macs.push(read_mac(word.as_bytes())?);
+        macs.push(read_address(word.as_bytes())?);
     }
     Some(macs)
 }

@@ -3,7 +3,7 @@ ghost use Rattle.std.specs.Prelude.{◌≡◌, ◌≢◌, ◌≤◌, length, fal
 ghost use Rattle.std.specs.List.{list_all, list_any};
 ghost use Rattle.clap.specs.Values.{kind_of};
 ghost use Rattle.clap.specs.Words.{found_of, rows_of};
-ghost use Rattle.aoe_args.specs.Words.{CanRun, CanServe, Fits, IsFoundIn, IsInRange, alone_in, alone_of, alone_words, answer_of, are_words, asked_of, audit_of, command, command_of, file_count, file_names, files_of, holds_back_durably, input_in, input_part, is_durable, is_hyphen, is_mirror, is_told, is_told_in, is_word, clear_action, plain_action, keep_name, keep_of, leads_other, leads_other_in, link_count, links_of, list_tool_of, listens, live_of, output_in, output_name, parsed, port_words, run_of, serve_of, serve_with, soak_of, socket_in, socket_name, stop_in, stop_name, switch_of, tool_of};
+ghost use Rattle.aoe_args.specs.Words.{CanRun, CanServe, Fits, IsFoundIn, IsInRange, alone_in, alone_of, alone_words, answer_of, are_words, asked_of, audit_of, command, command_of, file_count, file_names, files_of, holds_back_durably, input_part, is_durable, is_hyphen, is_mirror, is_told, is_told_in, is_word, clear_action, plain_action, keep_name, keep_of, leads_other, leads_other_in, link_count, links_of, list_tool_of, listens, live_of, named_in, output_name, parsed, port_words, run_of, serve_of, serve_with, soak_of, socket_name, stop_name, switch_of, tool_of};
 ghost use Rattle.aoe_args.specs.Values.{idle_of, link};
 ghost use Rattle.aoe_args.specs.Tools.{IsPart, IsSocketPath, part_words};
 
@@ -463,7 +463,7 @@ fn socket_of(
     found: &ArgMatches,
 ) -> Result<Option<String>, NoMemory>
     ensures { IfOk result (λ path. option_map string_bytes path
-        ≡ socket_in command.now (rows_of (found_of found.now))) }
+        ≡ (named_in command.now (rows_of (found_of found.now))).socket) }
 {
     match command {
         Command::Nbd(_) => copy(alloc, socket_path(found)),
@@ -474,7 +474,7 @@ fn socket_of(
 /// The name of the file whose coming ends the run of a command.
 fn stop_of(alloc: Global, command: &Command, found: &ArgMatches) -> Result<Option<String>, NoMemory>
     ensures { IfOk result (λ name. option_map string_bytes name
-        ≡ stop_in command.now (rows_of (found_of found.now))) }
+        ≡ (named_in command.now (rows_of (found_of found.now))).stop) }
 {
     match command {
         Command::Serve(_) | Command::Mirror(_) | Command::Nbd(_) => copy(
@@ -492,7 +492,7 @@ fn output_of(
     found: &ArgMatches,
 ) -> Result<Option<String>, NoMemory>
     ensures { IfOk result (λ name. option_map string_bytes name
-        ≡ output_in command.now (rows_of (found_of found.now))) }
+        ≡ (named_in command.now (rows_of (found_of found.now))).output) }
 {
     match command {
         Command::Get(_) => copy(alloc, text(found, "output")),
@@ -507,7 +507,7 @@ fn input_of(
     found: &ArgMatches,
 ) -> Result<Option<InputFile>, NoMemory>
     ensures value { IfOk result (λ file. option_map part_words file
-        ≡ input_in command.now (rows_of (found_of found.now))) }
+        ≡ (named_in command.now (rows_of (found_of found.now))).input) }
     ensures part { IfOk result (λ file. IfSome file (λ f. IsPart f.skip f.count)) }
 {
     match command {

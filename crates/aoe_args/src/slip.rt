@@ -3,8 +3,8 @@ ghost use Rattle.std.specs.Prelude.{◌≡◌, ◌<◌, ◌≤◌, ◌+◌, ◌&
 ghost use Rattle.std.specs.List.{list_all, list_any};
 ghost use Rattle.std.specs.Str.{bytes_eq};
 ghost use Rattle.aoe_args.specs.Apps.{argument as told, form as told_form};
-ghost use Rattle.aoe_args.specs.Places.{argument_at, argument_behind, awaits, form_by, form_named, is_check, is_flag, is_given, is_gone_file, is_option, is_second_file, option_at, option_named, takes_several, word_at};
-ghost use Rattle.aoe_args.specs.Slips.{AreRight, IsFit, IsMisfit, IsRight, IsSlip, IsSlipIn, IsUnusable, actions_of, is_action, is_command_name, is_list, number_wanted, text_in, wanted};
+ghost use Rattle.aoe_args.specs.Places.{argument_at, argument_behind, argument_due, awaits, form_by, form_named, is_check, is_flag, is_given, is_gone_file, is_option, is_second_file, option_at, option_named, takes_several, word_at};
+ghost use Rattle.aoe_args.specs.Slips.{AreRight, IsFit, IsMisfit, IsRight, IsSlip, IsSlipIn, IsUnusable, actions_of, is_action, is_command_name, is_list, is_negative, number_wanted, text_in, wanted};
 ghost use Rattle.aoe_args.specs.Walks.{IsWalked};
 ghost use Rattle.aoe_args.specs.Values.{number_within};
 ghost use Rattle.aoe_args.specs.Words.{attached, command, is_hyphen, is_name, is_value, is_word};
@@ -16,12 +16,12 @@ use crate::bounds::{
 };
 use crate::lack::{count_slip, lacking, options_wrong};
 use crate::lists::read_dir;
-use crate::ports::{read_port, read_ports};
+use crate::ports::{read_address, read_port, read_ports};
 use crate::read::{have_hyphen, is_mirror, read_words};
 use crate::switch::read_kind;
 use crate::tools::is_socket_path;
 use crate::word::{LONGEST_WORD, attached, is_hyphen, is_name, is_value, option_name};
-use aoe_base::{LAST_MAJOR, LAST_MINOR, NoMemory, read_device, read_mac, read_number};
+use aoe_base::{LAST_MAJOR, LAST_MINOR, NoMemory, read_device, read_number};
 use std::alloc::Global;
 use thiserror::Error;
 
@@ -51,7 +51,7 @@ pub enum Wanted {
     #[error("a number from {least} to {most}")]
     Number { least: u64, most: u64 },
 
-    #[error("the address of one station, in lower-case hexadecimal as 02:00:00:00:00:0a")]
+    #[error("the address of one station, in hexadecimal as 02:00:00:00:00:0a")]
     Port,
 
     #[error("one to four addresses of single stations joined by commas, none twice")]
@@ -63,10 +63,10 @@ pub enum Wanted {
     #[error("a device, as e1.0")]
     Device,
 
-    #[error("an address, in lower-case hexadecimal as 02:00:00:00:00:0a")]
+    #[error("an address, in hexadecimal as 02:00:00:00:00:0a")]
     Address,
 
-    #[error("add=MAC or del=MAC, in lower-case hexadecimal as 02:00:00:00:00:0a")]
+    #[error("add=MAC or del=MAC, in hexadecimal as 02:00:00:00:00:0a")]
     Directive,
 
     #[error("one of {0}")]
@@ -122,6 +122,10 @@ pub enum Wrong {
     /// The argument of this name is given another text.
     #[error("{}: not {}", title(.0), .1)]
     Unfit(&'static str, Wanted),
+
+    /// A word as `-1` stands where the argument of this name is due.
+    #[error("{}: not {}", title(.0), .1)]
+    Negative(&'static str, Wanted),
 
     /// What is missing behind the last of the words that are no options.
     #[error("{} is missing", title(.0))]
@@ -359,7 +363,7 @@ fn fits(wanted: Wanted, text: &[u8]) -> bool
         Wanted::SwitchPort => read_kind(text).is_some(),
         Wanted::Device => read_device(text).is_some(),
         Wanted::Directive => read_dir(text).is_some(),
-        Wanted::Address => read_mac(text).is_some(),
+        Wanted::Address => read_address(text).is_some(),
         Wanted::Action(actions) => is_action(actions, text),
         Wanted::List => is_list(text),
         Wanted::Socket => is_socket_path(text),
@@ -458,6 +462,31 @@ fn text_slip(
     Some(at(place, Wrong::Unfit(name, wanted)))
 }
 
+/// Whether a word is meant as a number below 0.
+fn is_negative(word: &[u8]) -> bool
+    ensures { result ≡ is_negative word.now }
+{
+    match word {
+        [b'-', digit, ..] => digit.is_ascii_digit(),
+        _ => false,
+    }
+}
+
+/// What is wrong with the word at this place where it is meant as a number below 0, and the argument
+/// of this name is due there.
+fn negative_slip(form: Form, name: &'static str, words: &[String], place: usize) -> Option<Slip>
+    requires place { (1 ≤ place) × (place < length words.now) }
+    requires due { argument_due (told_form form) (map string_bytes words.now) place ≡ Some name.now }
+    ensures { IfSome result (IsSlipIn (told_form form.entry) (map string_bytes words.now)) }
+{
+    let word = word_at(words, place);
+    if !is_negative(word) {
+        return None;
+    }
+    let wanted = misfit(form.0, name, word)?;
+    Some(at(place, Wrong::Negative(name, wanted)))
+}
+
 /// What is wrong with the option without a value at this place.
 fn flag_slip(form: Form, option: Argument, words: &[String], place: usize) -> Option<Slip>
     requires place { (1 ≤ place) × (place < length words.now) }
@@ -531,8 +560,43 @@ fn known_slip(
     }
 }
 
+/// The argument that a word at this place goes to where it is no option.
+fn argument_due(form: Form, words: &[String], place: usize, walked: Walked) -> Option<&'static str>
+    requires walked { IsWalked (told_form form) (map string_bytes words.now) place walked }
+    ensures { option_map (λ name. name.now) result
+        ≡ argument_due (told_form form.entry) (map string_bytes words.now) place }
+{
+    match walked.awaited {
+        Some(name) => Some(name),
+        None => argument(form, walked.before),
+    }
+}
+
+/// What is wrong with the word at this place, which begins with a hyphen and is no option of the
+/// command.
+fn unknown_slip(form: Form, words: &[String], place: usize, walked: Walked) -> Slip
+    requires place { (1 ≤ place) × (place < length words.now) }
+    requires walked { IsWalked (told_form form) (map string_bytes words.now) place walked }
+    requires dash { is_value (word_at place (map string_bytes words.now)) ≡ false }
+    requires unknown { option_at (told_form form) (map string_bytes words.now) place ≡ None }
+    ensures { IsSlipIn (told_form form.entry) (map string_bytes words.now) result }
+{
+    if let Some(name) = argument_due(form, words, place, walked)
+        && let Some(slip) = negative_slip(form, name, words, place)
+    {
+        return slip;
+    }
+    at(place, Wrong::Option)
+}
+
 /// What is wrong with the option at this place, or its name where the next word is its value.
-fn option_slip(form: Form, words: &[String], place: usize) -> Result<Option<&'static str>, Slip>
+fn option_slip(
+    form: Form,
+    words: &[String],
+    place: usize,
+    walked: Walked,
+) -> Result<Option<&'static str>, Slip>
+    requires walked { IsWalked (told_form form) (map string_bytes words.now) place walked }
     requires place { (1 ≤ place) × (place < length words.now) }
     requires dash { is_value (word_at place (map string_bytes words.now)) ≡ false }
     ensures slip { IfErr result (IsSlipIn (told_form form.entry) (map string_bytes words.now)) }
@@ -542,7 +606,7 @@ fn option_slip(form: Form, words: &[String], place: usize) -> Result<Option<&'st
 {
     match option_in(form, option_name(word_at(words, place))) {
         Some(option) => known_slip(form, option, words, place),
-        None => Err(at(place, Wrong::Option)),
+        None => Err(unknown_slip(form, words, place, walked)),
     }
 }
 
@@ -644,7 +708,7 @@ fn step(form: Form, words: &[String], place: usize, walked: Walked) -> Result<Wa
         return Err(slip);
     }
     if !is_value(word_at(words, place)) {
-        let awaited = option_slip(form, words, place)?;
+        let awaited = option_slip(form, words, place, walked)?;
         return Ok(Walked { awaited, ..walked });
     }
     if let Some(name) = walked.awaited {

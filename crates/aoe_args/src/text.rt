@@ -1,5 +1,5 @@
 //! What is said of words that are no command.
-use crate::ports::read_port;
+use crate::ports::{bad_port, is_group, repeated_port};
 use crate::slip::{Slip, Wanted, Wrong, title};
 use std::fmt;
 
@@ -23,10 +23,26 @@ fn value(word: &str) -> &str {
     }
 }
 
-/// The first part of a list of addresses that is none.
-fn bad_port(list: &str) -> Option<&str> {
-    list.split(',')
-        .find(|part| read_port(part.as_bytes()).is_none())
+/// Writes why a text isn't the address of a port.
+fn write_port<W: fmt::Write>(f: &mut fmt::Formatter<W>, title: &str, text: &str) -> fmt::Result {
+    if is_group(text.as_bytes()) {
+        return write!(f, "{title}: {text} is the address of a group of stations");
+    }
+    write!(f, "{title}: {text} isn't {}", Wanted::Port)
+}
+
+/// Writes why a text isn't a list of the addresses of ports.
+fn write_ports<W: fmt::Write>(f: &mut fmt::Formatter<W>, text: &str) -> fmt::Result {
+    match bad_port(text) {
+        Some(part) if !part.is_empty() => return write_port(f, "--ports", part),
+        _ => {}
+    }
+    if let Some(place) = repeated_port(text.as_bytes())
+        && let Some(part) = text.split(',').nth(place)
+    {
+        return write!(f, "--ports: {part} is given twice");
+    }
+    write!(f, "--ports: {text} isn't {}", Wanted::Ports)
 }
 
 /// Writes why a text isn't what its argument has to be.
@@ -38,10 +54,8 @@ fn write_unfit<W: fmt::Write>(
 ) -> fmt::Result {
     let title = title(&argument);
     match wanted {
-        Wanted::Ports => match bad_port(text) {
-            Some(part) if !part.is_empty() => write!(f, "--ports: {part} isn't {}", Wanted::Port),
-            _ => write!(f, "--ports: {text} isn't {wanted}"),
-        },
+        Wanted::Port => write_port(f, title, text),
+        Wanted::Ports => write_ports(f, text),
         _ => write!(f, "{title}: {text} isn't {wanted}"),
     }
 }
@@ -57,6 +71,9 @@ impl fmt::Display for SlipText<'_> {
             (None, _) | (_, Wrong::Empty) => write!(f, "{wrong}")?,
             (Some(word), Wrong::Unfit(argument, wanted)) => {
                 write_unfit(f, argument, wanted, value(word.as_str()))?;
+            }
+            (Some(word), Wrong::Negative(argument, wanted)) => {
+                write_unfit(f, argument, wanted, word.as_str())?;
             }
             (Some(word), Wrong::Behind(_)) => write!(f, "{wrong} behind {word}")?,
             (Some(word), _) => write!(f, "{word}: {wrong}")?,

@@ -9,10 +9,12 @@ use Rattle.aoe_target.specs.Law.{Fate, replied}
 use Rattle.aoe_target.specs.Verdict.{verdict}
 use Rattle.aoe_target.specs.declared.heard.Effect.{Effect}
 use Rattle.aoe_target.specs.declared.station.Station.{Station}
-use Rattle.aoe_audit.specs.Captured.{AreWhole, Packet, class_of, replies, requests, with_reply, with_request}
+use Rattle.aoe_audit.specs.Captured.{AreWhole, Packet, class_of, ends_of, replies, requests, with_reply, with_request}
 use Rattle.aoe_audit.specs.Judged.{Explains, IsJudged, IsJudgedSoFar, IsMissing, answers, start}
 use Rattle.aoe_audit.specs.Known.{IsAllowed, IsKnown, IsTold, Knowing, value_of}
 use Rattle.aoe_audit.specs.Auditing.{Auditing, Counts, HasHeard, IsYes}
+use Rattle.aoe_audit.specs.Differing.{DiffersAt, DiffersBehind}
+use Rattle.aoe_audit.specs.declared.difference.Difference.{Difference}
 use Rattle.aoe_audit.specs.declared.class.Class.TheVariants as class
 use Rattle.aoe_audit.specs.declared.judge.Told.{Told}
 use Rattle.aoe_audit.specs.declared.judge.Told.TheVariants.{Nothing, Wrong, By}
@@ -135,7 +137,7 @@ module _ (lists : Settings) (c : List Packet) (a : Auditing) (heard : HasHeard l
 
     -- the law answers it, and no reply comes
     pub left-over : answers a.station (state lists a heard.history).lists w.frame ≡ true
-        → IsMissing a.station lists c w.number × (IsJudged a.station lists c → ⊥)
+        → IsMissing a.station lists c w.number (ends_of w.frame) × (IsJudged a.station lists c → ⊥)
     left-over asks = (
       record {
         later = reverse rest;
@@ -144,6 +146,7 @@ module _ (lists : Settings) (c : List Packet) (a : Auditing) (heard : HasHeard l
         explains = first-waits;
         answered = asks;
         number_is = refl;
+        ends_are = refl;
       },
       not-judged a.station lists c heard.history (reverse rest) w first-waits asks,
     )
@@ -161,6 +164,9 @@ module _ (lists : Settings) (c : List Packet) (a : Auditing) (heard : HasHeard l
     explains = subst (λ (l : List Packet). Explains a.station lists c l heard.history) (ap (λ l. reverse l) empty) heard.explains;
     counts = heard.counts;
   }
+
+  pub heard-judged : a.waiting ≡ [] → IsJudged a.station lists c
+  heard-judged empty = (let yes = heard-all empty in (yes.history, yes.explains))
 
 -- A fresh audit has heard nothing.
 
@@ -244,6 +250,23 @@ module _ (lists : Settings) (c : List Packet) (old popped : Auditing) (heard : H
       subst (λ (r : List ℕ). IsTold old.station At w.frame r old.knowing new.knowing Wrong) (sym frame) told in
       heard-wrong lists c old heard w popped.waiting waits p old.knowing new.knowing is mine
 
+  pub next-differs : (reply : List ℕ) (new : Auditing) (d : Difference) → new ≡ record popped { knowing = new.knowing }
+      → ((k : State) → IsKnown popped.knowing k → IsTold popped.station k w.frame reply popped.knowing new.knowing Wrong)
+      → ((k : State) → IsKnown new.knowing k → answers new.station k.lists w.frame ≡ true → DiffersAt new.station k w.frame reply d)
+      → DiffersBehind old.station lists c reply d
+  next-differs reply new d told-same tells differs =
+      let told : IsTold old.station At w.frame reply old.knowing new.knowing Wrong = told-at Wrong reply new tells in
+      let known : IsKnown new.knowing At = subst (λ (k : Knowing). IsKnown k At) (sym told.2) heard.known in
+      let station : new.station ≡ old.station = ap (λ (x : Auditing). x.station) told-same ∙ station-same in
+      let asked : answers new.station At.lists w.frame ≡ true = ap (λ (s : Station). answers s At.lists w.frame) station ∙ told.0 in
+      record {
+        later = reverse popped.waiting;
+        request = w;
+        history = heard.history;
+        explains = first-waits lists c old heard w popped.waiting waits;
+        differs = subst (λ (s : Station). DiffersAt s At w.frame reply d) station (differs At known asked);
+      }
+
   pub next-allowed : (reply : List ℕ) (p : Packet) → ((k : State) → IsKnown popped.knowing k → IsAllowed popped.station k w.frame reply)
       → class_of old.station p ≡ class.Reply → p.frame ≡ reply → IsJudgedSoFar old.station lists (p ∷ c)
   next-allowed reply p allowed is frame =
@@ -282,7 +305,7 @@ module _ (lists : Settings) (c : List Packet) (old popped : Auditing) (heard : H
         (ap (λ (x : Auditing). x.tally) same)
         refl (sym (is ∙ at-lists) ∙ none-asked)
 
-    pub end-missing : asks ≡ true → IsMissing old.station lists c w.number × (IsJudged old.station lists c → ⊥)
+    pub end-missing : asks ≡ true → IsMissing old.station lists c w.number (ends_of w.frame) × (IsJudged old.station lists c → ⊥)
     end-missing asked = left-over lists c old heard w popped.waiting waits (sym (is ∙ at-lists) ∙ asked)
 
 pub on-ok : {T E P Q : Type 0} (r : Result T E) → (P → Q) → OnOk r P → OnOk r Q

@@ -48,7 +48,7 @@ by-one told reply bytes k old known (inl says) =
     ((λ i. replied effect.None (says.1 i)), known)
 by-one told reply bytes k old known (inr says) =
     subst (λ (t : Told). IsToldBy true (λ e. replied e reply ≡ replied effect.None bytes) (λ e. k) old old t) (sym says.0)
-    (refl, λ e is. says.1 (same-reply e effect.None reply bytes is))
+    (refl, λ e is. says.1 (same-reply e effect.None reply bytes is), refl)
 
 -- what is known of sectors
 
@@ -177,8 +177,8 @@ module _ (station : Station) (f : List ℕ) (args : AtaArgs) (span : Span) (repl
           },
         )
 
-    pub read-wrong : (later : KnownTable) → (AreAsKnown span (drop 36 reply) old → ⊥) → ToldRead later Wrong
-    read-wrong later other = (
+    pub read-wrong : (AreAsKnown span (drop 36 reply) old → ⊥) → ToldRead old Wrong
+    read-wrong other = (
       refl,
       λ e gives. elim (gives-is e station k.sectors (fields f) args span reply gives) [
         | inl g ↦
@@ -186,11 +186,12 @@ module _ (station : Station) (f : List ℕ) (args : AtaArgs) (span : Span) (repl
             other (subst (λ (l : List ℕ). AreAsKnown span l old) (sym rest) (known-from span (data_of span reply) old k.sectors known.sectors g.1.2))
         | inr g ↦ data-apart station (fields f) args (data_of span reply) (sym (has-sectors station (fields f) args span reply front some len begins) ∙ g.1)
       ],
+      refl,
     )
 
-  pub read-other : (later : KnownTable) → (length reply ≡ 36 + 512 * span.count → take 36 reply ≢ data_front station (fields f) args)
-      → reply ≢ ata_reply station (fields f) args Uncorrectable → ToldRead later Wrong
-  read-other later apart other = (
+  pub read-other : (length reply ≡ 36 + 512 * span.count → take 36 reply ≢ data_front station (fields f) args)
+      → reply ≢ ata_reply station (fields f) args Uncorrectable → ToldRead old Wrong
+  read-other apart other = (
     refl,
     λ e gives. elim (gives-is e station k.sectors (fields f) args span reply gives) [
       | inl g ↦
@@ -198,6 +199,7 @@ module _ (station : Station) (f : List ℕ) (args : AtaArgs) (span : Span) (repl
           apart b.0 b.1
       | inr g ↦ other g.1
     ],
+    refl,
   )
 
 -- a reply that the law allows to an ATA command

@@ -14,3 +14,4 @@ mod KnownLemmas
 mod AuditLemmas
 mod JudgeLemmas
 mod Parts
+mod Differences

@@ -3,7 +3,8 @@ use Rattle.std.specs.Prelude.{◌^◌, ◌-◌, ◌≡◌, Bool, true, false, mi
 use Rattle.aoe_lists.specs.Settings.{Settings}
 use Rattle.aoe_target.specs.History.{Met, left_by}
 use Rattle.aoe_target.specs.declared.station.Station.{Station}
-use Rattle.aoe_audit.specs.Captured.{AreWhole, Packet, class_of, requests, replies}
+use Rattle.aoe_audit.specs.Captured.{AreWhole, Packet, class_of, ends_of, requests, replies}
+use Rattle.aoe_audit.specs.Differing.{Differs}
 use Rattle.aoe_audit.specs.Judged.{Explains, IsJudged, IsJudgedSoFar, IsMissing, faults_in, start}
 use Rattle.aoe_audit.specs.Known.{IsKnown, Knowing}
 use Rattle.aoe_audit.specs.declared.class.Class.{Class}
@@ -39,11 +40,12 @@ pub record HasHeard (lists : Settings) (a : Auditing) (c : List Packet) : Type 0
   pub counts : Counts a.station c history a.tally
 
 -- why a record ends an audit: it is a frame of the protocol that wasn't captured whole; or a reply with which the capture so far is
--- judged no longer
+-- judged no longer; it tells the addresses, and how the reply differs
 abbrev pub IsFinding : Station → Settings → List Packet → Packet → Kind → Type 0
-IsFinding station lists c p Short = class_of station p ≡ class.Short
-IsFinding station lists c p Reply = (class_of station p ≡ class.Reply) × (IsJudgedSoFar station lists (p ∷ c) → ⊥)
-IsFinding station lists c p Missing = ⊥
+IsFinding station lists c p (Short ends) = (class_of station p ≡ class.Short) × (ends ≡ ends_of p.frame)
+IsFinding station lists c p (Reply ends differs) =
+    (class_of station p ≡ class.Reply) × (IsJudgedSoFar station lists (p ∷ c) → ⊥) × (ends ≡ ends_of p.frame) × Differs station lists c p.frame differs
+IsFinding station lists c p (Missing ends) = ⊥
 
 -- memory is asked for a record: to keep a request, or what a reply tells
 abbrev pub asks_memory : Class → Bool
@@ -60,9 +62,9 @@ IsCause station lists c p (Finding number kind) = (number ≡ p.number) × IsFin
 -- why a capture that ends isn't judged: a request that the law answers has no reply
 abbrev pub IsLeft : Station → Settings → List Packet → AuditRefusal → Type 0
 IsLeft station lists c NoMemory = ⊥
-IsLeft station lists c (Finding number Short) = ⊥
-IsLeft station lists c (Finding number Reply) = ⊥
-IsLeft station lists c (Finding number Missing) = IsMissing station lists c number × (IsJudged station lists c → ⊥)
+IsLeft station lists c (Finding number (Short ends)) = ⊥
+IsLeft station lists c (Finding number (Reply ends differs)) = ⊥
+IsLeft station lists c (Finding number (Missing ends)) = IsMissing station lists c number ends × (IsJudged station lists c → ⊥)
 
 -- a capture is judged, by a history with these counts
 pub record IsYes (station : Station) (lists : Settings) (c : List Packet) (tally : Verdict) : Type 0 where

@@ -1,5 +1,5 @@
 -- The records of a capture, as the audit of a device sees them; the latest of several stands first.
-use Rattle.std.specs.Prelude.{ℕ, ◌≡◌, Bool, ◌&&◌, ◌==◌, List, [], ◌∷◌, length, nat_le, nat_lt, slice_index, is_some, if◌then◌else◌}
+use Rattle.std.specs.Prelude.{ℕ, ◌≡◌, Bool, ◌&&◌, ◌==◌, List, [], ◌∷◌, length, nat_le, nat_lt, replicate, slice_index, take, is_some, if◌then◌else◌}
 use Rattle.aoe_base.specs.Addresses.{holds}
 use Rattle.aoe_frame.specs.Header.{head, fields}
 use Rattle.aoe_frame.specs.declared.header.Header.{Header}
@@ -41,6 +41,10 @@ with_reply Other p ps = ps
 with_reply Short p ps = ps
 with_reply Request p ps = ps
 with_reply Reply p ps = p ∷ ps
+
+-- the addresses of a frame, that of its receiver first (AoEr11, "Common AoE header"), and zeros where it has none
+abbrev pub ends_of : List ℕ → List ℕ
+ends_of f = if nat_le 12 (length f) then take 12 f else replicate 12 0
 
 -- no frame of the protocol was captured in part
 abbrev pub AreWhole : Station → List Packet → Type 0

@@ -11,7 +11,7 @@ use Rattle.aoe_target.specs.Verdict.{verdict}
 use Rattle.aoe_target.specs.declared.station.Station.{Station}
 use Rattle.aoe_target.specs.declared.verdict.Verdict.{Verdict}
 use Rattle.aoe_target.specs.declared.verdict.Verdict.TheVariants.{Ignored, Silent, Refused, Lists, Ata}
-use Rattle.aoe_audit.specs.Captured.{Packet, requests, replies}
+use Rattle.aoe_audit.specs.Captured.{Packet, ends_of, requests, replies}
 
 -- a device with these lists, of whose sectors nothing is known
 abbrev pub unread : Sectors
@@ -91,11 +91,12 @@ answers station lists f = answers_by station lists f (verdict station lists f)
 abbrev pub faults_in : List Met → ℕ
 faults_in h = count_failed store_failed h + count_failed keep_failed h
 
--- a request that a history leaves, the first of those, is one that the law answers
-pub record IsMissing (station : Station) (lists : Settings) (c : List Packet) (number : ℕ) : Type 0 where
+-- a request that a history leaves, the first of those, is one that the law answers, and has this number and these addresses
+pub record IsMissing (station : Station) (lists : Settings) (c : List Packet) (number : ℕ) (ends : List ℕ) : Type 0 where
   pub later : List Packet
   pub request : Packet
   pub history : List Met
   pub explains : Explains station lists c (later ++ request ∷ []) history
   pub answered : answers station (left_by station (start lists) history).lists request.frame ≡ true
   pub number_is : request.number ≡ number
+  pub ends_are : ends ≡ ends_of request.frame

@@ -53,10 +53,10 @@ pub record IsKnown (a : Knowing) (k : State) : Type 0 where
   pub sectors : AreKnownOf a.known k.sectors
 
 -- What a reply tells of a request that is answered or isn't, with these effects allowed and these states left by them: the law doesn't
--- answer the request; or it doesn't allow this reply; or it does by this effect.
+-- answer the request; or it doesn't allow this reply; or it does by this effect. The first two leave what is known.
 abbrev pub IsToldBy : Bool → (Effect → Type 0) → (Effect → State) → Knowing → Knowing → Told → Type 0
 IsToldBy answered Allowed next old new Nothing = (answered ≡ false) × (new ≡ old)
-IsToldBy answered Allowed next old new Wrong = (answered ≡ true) × ((e : Effect) → Allowed e → ⊥)
+IsToldBy answered Allowed next old new Wrong = (answered ≡ true) × ((e : Effect) → Allowed e → ⊥) × (new ≡ old)
 IsToldBy answered Allowed next old new (By e) = Allowed e × IsKnown new (next e)
 
 -- the law allows this reply to a request, by some effect

@@ -1,4 +1,5 @@
 pub mod Captured
 pub mod Judged
 pub mod Known
+pub mod Differing
 pub mod Auditing

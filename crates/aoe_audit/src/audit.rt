@@ -1,17 +1,20 @@
 //! An audit of a capture, record by record.
-ghost use Rattle.std.specs.Prelude.{ℕ, Ok, ◌≡◌, ◌≤◌, ◌<◌, ◌+◌, ◌-◌, ◌^◌, ◌||◌, [], ◌∷◌, ◌++◌, List, IfErr, IfOk, IfNone, IfSome, OnErr, OnOk, Some, Err, if◌then◌else◌, length, min, option_to_list, true};
+ghost use Rattle.std.specs.Prelude.{ℕ, Ok, Option, ◌≡◌, ◌≤◌, ◌<◌, ◌+◌, ◌-◌, ◌^◌, ◌||◌, [], ◌∷◌, ◌++◌, List, IfErr, IfOk, IfNone, IfSome, OnErr, OnOk, Some, Err, if◌then◌else◌, length, min, option_to_list, true};
 ghost use Rattle.aoe_lists.specs.Settings.{Settings};
 ghost use Rattle.aoe_target.specs.Device.{State};
 ghost use Rattle.aoe_target.specs.Mounted.{station_of};
 ghost use Rattle.aoe_target.specs.Receive.{is_edit_fault, is_fault};
 ghost use Rattle.aoe_audit.specs.Auditing.{Auditing, HasHeard, IsCause, IsLeft, IsYes};
 ghost use Rattle.aoe_audit.specs.Captured.{Packet, class_of};
+ghost use Rattle.aoe_audit.specs.Differing.{Differs, DiffersAt};
+ghost use Rattle.aoe_audit.specs.declared.difference.Difference.{Difference};
 ghost use Rattle.aoe_audit.specs.Known.{IsAllowed, IsKnown, IsTold};
 ghost use Rattle.aoe_audit.specs.Judged.{IsJudged, IsJudgedSoFar, IsMissing, answers};
 
-use crate::class::{Class, class_of};
+use crate::class::{Class, class_of, ends_of};
+use crate::difference::Difference;
 use crate::judge::{Judge, Told};
-use crate::refusal::{AuditRefusal, Kind, Verdict};
+use crate::refusal::{AuditRefusal, Ends, Kind, Verdict};
 use aoe_base::{Blob, NoMemory, Ports, TargetId, copy_of};
 use aoe_lists::Lists;
 use aoe_target::{Effect, Station, max_sectors};
@@ -35,8 +38,8 @@ enum Next {
     /// The reply is its reply.
     Taken,
 
-    /// The reply isn't, or no request waits.
-    Wrong,
+    /// The reply isn't, and differs so from one that is; or no request waits.
+    Wrong(Option<Difference>),
 }
 
 /// What becomes of the first request that waits, where no reply comes.
@@ -48,8 +51,8 @@ enum Left {
     /// The law doesn't answer it.
     Passed,
 
-    /// The law answers that of this record.
-    Missing(u32),
+    /// The law answers that of this record, with these addresses.
+    Missing(u32, Ends),
 }
 
 /// An audit of the wire of one device.
@@ -193,7 +196,9 @@ impl Audit {
             Class::Other => Ok(()),
             Class::Short => Err(AuditRefusal::Finding {
                 number,
-                kind: Kind::Short,
+                kind: Kind::Short {
+                    ends: ends_of(frame),
+                },
             }),
             Class::Request => self.take_request(number, frame),
             Class::Reply => self.take_reply(number, frame),
@@ -241,11 +246,10 @@ impl Audit {
             match self.next(frame) {
                 Ok(Next::Passed) => {}
                 Ok(Next::Taken) => return Ok(()),
-                Ok(Next::Wrong) => {
-                    return Err(AuditRefusal::Finding {
-                        number,
-                        kind: Kind::Reply,
-                    });
+                Ok(Next::Wrong(differs)) => {
+                    let ends = ends_of(frame);
+                    let kind = Kind::Reply { ends, differs };
+                    return Err(AuditRefusal::Finding { number, kind });
                 }
                 Err(NoMemory) => return Err(AuditRefusal::NoMemory),
             }
@@ -262,20 +266,23 @@ impl Audit {
         ensures taken { (lists : Settings) (c : List Packet) (p : Packet)
             → HasHeard lists self.old c → class_of self.old.station p ≡ Class.Reply
             → p.frame ≡ reply.now → result ≡ Ok Next.Taken → HasHeard lists self.new (p ∷ c) }
-        ensures wrong { (lists : Settings) (c : List Packet) (p : Packet)
+        ensures wrong { (lists : Settings) (c : List Packet) (p : Packet) (d : Option Difference)
             → HasHeard lists self.old c → class_of self.old.station p ≡ Class.Reply
-            → p.frame ≡ reply.now → result ≡ Ok Next.Wrong
+            → p.frame ≡ reply.now → result ≡ Ok (Next.Wrong d)
             → IsJudgedSoFar self.old.station lists (p ∷ c) → ⊥ }
+        ensures differs { (lists : Settings) (c : List Packet) (d : Option Difference)
+            → HasHeard lists self.old c → result ≡ Ok (Next.Wrong d)
+            → Differs self.old.station lists c reply.now d }
         ensures memory { (lists : Settings) (c : List Packet) (p : Packet)
             → HasHeard lists self.old c → class_of self.old.station p ≡ Class.Reply
             → p.frame ≡ reply.now → OnErr result (IsJudgedSoFar self.old.station lists (p ∷ c)) }
     {
         let Some(request) = self.pop() else {
-            return Ok(Next::Wrong);
+            return Ok(Next::Wrong(None));
         };
         match self.tell(&request, reply) {
             Ok(Told::Nothing) => Ok(Next::Passed),
-            Ok(Told::Wrong) => Ok(Next::Wrong),
+            Ok(Told::Wrong) => Ok(Next::Wrong(Some(self.differ(&request, reply)))),
             Ok(Told::By(effect)) => {
                 self.count_reply(effect);
                 Ok(Next::Taken)
@@ -303,6 +310,16 @@ impl Audit {
             → OnErr result (IsAllowed self.old.station k request.now.frame reply.now) }
     {
         self.judge.tell(request.frame.bytes(), reply)
+    }
+
+    /// How a reply differs from one that the law allows to a request that it answers.
+    fn differ(&mut self, request: &Waiting, reply: &[u8]) -> Difference
+        ensures differs { (k : State) → IsKnown self.old.knowing k
+            → answers self.old.station k.lists request.now.frame ≡ true
+            → DiffersAt self.old.station k request.now.frame reply.now result }
+        ensures same { self.new ≡ self.old }
+    {
+        self.judge.differ(request.frame.bytes(), reply)
     }
 
     /// Whether the law answers a request.
@@ -341,15 +358,16 @@ impl Audit {
         ensures passed { (lists : Settings) (c : List Packet) → HasHeard lists self.old c
             → result ≡ Left.Passed → HasHeard lists self.new c }
         ensures fewer { result ≡ Left.Passed → length self.new.waiting < length self.old.waiting }
-        ensures missing { (lists : Settings) (c : List Packet) (number : ℕ)
-            → HasHeard lists self.old c → result ≡ Left.Missing number
-            → IsMissing self.old.station lists c number × (IsJudged self.old.station lists c → ⊥) }
+        ensures missing { (lists : Settings) (c : List Packet) (number : ℕ) (ends : List ℕ)
+            → HasHeard lists self.old c → result ≡ Left.Missing number ends
+            → IsMissing self.old.station lists c number ends
+            × (IsJudged self.old.station lists c → ⊥) }
     {
         let Some(request) = self.pop() else {
             return Left::Nothing;
         };
         if self.answers(&request) {
-            return Left::Missing(request.number);
+            return Left::Missing(request.number, ends_of(request.frame.bytes()));
         }
         Left::Passed
     }
@@ -369,11 +387,9 @@ impl Audit {
             match self.end_next() {
                 Left::Nothing => return Ok(self.tally()),
                 Left::Passed => {}
-                Left::Missing(number) => {
-                    return Err(AuditRefusal::Finding {
-                        number,
-                        kind: Kind::Missing,
-                    });
+                Left::Missing(number, ends) => {
+                    let kind = Kind::Missing { ends };
+                    return Err(AuditRefusal::Finding { number, kind });
                 }
             }
         }

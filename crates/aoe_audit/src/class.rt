@@ -1,7 +1,8 @@
 //! What a record of a capture is.
 ghost use Rattle.std.specs.Prelude.{◌≡◌, if◌then◌else◌};
-ghost use Rattle.aoe_audit.specs.Captured.{class_of_whole, is_aoe, is_own};
+ghost use Rattle.aoe_audit.specs.Captured.{class_of_whole, ends_of, is_aoe, is_own};
 
+use crate::refusal::Ends;
 use aoe_frame::{AOE_TYPE, HeaderView, RESPONSE_FLAG};
 use aoe_target::Station;
 
@@ -49,6 +50,16 @@ fn class_of_whole(station: &Station, frame: &[u8]) -> Class
         Some(header) if header.flags() < RESPONSE_FLAG => Class::Request,
         Some(header) if is_own(station, &header) => Class::Reply,
         Some(_) | None => Class::Other,
+    }
+}
+
+/// The addresses of a frame.
+pub(crate) fn ends_of(frame: &[u8]) -> Ends
+    ensures { result ≡ ends_of frame.now }
+{
+    match frame.first_chunk::<12>() {
+        Some(ends) => *ends,
+        None => [0; 12],
     }
 }
 

@@ -8,9 +8,12 @@ ghost use Rattle.aoe_target.specs.Device.{State};
 ghost use Rattle.aoe_target.specs.Front.{data_front};
 ghost use Rattle.aoe_target.specs.Law.{step_of};
 ghost use Rattle.aoe_target.specs.Reply.{ata_reply, repeated, spelled};
+ghost use Rattle.aoe_audit.specs.Differing.{DiffersAt};
 ghost use Rattle.aoe_audit.specs.Judged.{answers};
 ghost use Rattle.aoe_audit.specs.Known.{IsAllowed, IsAllowedAta, IsKnown, IsTold, IsToldAta, IsToldStep, Knowing, SaysEither, SaysOne, KnownTable, is_plain};
 
+use crate::difference::{Difference, difference_of};
+use crate::expect::expect;
 use crate::known::Known;
 use aoe_ata::{AtaAnswer, AtaArgs, AtaDecision, AtaOutcome};
 use aoe_base::{AoeError, NoMemory, SECTOR_LEN, Span};
@@ -415,5 +418,23 @@ impl Judge {
             }
             Verdict::Ata(decision) => tell_ata(station, request, &decision, reply, known, out),
         }
+    }
+    /// How a reply differs from one that the law allows to a request by an effect that is no fault. It
+    /// may be any difference where the law doesn't answer the request.
+    pub(crate) fn differ(&mut self, request: &[u8], reply: &[u8]) -> Difference
+        ensures same { self.new ≡ self.old }
+        ensures differs { (k : State) → IsKnown self.old.knowing k
+            → answers self.old.station k.lists request.now ≡ true
+            → DiffersAt self.old.station k request.now reply.now result }
+    {
+        let Judge {
+            station,
+            lists,
+            known,
+            scratch,
+            out,
+        } = self;
+        let _ = expect(station, request, reply, lists, known, scratch, out);
+        difference_of(out.as_slice(), reply)
     }
 }

@@ -3,7 +3,7 @@ ghost use Rattle.std.specs.Prelude.{ℕ, ◌≡◌, ◌≢◌, ◌*◌, ◌+◌,
 ghost use Rattle.std.specs.Option.{option_or};
 ghost use Rattle.aoe_audit.specs.Known.{AreAsKnown, value_lost, value_of, value_put, value_read};
 
-use aoe_base::{Blob, NoMemory, SECTOR_LEN, Span};
+use aoe_base::{NoMemory, SECTOR_LEN, Span};
 use indexmap::IndexMap;
 use std::alloc::Global;
 use std::marker::Model;
@@ -11,8 +11,7 @@ use std::marker::Model;
 /// The sectors whose contents are known, each with these. Contracts see the list of both.
 #[derive(Drop)]
 pub(crate) struct Known {
-    alloc: Global,
-    sectors: IndexMap<u64, Blob>,
+    sectors: IndexMap<u64, [u8; SECTOR_LEN]>,
 }
 
 impl Model for Known {
@@ -23,13 +22,22 @@ impl Model for Known {
     ghost view = { λ k. k.sectors.entries };
 }
 
+/// The bytes of a sector.
+fn sector_of(bytes: &[u8]) -> [u8; SECTOR_LEN]
+    requires { length bytes.now ≡ 512 }
+    ensures { result ≡ bytes.now }
+{
+    let mut sector = [0; SECTOR_LEN];
+    sector.copy_from_slice(bytes);
+    sector
+}
+
 impl Known {
     /// No sector is known.
     pub(crate) fn new(alloc: Global) -> Known
         ensures { result ≡ [] }
     {
         Known {
-            alloc,
             sectors: IndexMap::new(alloc),
         }
     }
@@ -40,7 +48,7 @@ impl Known {
         ensures { OnOk result ((q : ℕ) → value_of self.new q
             ≡ (if nat_eq sector q then Some bytes.now else value_of self.old q)) }
     {
-        self.sectors.insert(sector, Blob::of(self.alloc, bytes)?)?;
+        self.sectors.insert(sector, sector_of(bytes))?;
         Ok(())
     }
 
@@ -50,7 +58,7 @@ impl Known {
         ensures other { result ≡ false → IfSome (value_of self.now sector) (λ v. bytes.now ≡ v) → ⊥ }
     {
         match self.sectors.get(&sector) {
-            Some(known) => known.bytes() == bytes,
+            Some(known) => known.as_slice() == bytes,
             None => true,
         }
     }
@@ -114,6 +122,30 @@ impl Known {
         true
     }
 
+    /// Writes what is known of a sector over its place.
+    fn write_one(&self, sector: u64, place: &mut [u8])
+        requires { length place.old ≡ 512 }
+        ensures known { IfSome (value_of self.now sector) (λ v. place.new ≡ v) }
+        ensures len { length place.new ≡ 512 }
+    {
+        if let Some(known) = self.sectors.get(&sector) {
+            place.copy_from_slice(known);
+        }
+    }
+
+    /// Writes the sectors that are known over their places.
+    pub(crate) fn write_over(&self, span: Span, places: &mut [u8])
+        requires len { length places.old ≡ 512 * span.count }
+        requires range { span.at + span.count ≤ 2 ^ 40 }
+        ensures known { AreAsKnown span places.new self.now }
+        ensures len { length places.new ≡ length places.old }
+    {
+        'sectors: for i in 0..span.count {
+            let start = SECTOR_LEN * i as usize;
+            self.write_one(span.at + i as u64, &mut places[start..start + SECTOR_LEN]);
+        }
+    }
+
     /// The contents of sectors become known of which none are.
     fn learn(&mut self, span: Span, bytes: &[u8]) -> Result<(), NoMemory>
         requires len { length bytes.now ≡ 512 * span.count }
@@ -134,6 +166,7 @@ impl Known {
         requires range { span.at + span.count ≤ 2 ^ 40 }
         ensures same { result ≢ Ok false → AreAsKnown span bytes.now self.old }
         ensures other { result ≡ Ok false → AreAsKnown span bytes.now self.old → ⊥ }
+        ensures kept { result ≡ Ok false → self.new ≡ self.old }
         ensures known { result ≡ Ok true
             → (q : ℕ) → value_of self.new q
             ≡ value_read span bytes.now self.old q }

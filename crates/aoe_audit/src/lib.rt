@@ -24,6 +24,8 @@
 
 mod audit;
 mod class;
+mod difference;
+mod expect;
 mod judge;
 mod known;
 mod laws;
@@ -31,5 +33,6 @@ mod refusal;
 
 pub use audit::Audit;
 pub use class::Class;
+pub use difference::Difference;
 pub use laws::{a_judged_capture_is_judged_at_each_record, one_history_explains_a_capture};
-pub use refusal::{AuditRefusal, Kind, Verdict};
+pub use refusal::{AuditRefusal, Ends, Kind, Verdict};

@@ -1,17 +1,32 @@
 //! What an audit answers.
+use crate::difference::Difference;
 use thiserror::Error;
 
-/// What is wrong with a record of a capture.
-#[derive(Clone, Copy, Debug, PartialEq, Eq)]
+/// The addresses of a frame, that of its receiver first; zeros where it has none.
+pub type Ends = [u8; 12];
+
+/// What is wrong with a record of a capture, which has these addresses.
+#[derive(Clone, Copy, Debug, PartialEq, Eq, Error)]
 pub enum Kind {
     /// A frame of the protocol wasn't captured whole.
-    Short,
+    #[error("Short")]
+    Short {
+        ends: Ends,
+    },
 
-    /// A reply isn't the next that the law allows.
-    Reply,
+    /// A reply isn't the next that the law allows. It differs so from one that is allowed to the first
+    /// request that is answered; `None` says that no such request waits.
+    #[error("Reply")]
+    Reply {
+        ends: Ends,
+        differs: Option<Difference>,
+    },
 
     /// A request has no reply.
-    Missing,
+    #[error("Missing")]
+    Missing {
+        ends: Ends,
+    },
 }
 
 /// Why an audit ends without a yes.
@@ -21,7 +36,7 @@ pub enum AuditRefusal {
     NoMemory,
 
     /// The record of this number has a finding.
-    #[error("record {number}: {kind:?}")]
+    #[error("record {number}: {kind}")]
     Finding { number: u32, kind: Kind },
 }
 

@@ -184,9 +184,9 @@ module _ (station : Station) (lists : Settings) (xs : List (List ℕ)) (bytes : 
 
   no-finding : (kind : Kind) (p : Packet) (ps front : List Packet) → reverse Packets ≡ front ++ p ∷ ps
       → IsFinding station lists (heard ps) (fed (length ps + 1) p) kind → ⊥
-  no-finding Short p ps front is finding = (whole-here (p ∷ ps) front is).0 finding
-  no-finding Reply p ps front is finding = finding.1 (judged-here (p ∷ ps) front is)
-  no-finding Missing p ps front is finding = finding
+  no-finding (Short ends) p ps front is finding = (whole-here (p ∷ ps) front is).0 finding.0
+  no-finding (Reply ends differs) p ps front is finding = finding.1 (judged-here (p ∷ ps) front is)
+  no-finding (Missing ends) p ps front is finding = finding
 
   stops-on : (stop : AuditStop) (p : Packet) (ps front : List Packet) → reverse Packets ≡ front ++ p ∷ ps → StopsOn stop station lists ps p → stop ≡ NoMemory
   stops-on Records p ps front is s = absurd (omega (arith, s, few-packets (p ∷ ps) front is))
@@ -199,9 +199,9 @@ module _ (station : Station) (lists : Settings) (xs : List (List ℕ)) (bytes : 
   stops-on (BadRecord number) p ps front is s = absurd s
 
   none-left : (kind : Kind) (number : ℕ) → IsLeft station lists (heard (reverse Packets)) (audit_refusal.Finding number kind) → ⊥
-  none-left Short number left = left
-  none-left Reply number left = left
-  none-left Missing number left = left.1 fine.judged
+  none-left (Short ends) number left = left
+  none-left (Reply ends differs) number left = left
+  none-left (Missing ends) number left = left.1 fine.judged
 
   left-by : (stop : AuditStop) → IsLeftBy stop station lists (heard (reverse Packets)) → ⊥
   left-by (Finding number kind) left = none-left kind number left

@@ -1,5 +1,5 @@
 -- How the audit of a capture file ends.
-use Rattle.std.specs.Prelude.{ℕ, ◌+◌, ◌≡◌, ◌<◌, ◌≤◌, ◌⊎◌, Bool, List, [], ◌∷◌, ◌++◌, length, Option, IfSome, Result, Ok, Err, codes, decimal}
+use Rattle.std.specs.Prelude.{ℕ, ◌+◌, ◌≡◌, ◌<◌, ◌≤◌, ◌⊎◌, Bool, List, [], ◌∷◌, ◌++◌, ◌==◌, if◌then◌else◌, length, Option, IfSome, Result, Ok, Err, codes, decimal}
 use Rattle.aoe_audit.specs.Auditing.{Auditing, HasHeard, IsCause, IsLeft}
 use Rattle.aoe_audit.specs.Captured.{AreWhole, replies, requests}
 use Rattle.aoe_audit.specs.Captured as audit
@@ -137,10 +137,14 @@ abbrev pub Judges : Result Summary AuditStop → Station → Settings → Option
 Judges (Ok s) station lists left left' = FilePasses s station lists left left'
 Judges (Err stop) station lists left left' = HasNoHead stop left left' ⊎ StopsBehind stop station lists left left'
 
+-- what is said behind it where it has no reply of the device
+abbrev pub unjudged : ℕ → List ℕ
+unjudged replies = if replies == 0 then codes "no reply was judged" ++ 10 ∷ [] else []
+
 -- the line of a capture that passed; a line feed (10) ends it
 abbrev pub line : Summary → List ℕ
 line s = codes "ok records " ++ decimal s.records ++ codes " requests " ++ decimal s.requests ++ codes " replies " ++ decimal s.replies
-    ++ codes " faults " ++ decimal s.faults ++ 10 ∷ []
+    ++ codes " faults " ++ decimal s.faults ++ (10 ∷ []) ++ unjudged s.replies
 
 -- and with what it writes: the line of a capture that passes, or a part of it where the sink failed, and else nothing
 abbrev pub Audits : Result (Unit {0}) AuditStop → Station → Settings → Option (List ℕ) → Option (List ℕ) → Option (List ℕ) → Option (List ℕ) → Type 0

@@ -14,8 +14,8 @@ use aoe_io::{Sink, Source, give_all};
 use arrayvec::ArrayVec;
 use itoa::Buffer;
 
-/// The longest line: four numbers of ten digits, and 39 bytes of words.
-type Line = ArrayVec<u8, 79>;
+/// The longest line, of four numbers of ten digits and 39 bytes of words, and the 20 bytes of the second.
+type Line = ArrayVec<u8, 99>;
 
 /// Adds words and a number.
 fn put_count(out: &mut Line, words: &[u8], n: u32)
@@ -28,7 +28,7 @@ fn put_count(out: &mut Line, words: &[u8], n: u32)
     append(out, digits.format(n).as_bytes());
 }
 
-/// The line of a capture that passed.
+/// The line of a capture that passed, and a second one where it had no reply.
 fn line_of(summary: &Summary) -> Line
     ensures { result.items ≡ line summary.now }
 {
@@ -38,11 +38,14 @@ fn line_of(summary: &Summary) -> Line
     put_count(&mut out, b" replies ", summary.replies);
     put_count(&mut out, b" faults ", summary.faults);
     append(&mut out, b"\n");
+    if summary.replies == 0 {
+        append(&mut out, b"no reply was judged\n");
+    }
     out
 }
 
 /// Audits a capture file as [`judge_capture`] does, and writes a line with its counts where it passes:
-/// `ok records N requests R replies P faults F`. Else nothing is written.
+/// `ok records N requests R replies P faults F`, and behind it `no reply was judged` where P is 0. Else nothing is written.
 pub fn audit_capture<S: Source, K: Sink>(
     audit: Audit,
     source: &mut S,

@@ -41,6 +41,6 @@ pub enum AuditStop {
     CaptureBytes,
 
     /// The record of this number has a finding.
-    #[error("record {number}: {kind:?}")]
+    #[error("record {number}: {kind}")]
     Finding { number: u32, kind: Kind },
 }

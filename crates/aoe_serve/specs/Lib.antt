@@ -12,4 +12,6 @@ pub mod Files
 pub mod Ending
 pub mod Exporting
 pub mod Mirroring
+pub mod MirrorDisk
+pub mod Volumes
 pub mod Always

@@ -12,6 +12,8 @@
 //! - [`export_mirror`] is as `export` for one slot over two files, a mark disk and a keep
 //!   (`aoe_mirror`): the sides are made equal before the run, and after one that ended well. A
 //!   [`MirrorWatch`](aoe_mirror::MirrorWatch) is told when a side fails, leads in the place of the other, or is whole again.
+//! - A [`MirrorDisk`] is a mirror as a disk, and a [`Volume`] a disk or such a mirror, so that `export`
+//!   can have a mirror for one slot beside others.
 //! - [`ShelfLink`] is a link to a shelf in the same process, for a host that needs no network.
 //!
 //! A loop serves one source or one link, one frame after the other. It ends with the first fault of
@@ -25,9 +27,10 @@
 //! each done write too. `export_mirror` does so with a mirror; its sides end equal but for the
 //! sectors that it tells as stale, and after a run that ended well there are some only if a side
 //! failed. Where nothing was stale when the run began, no frame gets a fault of the store and the last
-//! sync is Ok as long as the mark disk and one of the sides don't fail, however often the other one does
-//! (`IsMirrored`, `covered`). A refused run leaves source, sink and links as they were, and a fault of
-//! one is told only if its count rose. A `send` of `ShelfLink` never fails.
+//! sync is Ok as long as the mark disk and one of the sides don't fail (`IsMirrored`, `covered`). A
+//! `MirrorDisk` makes the calls of a mirror, and shows no contents (`disk_state`). A refused run leaves
+//! source, sink and links as they were; a fault of one is told only if its count rose. A `send` of
+//! `ShelfLink` never fails.
 //!
 //! Only tested: each call of source, sink, link and disk failing (`serve` of aoe_shelf_tests),
 //! files of a program that is killed or loses power (`tests/kill`, `tests/power-loss`,
@@ -36,6 +39,7 @@
 #![tactic(auto)]
 
 mod backing;
+mod mirror_disk;
 mod mount;
 mod outlet;
 mod over_files;
@@ -47,7 +51,9 @@ mod replies;
 mod rounds;
 mod run;
 mod shelf_link;
+mod volume;
 
+pub use mirror_disk::MirrorDisk;
 pub use over_files::{ExportOptions, export};
 pub use over_link::{ServeEnd, serve};
 pub use over_mirror::{MirrorDisks, MirrorEnd, MirrorStop, export_mirror};
@@ -55,3 +61,4 @@ pub use over_stream::{AnswerEnd, Format, answer, capture};
 pub use plan::{ExportRefusal, Exported, Plan, RunEnd};
 pub use run::run_slots;
 pub use shelf_link::ShelfLink;
+pub use volume::Volume;

@@ -258,7 +258,7 @@ fn has_ended(end: RunEnd) -> bool
 /// Syncs a mirror at the end of a run, and copies what is stale then, where the run ended well. The
 /// lowest disk is told that failed in the sync, where the sync failed. Where nothing is stale, the mark
 /// disk is made to say so.
-fn finish<D: Disk>(mirror: &mut Mirror<D>, well: bool) -> Option<u8>
+pub(crate) fn finish<D: Disk>(mirror: &mut Mirror<D>, well: bool) -> Option<u8>
     requires { IsMirror (pair D.state mirror.old) }
     ensures { EndsMirror well result (pair D.state mirror.old) (pair D.state mirror.new) }
 {

@@ -1,6 +1,6 @@
 //! The audit of a capture: worked exchanges of a host with the device 1.0, each told as an audit tells
 //! it.
-use aoe_audit::{Audit, AuditRefusal, Kind, Verdict};
+use aoe_audit::{Audit, AuditRefusal, Difference, Kind, Verdict};
 use aoe_base::{Mac, Ports, TargetId};
 use aoe_frame::{Frame, pad};
 use aoe_lists::Lists;
@@ -160,9 +160,26 @@ fn is_yes(alloc: Global, rows: &[Row<'_>], counts: (u32, u32, u32)) -> bool {
         })
 }
 
-/// Whether the audit of these records ends with this finding.
-fn is_found(alloc: Global, rows: &[Row<'_>], number: u32, kind: Kind) -> bool {
-    audited(alloc, rows) == Err(AuditRefusal::Finding { number, kind })
+/// Whether the audit of these records ends with a finding of this text.
+fn is_found(alloc: Global, rows: &[Row<'_>], wanted: &str) -> Result<bool, Fail> {
+    let Err(refusal) = audited(alloc, rows) else {
+        return Ok(false);
+    };
+    let text = format!(in alloc; "{refusal}")?;
+    Ok(text.as_str() == wanted)
+}
+
+/// How the last reply of these records differs from the expected one.
+fn difference(alloc: Global, rows: &[Row<'_>]) -> Option<Difference> {
+    match audited(alloc, rows) {
+        Err(
+            AuditRefusal::Finding {
+                kind: Kind::Reply { differs, .. },
+                ..
+            },
+        ) => differs,
+        _ => None,
+    }
 }
 
 #[test]
@@ -211,40 +228,62 @@ fn exchanges_that_it_does_not(rt: HostRuntime) -> Result<(), Fail> {
     let alloc = rt.alloc();
     let none: &[u8] = &[];
     let bent = [asks(QUERY, none), tells(IS_SET, none)];
-    assert!(rt; is_found(alloc, &bent, 2, Kind::Reply));
+    assert!(rt; is_found(alloc, &bent, "record 2: Reply")?);
     let missing = [asks(QUERY, none)];
-    assert!(rt; is_found(alloc, &missing, 1, Kind::Missing));
+    assert!(rt; is_found(alloc, &missing, "record 1: Missing")?);
     let before = [tells(EMPTY, none), asks(QUERY, none)];
-    assert!(rt; is_found(alloc, &before, 1, Kind::Reply));
+    assert!(rt; is_found(alloc, &before, "record 1: Reply")?);
     let twice = [asks(QUERY, none), tells(EMPTY, none), tells(EMPTY, none)];
-    assert!(rt; is_found(alloc, &twice, 3, Kind::Reply));
+    assert!(rt; is_found(alloc, &twice, "record 3: Reply")?);
     let cut_off = [asks(QUERY, none), cut(EMPTY)];
-    assert!(rt; is_found(alloc, &cut_off, 2, Kind::Short));
+    assert!(rt; is_found(alloc, &cut_off, "record 2: Short")?);
     let forgotten = [
         asks(WRITE, FIVES),
         tells(WROTE, none),
         asks(READ, none),
         tells(HAS, SIXES),
     ];
-    assert!(rt; is_found(alloc, &forgotten, 4, Kind::Reply));
+    assert!(rt; is_found(alloc, &forgotten, "record 4: Reply")?);
     let swapped = [
         asks(QUERY, none),
         asks(READ, none),
         tells(HAS, SIXES),
         tells(EMPTY, none),
     ];
-    assert!(rt; is_found(alloc, &swapped, 3, Kind::Reply));
+    assert!(rt; is_found(alloc, &swapped, "record 3: Reply")?);
+    Ok(())
+}
+
+#[test]
+fn says_how_a_reply_differs(rt: HostRuntime) -> Result<(), Fail> {
+    let alloc = rt.alloc();
+    let none: &[u8] = &[];
+    let forgotten = [
+        asks(WRITE, FIVES),
+        tells(WROTE, none),
+        asks(READ, none),
+        tells(HAS, SIXES),
+    ];
+    let told = difference(alloc, &forgotten);
+    assert!(rt;
+        told.is_some_and(|it| it.at == 36 && it.expected_len == 548 && it.found_len == 548)
+    );
+    assert!(rt; told.is_some_and(|it| it.expected[4] == 5 && it.found[4] == 6));
+    let twice = [asks(QUERY, none), tells(EMPTY, none), tells(EMPTY, none)];
+    assert!(rt; difference(alloc, &twice).is_none());
     Ok(())
 }
 
 #[test]
 fn says_why_it_says_no(rt: HostRuntime) -> Result<(), Fail> {
     let found = |number, kind| AuditRefusal::Finding { number, kind };
+    let ends = [0; 12];
+    let differs = None;
     let texts = [
         (AuditRefusal::NoMemory, "no memory"),
-        (found(2, Kind::Short), "record 2: Short"),
-        (found(4, Kind::Reply), "record 4: Reply"),
-        (found(3, Kind::Missing), "record 3: Missing"),
+        (found(2, Kind::Short { ends }), "record 2: Short"),
+        (found(4, Kind::Reply { ends, differs }), "record 4: Reply"),
+        (found(3, Kind::Missing { ends }), "record 3: Missing"),
     ];
     for (refusal, wanted) in &texts {
         let text = format!(in rt.alloc(); "{refusal}")?;

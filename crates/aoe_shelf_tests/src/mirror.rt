@@ -3,8 +3,9 @@ ghost use Rattle.aoe_disk.specs.Memory.{state_of};
 ghost use Rattle.aoe_mirror.specs.Clean.{SaysTruly};
 
 use aoe_base::Failed;
-use aoe_disk::MemDisk;
-use aoe_mirror::{Mirror, MirrorRefusal};
+use aoe_disk::{Disk, MemDisk};
+use aoe_mirror::{Mirror, MirrorEvent, MirrorRefusal, MirrorWatch};
+use aoe_serve::{MirrorDisk, Volume};
 use aoe_store::Store;
 use std::alloc::Global;
 use std::test::Fail;
@@ -227,5 +228,65 @@ fn takes_nothing_else_for_a_mark(rt: HostRuntime) -> Result<(), Fail> {
         leads(alloc, 0xa7, 1)?,
     ];
     assert!(rt; marks == [Some(0), Some(1)] && others == [None; 3]);
+    Ok(())
+}
+
+/// Keeps what it is told last.
+#[derive(Drop)]
+struct Last(Option<MirrorEvent>);
+
+impl MirrorWatch for Last {
+    ghost use Rattle.std.specs.Prelude.{None};
+
+    ghost told = { λ t. None };
+
+    fn tell(&mut self, event: MirrorEvent) {
+        self.0 = Some(event);
+    }
+}
+
+/// Whether a sector of a disk has this byte everywhere.
+fn holds<D: Disk>(disk: &mut D, at: u64, byte: u8) -> bool {
+    let mut out = [0; 512];
+    at < disk.sectors() && disk.read(at, &mut out).is_ok() && out == [byte; 512]
+}
+
+/// Fills a sector of a disk with a byte, and says whether it can be read then, and synced.
+fn keeps<D: Disk>(disk: &mut D, at: u64, byte: u8) -> bool {
+    at < disk.sectors()
+        && disk.write(at, &[byte; 512]).is_ok()
+        && holds(disk, at, byte)
+        && disk.sync().is_ok()
+}
+
+/// A mirror as a disk, of whose first side the call with this number fails.
+fn mirror_disk(alloc: Global, k: u32) -> Result<MirrorDisk<MemDisk, Last>, Fail> {
+    let mut one = MemDisk::new(alloc, 16)?;
+    one.fail_at(k.max(1));
+    let two = MemDisk::new(alloc, 16)?;
+    match MirrorDisk::mount(alloc, one, two, MemDisk::new(alloc, 2)?, Last(None)) {
+        Ok(mirror) => Ok(mirror),
+        Err((refusal, _, _, _)) => Err(refusal.into()),
+    }
+}
+
+/// Side 0 fails in a call: side 1 leads then, and both are equal at the end.
+#[test]
+fn is_a_disk(rt: HostRuntime) -> Result<(), Fail> {
+    let mut mirror = mirror_disk(rt.alloc(), 4)?;
+    assert!(rt; keeps(&mut mirror, 3, 0x5a) && keeps(&mut mirror, 4, 0x5b));
+    assert!(rt; mirror.lead() == 1 && mirror.finish(true) == None && mirror.stale() == 0);
+    let (mut one, mut two, _) = mirror.close();
+    assert!(rt; holds(&mut one, 3, 0x5a) && holds(&mut one, 4, 0x5b));
+    assert!(rt; holds(&mut two, 3, 0x5a) && holds(&mut two, 4, 0x5b));
+    Ok(())
+}
+
+#[test]
+fn is_a_volume(rt: HostRuntime) -> Result<(), Fail> {
+    let mut mirror: Volume<MemDisk, Last> = Volume::Mirror(mirror_disk(rt.alloc(), 4)?);
+    assert!(rt; keeps(&mut mirror, 3, 0x5a) && keeps(&mut mirror, 4, 0x5b));
+    let mut file: Volume<MemDisk, Last> = Volume::File(MemDisk::new(rt.alloc(), 16)?);
+    assert!(rt; keeps(&mut file, 3, 0x5a));
     Ok(())
 }

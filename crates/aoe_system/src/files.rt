@@ -1,8 +1,9 @@
 //! A file or a block device as a disk. It tells nothing of its content.
-ghost use Rattle.std.specs.Prelude.{◌≡◌, ◌<◌, ◌≤◌, ◌+◌, ◌^◌, ◌==◌, ◌&&◌, not, if◌then◌else◌, IfOk, IsErr, IsTrue, None, Some, OnErr, is_ok, length};
+ghost use Rattle.std.specs.Prelude.{◌≡◌, ◌<◌, ◌≤◌, ◌+◌, ◌^◌, ◌==◌, ◌&&◌, not, if◌then◌else◌, IfOk, IsErr, IsTrue, None, Some, OnErr, is_ok, length, option_map};
 ghost use Rattle.aoe_base.specs.Faults.{Rose};
 ghost use Rattle.aoe_disk.specs.Calls.{IsRange};
 ghost use Rattle.aoe_disk.specs.State.{DiskState};
+ghost use Rattle.aoe_system.specs.Images.{image_form};
 ghost use Rattle.aoe_system.specs.Keeps.{are_zeros, device_doubt, file_doubt};
 ghost use Rattle.libc.specs.Io.{Moved};
 
@@ -11,12 +12,12 @@ use crate::progress::Progress;
 use aoe_base::{Failed, SECTOR_LEN};
 use aoe_disk::Disk;
 use aoe_keep::{KEEP_SECTORS, may_hold_keep};
-use std::fs::{File, OpenFile, OpenOptions, TryLockError};
-use std::io;
+use std::fs::{File, FileType, OpenFile, OpenOptions, TryLockError};
 use std::io::{ErrorKind, Read, Seek, SeekFrom};
 use std::os::fd::AsRawFd;
 use std::os::unix::fs::{FileExt, FileTypeExt};
 use std::rt::Files;
+use std::{fs, io};
 use std_io::io::last_error;
 
 /// The most sectors of a disk.
@@ -139,6 +140,11 @@ fn device_doubt(image: &[u8; KEEP_LEN]) -> Option<KeepDoubt>
     }
 }
 
+/// Whether what is of this type may be a disk: a file or a block device.
+fn is_disk(kind: FileType) -> bool {
+    kind.is_file() || kind.is_block_device()
+}
+
 /// The kind of data whose mark stands on a file, where it is one of `MARKS`.
 fn kind_of(file: &File) -> Option<&'static str> {
     'marks: for (at, mark, kind) in &MARKS {
@@ -151,14 +157,16 @@ fn kind_of(file: &File) -> Option<&'static str> {
 }
 
 /// The form of the image that begins with these bytes, of those whose content isn't the disk itself.
-fn form_of(front: &[u8; FRONT_LEN]) -> Option<&'static str> {
+fn form_of(front: &[u8; FRONT_LEN]) -> Option<&'static str>
+    ensures { option_map (λ form. form.now) result ≡ image_form front.now }
+{
     if front.starts_with(b"QFI\xfb") {
         Some("qcow2")
     } else if front.starts_with(b"KDMV") {
         Some("VMDK")
     } else if front.starts_with(b"vhdxfile") {
         Some("VHDX")
-    } else if front[64..] == [0x7f, 0x10, 0xda, 0xbe] {
+    } else if front[64..].starts_with(&[0x7f, 0x10, 0xda, 0xbe]) {
         Some("VDI")
     } else {
         None
@@ -179,7 +187,7 @@ pub struct FileDisk {
     /// Where the copying of a mirror to this side is shown.
     progress: Option<Progress>,
 
-    /// Where each failed call is said.
+    /// Where each failed call is said, and all may be counted.
     log: Option<FileLog>,
     ghost bounded: { sectors ≤ 2 ^ 40 },
 }
@@ -189,14 +197,32 @@ impl FileDisk {
     pub fn open(rt: &impl Files<File = File>, name: &str) -> Result<FileDisk, FileRefusal>
         ensures { IfOk result (λ disk. disk.faults ≡ 0) }
     {
-        let mut file = OpenOptions::new().read(true).write(true).open(rt, name)?;
-        let kind = file.metadata()?.file_type();
-        if !kind.is_file() && !kind.is_block_device() {
+        let file = OpenOptions::new().read(true).write(true).open(rt, name)?;
+        if !is_disk(file.metadata()?.file_type()) {
             return Err(FileRefusal::Kind);
         }
         file.try_lock()?;
         // A device that is read-only may be opened all the same, and tells it at the first write.
         file.write_at(b"", 0)?;
+        FileDisk::of(file)
+    }
+
+    /// Opens the file for reading alone, so that each write fails. It isn't locked, and another program may
+    /// have locked it.
+    pub fn open_to_read(rt: &HostRuntime, name: &str) -> Result<FileDisk, FileRefusal>
+        ensures { IfOk result (λ disk. disk.faults ≡ 0) }
+    {
+        // Before it is opened, since that of a pipe waits for who writes it.
+        if !is_disk(fs::metadata(rt, name)?.file_type()) {
+            return Err(FileRefusal::Kind);
+        }
+        FileDisk::of(File::open(rt, name)?)
+    }
+
+    /// The disk that an open file is, of which no call failed.
+    fn of(mut file: File) -> Result<FileDisk, FileRefusal>
+        ensures { IfOk result (λ disk. disk.faults ≡ 0) }
+    {
         // The metadata of a block device don't tell its size.
         let sectors = file.seek(SeekFrom::End(0))? / SECTOR_LEN as u64;
         Ok(FileDisk {
@@ -209,7 +235,7 @@ impl FileDisk {
         })
     }
 
-    /// Says each failed call from now on.
+    /// Says each failed call from now on, and counts all where the log does.
     pub fn log_to(&mut self, log: FileLog)
         ensures sectors { self.new.sectors ≡ self.old.sectors }
         ensures faults { self.new.faults ≡ self.old.faults }
@@ -392,6 +418,9 @@ impl Disk for FileDisk {
         ensures refused { IsTrue self.old.is_lost → IsErr result }
         ensures stays_lost { self.new.is_lost ≡ self.old.is_lost }
     {
+        if let Some(log) = &self.log {
+            log.count_read(out.len());
+        }
         if self.is_lost {
             return Err(self.fail("a read", None));
         }
@@ -412,6 +441,9 @@ impl Disk for FileDisk {
         ensures refused { IsTrue self.old.is_lost → IsErr result }
         ensures stays_lost { self.new.is_lost ≡ self.old.is_lost }
     {
+        if let Some(log) = &self.log {
+            log.count_write(piece.len());
+        }
         if self.is_lost {
             return Err(self.fail("a write", None));
         }

@@ -8,10 +8,11 @@
 //! a [`FileDisk`] each later call of it fails. [`SystemClock`] never goes back, and goes on by what
 //! the system's clock did, at most a second between two looks. Inside, an interrupted call of a
 //! standard stream is made again (`retried`), `file_doubt` and `device_doubt` have the sizes and
-//! first bytes by which a file or a device is refused as a keep, `part_of` which bytes of a file are
-//! read, and `front_of` takes sectors of zeros alone for a hole. [`UnixClients`] counts a failed
-//! listener alone as a fault, and a
-//! client that left is there no more.
+//! first bytes by which a file or a device is refused as a keep, `form_of` those of an image,
+//! `part_of` which bytes of a file are read, and `front_of` takes sectors of zeros alone for a hole;
+//! `period_line` and `last_line` are a log's lines, `due` says when one is, and `count_turn` counts
+//! what comes and when an [`Until`] looks again. [`UnixClients`] counts a failed listener alone as a
+//! fault, and a client that left is there no more.
 //!
 //! Only tested, by `tests/adapters`, `tests/wire`, `tests/datagrams`, `tests/tools` and `tests/nbd`:
 //! what a file, a socket, its clients, a stream and the clock do, what the environment adds to the
@@ -30,7 +31,9 @@ mod log;
 mod names;
 mod part;
 mod progress;
+mod report;
 mod streams;
+mod tally;
 mod until;
 mod wire;
 
@@ -44,6 +47,8 @@ pub use holes::Writer;
 pub use log::{ClientLog, FileLog, say};
 pub use names::name_digest;
 pub use part::{FilePart, PartRefusal, Reader};
+pub use report::{Report, last_line, log_period};
 pub use streams::{Input, Output};
+pub use tally::{Calls, Slot, Tally, Traffic};
 pub use until::{StopFile, Until};
 pub use wire::{Carrier, Wire};

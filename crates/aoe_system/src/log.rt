@@ -1,4 +1,5 @@
 //! What is said on standard error.
+use crate::tally::Tally;
 use std::io;
 use std::io::Write;
 
@@ -8,21 +9,43 @@ pub fn say(rt: &HostRuntime, text: &[u8]) {
     let _ = stderr.write_all(text);
 }
 
-/// Says the failed calls of a file.
+/// Says the failed calls of a file, and counts all, where that is asked for.
 #[derive(Drop)]
 pub struct FileLog {
     rt: HostRuntime,
     name: String,
+    tally: Option<Tally>,
 }
 
 impl FileLog {
     /// Of the file with this name.
-    pub fn new(rt: &HostRuntime, name: String) -> FileLog {
-        FileLog { rt: *rt, name }
+    pub fn new(rt: &HostRuntime, name: String, tally: Option<Tally>) -> FileLog {
+        FileLog {
+            rt: *rt,
+            name,
+            tally,
+        }
+    }
+
+    /// Counts a call that is to read so many bytes.
+    pub(crate) fn count_read(&self, bytes: usize) {
+        if let Some(tally) = &self.tally {
+            tally.set(tally.get().with_read(bytes as u64));
+        }
+    }
+
+    /// Counts a call that is to write so many bytes.
+    pub(crate) fn count_write(&self, bytes: usize) {
+        if let Some(tally) = &self.tally {
+            tally.set(tally.get().with_write(bytes as u64));
+        }
     }
 
     /// Says that a call failed, and why; or that it wasn't made, since a sync failed before it.
     pub fn say(&self, call: &str, why: Option<&io::Error>) {
+        if let Some(tally) = &self.tally {
+            tally.set(tally.get().with_failed());
+        }
         let name = self.name.as_str();
         let text = match why {
             Some(error) => format!(in self.rt.alloc(); "aoe: {name}: {call} failed: {error}\n"),

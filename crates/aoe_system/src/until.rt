@@ -1,7 +1,10 @@
 //! A file that ends a run, and a link that ends once it is there. It tells nothing of what it gives and takes.
-ghost use Rattle.std.specs.Prelude.{None};
+ghost use Rattle.std.specs.Prelude.{◌≡◌, ◌≢◌, ◌==◌, ◌-◌, ◌≤◌, None, if◌then◌else◌};
+ghost use Rattle.aoe_io.specs.Memory.{counted};
 
 use crate::flow::Flow;
+use crate::report::Report;
+use crate::tally::Traffic;
 use aoe_base::Failed;
 use aoe_frame::Frame;
 use aoe_io::{Got, Link};
@@ -33,12 +36,16 @@ impl StopFile {
 
 /// A link that has ended once a file of this name is there, whatever still comes on it; where there is
 /// no name, the link itself. The file is looked for before the first turn, behind each turn that brought
-/// no frame, and behind so many frames. A turn that brought none is told.
+/// no frame, and behind so many frames; then, too, a report is said, where one is due. A turn that brought
+/// none is told.
 #[derive(Drop)]
 pub struct Until<'a, L: Link> {
     link: L,
     stop: StopFile,
     flow: &'a Flow,
+    report: Option<Report>,
+
+    /// How many frames come at most before it looks again.
     before_look: u32,
     turns: u64,
     came: u64,
@@ -51,6 +58,7 @@ impl<'a, L: Link> Until<'a, L> {
             link,
             stop: StopFile::new(rt, stop),
             flow,
+            report: None,
             before_look: 0,
             turns: 0,
             came: 0,
@@ -63,14 +71,73 @@ impl<'a, L: Link> Until<'a, L> {
         &self.link
     }
 
-    /// How many frames came.
-    pub fn came(&self) -> u64 {
-        self.came
+    /// How many frames came, and how many were sent, each up to the greatest u64.
+    pub fn traffic(&self) -> Traffic
+        ensures came { result.came ≡ self.now.came }
+        ensures sent { result.sent ≡ self.now.sent }
+    {
+        Traffic {
+            came: self.came,
+            sent: self.sent,
+        }
     }
 
-    /// How many frames were sent.
-    pub fn sent(&self) -> u64 {
-        self.sent
+    /// Reports from now on.
+    pub fn report_to(&mut self, report: Report)
+        ensures came { self.new.came ≡ self.old.came }
+        ensures sent { self.new.sent ≡ self.old.sent }
+    {
+        self.report = Some(report);
+    }
+
+    /// Whether the file is there; what is due is said.
+    fn is_over(&mut self) -> bool
+        ensures came { self.new.came ≡ self.old.came }
+        ensures sent { self.new.sent ≡ self.old.sent }
+        ensures turns { self.new.turns ≡ self.old.turns }
+        ensures look { self.new.before_look ≡ self.old.before_look }
+        ensures link { self.new.link ≡ self.old.link }
+    {
+        let traffic = self.traffic();
+        if let Some(report) = &mut self.report {
+            report.look(traffic);
+        }
+        self.stop.is_there()
+    }
+
+    /// One more frame is sent.
+    fn count_sent(&mut self)
+        ensures came { self.new.came ≡ self.old.came }
+        ensures sent { self.new.sent ≡ counted self.old.sent }
+        ensures turns { self.new.turns ≡ self.old.turns }
+        ensures look { self.new.before_look ≡ self.old.before_look }
+        ensures link { self.new.link ≡ self.old.link }
+    {
+        self.sent = self.sent.saturating_add(1);
+    }
+
+    /// One more turn brought this. It looks again behind each that brought no frame, and else before one of
+    /// any thousand frames.
+    fn count_turn(&mut self, got: Got)
+        ensures came { got ≡ Got.Frame → self.new.came ≡ counted self.old.came }
+        ensures others { got ≢ Got.Frame → self.new.came ≡ self.old.came }
+        ensures sent { self.new.sent ≡ self.old.sent }
+        ensures turns { self.new.turns ≡ counted self.old.turns }
+        ensures passing { self.old.turns ≤ self.new.turns }
+        ensures looks { got ≢ Got.Frame → self.new.before_look ≡ 0 }
+        ensures later { got ≡ Got.Frame → self.new.before_look
+            ≡ (if self.old.before_look == 0 then 999 else self.old.before_look - 1) }
+        ensures link { self.new.link ≡ self.old.link }
+    {
+        self.turns = self.turns.saturating_add(1);
+        self.before_look = match got {
+            Got::Frame if self.before_look == 0 => FRAMES - 1,
+            Got::Frame => self.before_look - 1,
+            Got::Quiet | Got::Ended => 0,
+        };
+        if got == Got::Frame {
+            self.came = self.came.saturating_add(1);
+        }
     }
 }
 
@@ -86,12 +153,12 @@ impl<L: Link> Link for Until<'_, L> {
     ghost faults = { λ l. L.faults l.link };
 
     fn send(&mut self, frame: &[u8]) -> Result<(), Failed> {
-        self.sent = self.sent.saturating_add(1);
+        self.count_sent();
         self.link.send(frame)
     }
 
     fn recv(&mut self, out: &mut Frame) -> Result<Got, Failed> {
-        if self.before_look == 0 && self.stop.is_there() {
+        if self.before_look == 0 && self.is_over() {
             self.turns = self.turns.saturating_add(1);
             return Ok(Got::Ended);
         }
@@ -99,16 +166,9 @@ impl<L: Link> Link for Until<'_, L> {
             Ok(got) => got,
             Err(Failed) => return Err(Failed),
         };
-        self.turns = self.turns.saturating_add(1);
-        self.before_look = match got {
-            Got::Frame if self.before_look == 0 => FRAMES - 1,
-            Got::Frame => self.before_look - 1,
-            Got::Quiet | Got::Ended => 0,
-        };
-        match got {
-            Got::Frame => self.came = self.came.saturating_add(1),
-            Got::Quiet => self.flow.quiet(self.came, self.sent),
-            Got::Ended => {}
+        self.count_turn(got);
+        if got == Got::Quiet {
+            self.flow.quiet(self.came, self.sent);
         }
         Ok(got)
     }

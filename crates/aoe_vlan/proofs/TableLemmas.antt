@@ -1,19 +1,21 @@
 -- The table of a VLAN, and what is learnt.
-use Rattle.std.proofs.Common.{◌≡◌, ◌≤◌, ◌<◌, ◌||◌, ◌+◌, cond, nat_eq, nat_lt, ℕ, zero, suc, slice_set, get_or, eq-eqb, ne_eqb, option_map, option_and_then, inl, inr, Bool, true, false, List, [], ◌∷◌, ◌++◌, length, position, Option, Some, None, is_some, true≢false, take, refl, sym, ap, ◌∙◌, arith, lt-ltb, le-ltb}
+use Rattle.std.proofs.Common.{◌≡◌, ◌≤◌, ◌<◌, ◌||◌, ◌+◌, cond, nat_eq, nat_lt, ℕ, zero, suc, slice_set, get_or, eq-eqb, ne_eqb, option_map, option_and_then, inl, inr, Bool, true, false, List, [], ◌∷◌, ◌++◌, length, position, Option, Some, None, is_some, take, refl, sym, ap, subst, ◌∙◌, arith, lt-ltb, le-ltb}
 use Rattle.std.specs.Prelude.{IfSome, IsSome}
 use Rattle.std.specs.List.{list_any, position_or_len}
 use Rattle.std.specs.Map.{keys_of}
-use Rattle.std.proofs.lemmas.Bool.{cases_Bool, cases_eq, or_from, or_right}
-use Rattle.std.proofs.lemmas.List.{take_all, take_more}
+use Rattle.std.proofs.lemmas.Bool.{cases_Bool, cases_eq, cases_lt, or_right}
+use Rattle.std.proofs.lemmas.List.{take_more}
 use Rattle.std.proofs.lemmas.List.Folds.{list_any-append}
 use Rattle.std.proofs.lemmas.Grind.{get_or-set_at}
 use Rattle.std.proofs.lemmas.List.Quantifiers.{position-Some}
+use Rattle.std.proofs.Math.Bool.{or_assoc, or-false}
 use Rattle.std.proofs.lemmas.Map.Made.{is_some-lookup}
 use Rattle.indexmap.specs.IndexMap.{insert_entry, set_value_at}
 use Rattle.indexmap.proofs.MapLemmas.{Found-position, insert_entry-first, some_index}
 use Rattle.aoe_base.specs.Addresses.{same_address}
 use Rattle.aoe_base.specs.declared.address.Mac.{Mac}
-use Rattle.aoe_vlan.specs.Tables.{AreBlank, AreKept, Stations, Table, found, found_in, learnt_in, moved, stations_of}
+use Rattle.aoe_base.proofs.CountLemmas.{count-cons, count-no, count-yes}
+use Rattle.aoe_vlan.specs.Tables.{AreAdded, AreBlank, HaveOne, Stations, Table, found, found_in, learnt_in, moved, stations_of, tables_of}
 
 -- the address stands there, or there is room, or neither
 
@@ -80,23 +82,6 @@ has-first vid ts there e =
 
 -- one more table
 
-stations-more : (vid : ℕ) (ts : List Table) (t : Table) → IsSome (stations_of vid ts) → stations_of vid (ts ++ t ∷ []) ≡ stations_of vid ts
-stations-more vid [] t some = absurd (cc)
-stations-more vid (u ∷ ts) t some = elim (cases_Bool (nat_eq u.vid vid)) [
-  | inl same ↦ rw same refl
-  | inr other ↦ rw other (stations-more vid ts t (rw other at some))
-]
-
-pub kept-more : (ts : List Table) (t : Table) → AreKept ts (ts ++ t ∷ [])
-kept-more ts t vid some = ap is_some (stations-more vid ts t some) ∙ some
-
-pub there-more : (ts : List Table) (t : Table) → IsSome (stations_of t.vid (ts ++ t ∷ []))
-there-more [] t = rw (eq-eqb t.vid t.vid refl) refl
-there-more (u ∷ ts) t = elim (cases_Bool (nat_eq u.vid t.vid)) [
-  | inl same ↦ rw same refl
-  | inr other ↦ rw other (there-more ts t)
-]
-
 pub blank-more : (ts : List Table) (t : Table) → AreBlank ts → t.stations ≡ [] → AreBlank (ts ++ t ∷ [])
 blank-more ts t blank none vid = all ts (blank vid)
   where
@@ -149,29 +134,99 @@ module _ (vid : ℕ) (a : Mac) (p : ℕ) (ts : List Table) (i : ℕ) (r new : Ta
       ∙ ap (λ (t : Table). Some t.stations) (sym (now ∙ learnt)) in
       ap (λ o. option_and_then (λ s. found s dest) o) (sym after)
 
--- each VLAN of the first so many has a table, by a test of what is of a VLAN
+-- how many tables a VLAN has
 
-abbrev pub Covers : {A : Type 0} → (ℕ → A → Bool) → List A → ℕ → List Table → Type 0
-Covers test xs i ts = (vid : ℕ) → list_any (test vid) (take i xs) ≡ true → IsSome (stations_of vid ts)
+some-counted : (vid : ℕ) (ts : List Table) → IsSome (stations_of vid ts) → 1 ≤ tables_of vid ts
+some-counted vid [] there = absurd (cc)
+some-counted vid (t ∷ ts) there = elim (cases_Bool (nat_eq t.vid vid)) [
+  | inl same ↦ omega (arith, count-yes (λ (u : Table). nat_eq u.vid vid) t ts same)
+  | inr other ↦ omega (arith, count-no (λ (u : Table). nat_eq u.vid vid) t ts other, some-counted vid ts (rw other at there))
+]
 
-pub covers-none : {A : Type 0} (test : ℕ → A → Bool) (xs : List A) (ts : List Table) → Covers test xs 0 ts
-covers-none test xs ts vid e = absurd (cc)
+counted-some : (vid : ℕ) (ts : List Table) → 1 ≤ tables_of vid ts → IsSome (stations_of vid ts)
+counted-some vid [] some = absurd (omega (arith, some))
+counted-some vid (t ∷ ts) some = elim (cases_Bool (nat_eq t.vid vid)) [
+  | inl same ↦ rw same refl
+  | inr other ↦ rw other (counted-some vid ts (omega (arith, count-no (λ (u : Table). nat_eq u.vid vid) t ts other, some)))
+]
 
-pub covers-more : {A : Type 0} (test : ℕ → A → Bool) (xs : List A) (i : ℕ) (x d : A) (ts us : List Table) → i < length xs → get_or xs i d ≡ x
-    → AreKept ts us → ((vid : ℕ) → test vid x ≡ true → IsSome (stations_of vid us)) → Covers test xs i ts
-    → Covers test xs (i + 1) us
-covers-more test xs i x d ts us lt is kept one covers vid e =
+none-counted : (vid : ℕ) (ts : List Table) → is_some (position (λ t. nat_eq t.vid vid) ts) ≡ false → tables_of vid ts ≡ 0
+none-counted vid ts e = elim (cases_lt 0 (tables_of vid ts)) [
+  | inl some ↦ absurd (by (position (λ t. nat_eq t.vid vid) ts) refl e some)
+  | inr none ↦ omega (arith, none)
+]
+  where
+    by : (o : Option ℕ) → position (λ t. nat_eq t.vid vid) ts ≡ o → is_some o ≡ false → 0 < tables_of vid ts → ⊥
+    by None p n some = has-first vid ts (counted-some vid ts (omega (arith, some))) p
+    by (Some i) p n some = cc
+
+counted-more : (w : ℕ) (ts : List Table) (t : Table) → tables_of w (ts ++ t ∷ []) ≡ tables_of w ts + cond (nat_eq t.vid w) 1 0
+counted-more w [] t = omega (arith, count-cons (λ (u : Table). nat_eq u.vid w) t [])
+counted-more w (u ∷ ts) t = omega (
+  arith,
+  count-cons (λ (v : Table). nat_eq v.vid w) u (ts ++ t ∷ []),
+  count-cons (λ (v : Table). nat_eq v.vid w) u ts,
+  counted-more w ts t,
+)
+
+-- a switch that knows a VLAN has its table, and goes on having one
+pub one-there : (vid : ℕ) (are : ℕ → Bool) (ts : List Table) → HaveOne are ts → are vid ≡ true → IsSome (stations_of vid ts)
+one-there vid are ts one is = counted-some vid ts (omega (arith, one vid ∙ ap (λ t. cond t 1 0) is))
+
+pub one-learnt : (w vid : ℕ) (a : Mac) (p : ℕ) (ts : List Table) → tables_of w (learnt_in vid a p ts) ≡ tables_of w ts
+one-learnt w vid a p [] = refl
+one-learnt w vid a p (t ∷ ts) = elim (cases_Bool (nat_eq t.vid vid)) [
+  | inl same ↦ rw same (count-cons test (record t { stations = moved t.stations a p }) ts ∙ sym (count-cons test t ts))
+  | inr other ↦ rw other (count-cons test t (learnt_in vid a p ts) ∙ ap (λ (n : ℕ). cond (nat_eq t.vid w) 1 0 + n) (one-learnt w vid a p ts)
+      ∙ sym (count-cons test t ts))
+]
+  where
+    test : Table → Bool
+    test u = nat_eq u.vid w
+
+-- tables are added
+
+-- there is the table already
+pub adds-none : (vid : ℕ) (ts : List Table) → is_some (position (λ t. nat_eq t.vid vid) ts) ≡ true → AreAdded (λ v. nat_eq vid v) ts ts
+adds-none vid ts there are one w = elim (cases_eq vid w) [
+  | inl same ↦ rw (eq-eqb vid w same) (by (are w) (one w) (subst (λ (v : ℕ). 1 ≤ tables_of v ts) same (some-counted vid ts (there-some vid ts there))))
+  | inr other ↦ rw (ne_eqb vid w other) (one w ∙ ap (λ t. cond t 1 0) (sym (or-false (are w))))
+]
+  where
+    by : (t : Bool) → tables_of w ts ≡ cond t 1 0 → 1 ≤ tables_of w ts → tables_of w ts ≡ cond (t || true) 1 0
+    by true e some = e
+    by false e some = absurd (omega (arith, e, some))
+
+pub adds-one : (vid : ℕ) (ts : List Table) (t : Table) → is_some (position (λ u. nat_eq u.vid vid) ts) ≡ false → t.vid ≡ vid
+    → AreAdded (λ v. nat_eq vid v) ts (ts ++ t ∷ [])
+adds-one vid ts t absent is are one w =
+    let more : tables_of w (ts ++ t ∷ []) ≡ tables_of w ts + cond (nat_eq vid w) 1 0 =
+    counted-more w ts t ∙ ap (λ (v : ℕ). tables_of w ts + cond (nat_eq v w) 1 0) is in
+    more ∙ (elim (cases_eq vid w) [
+      | inl same ↦ rw (eq-eqb vid w same) (by (are w) (one w) (subst (λ (v : ℕ). tables_of v ts ≡ 0) same (none-counted vid ts absent)))
+      | inr other ↦ rw (ne_eqb vid w other) (omega (arith, one w ∙ ap (λ t. cond t 1 0) (sym (or-false (are w)))))
+    ])
+  where
+    by : (b : Bool) → tables_of w ts ≡ cond b 1 0 → tables_of w ts ≡ 0 → tables_of w ts + 1 ≡ cond (b || true) 1 0
+    by true e none = absurd (omega (arith, e, none))
+    by false e none = omega (arith, none)
+
+-- of the first so many of a list, by a test of what is of a VLAN
+
+pub any-more : {A : Type 0} (test : ℕ → A → Bool) (xs : List A) (i : ℕ) (x d : A) (vid : ℕ) → i < length xs → get_or xs i d ≡ x
+    → (list_any (test vid) (take i xs) || test vid x) ≡ list_any (test vid) (take (i + 1) xs)
+any-more test xs i x d vid lt is =
     let grown : take (i + 1) xs ≡ take i xs ++ x ∷ [] = take_more xs i d lt ∙ ap (λ y. take i xs ++ y ∷ []) is in
-    let any : (list_any (test vid) (take i xs) || (test vid x || false)) ≡ true =
-    sym (list_any-append (test vid) (take i xs) (x ∷ [])) ∙ ap (λ l. list_any (test vid) l) (sym grown) ∙ e in
-    elim (cases_Bool (list_any (test vid) (take i xs))) [
-      | inl there ↦ kept vid (covers vid there)
-      | inr none ↦ elim (cases_Bool (test vid x)) [
-        | inl here ↦ one vid here
-        | inr n ↦ absurd (true≢false (sym any ∙ or_from _ _ none (or_from (test vid x) false n refl)))
-      ]
-    ]
+    ap (λ t. list_any (test vid) (take i xs) || t) (sym (or-false (test vid x)))
+    ∙ sym (list_any-append (test vid) (take i xs) (x ∷ [])) ∙ ap (λ l. list_any (test vid) l) (sym grown)
 
-pub covers-all : {A : Type 0} (test : ℕ → A → Bool) (xs : List A) (i : ℕ) (ts : List Table) → length xs ≤ i → Covers test xs i ts → (vid : ℕ)
-    → list_any (test vid) xs ≡ true → IsSome (stations_of vid ts)
-covers-all test xs i ts end covers vid e = covers vid (ap (λ l. list_any (test vid) l) (take_all i xs end) ∙ e)
+-- none of them yet
+pub adds-first : {A : Type 0} (test : ℕ → A → Bool) (xs : List A) (ts : List Table) → AreAdded (λ v. list_any (test v) (take 0 xs)) ts ts
+adds-first test xs ts are one w = one w ∙ ap (λ t. cond t 1 0) (sym (or-false (are w)))
+
+pub adds-more : {A : Type 0} (test : ℕ → A → Bool) (xs : List A) (i : ℕ) (x d : A) (ts us vs : List Table) → i < length xs → get_or xs i d ≡ x
+    → AreAdded (λ v. list_any (test v) (take i xs)) ts us → AreAdded (λ v. test v x) us vs → AreAdded (λ v. list_any (test v) (take (i + 1) xs)) ts vs
+adds-more test xs i x d ts us vs lt is before now are one w =
+    now (λ v. are v || list_any (test v) (take i xs)) (before are one) w
+    ∙ ap (λ t. cond t 1 0) (or_assoc (are w) (list_any (test w) (take i xs)) (test w x)
+    ∙ ap (λ t. are w || t) (any-more test xs i x d w lt is))

@@ -1,5 +1,5 @@
 -- A frame is taken.
-use Rattle.std.proofs.Common.{◌≡◌, ◌<◌, cond, nat_eq, ℕ, zero, suc, true, false, List, [], ◌∷◌, length, get_or, slice_get, Option, Some, None, option_map, option_and_then, is_some, refl, sym, ap, subst, ◌∙◌, eq-eqb, ne_eqb, inl, inr}
+use Rattle.std.proofs.Common.{◌≡◌, ◌<◌, cond, nat_eq, ℕ, zero, suc, true, false, List, [], ◌∷◌, length, get_or, slice_get, Option, Some, None, option_map, option_and_then, refl, sym, ap, subst, ◌∙◌, eq-eqb, ne_eqb, inl, inr}
 use Rattle.std.specs.Prelude.{IfSome, IsSome}
 use Rattle.std.specs.List.{list_any}
 use Rattle.std.proofs.lemmas.Bool.{cases_Bool, cases_eq, or_left, or_right}
@@ -124,15 +124,3 @@ pub any-there : (ports : List PortKind) (port : ℕ) (kind : PortKind) (frame : 
     → vlan_of kind frame ≡ Some vid → list_any (carries vid) ports ≡ true
 any-there ports port kind frame vid lt is e = any-at ports port kind vid (slice_get_read ports (length ports) port kind refl lt is)
     (vlan-carries kind frame vid e)
-
--- a table stays
-pub some-kept : (vid w : ℕ) (a : Mac) (p : ℕ) (ts : List Table) → IsSome (stations_of w ts) → IsSome (stations_of w (learnt_in vid a p ts))
-some-kept vid w a p ts some = elim (cases_eq vid w) [
-  | inl same ↦ subst (λ (v : ℕ). IsSome (stations_of v (learnt_in vid a p ts))) same
-      (ap is_some (stations-same vid a p ts) ∙ still (stations_of vid ts) (subst (λ (v : ℕ). IsSome (stations_of v ts)) (sym same) some))
-  | inr other ↦ ap is_some (stations-other vid w a p ts (ne_eqb vid w other)) ∙ some
-]
-  where
-    still : (o : Option Stations) → IsSome o → IsSome (option_map (λ s. moved s a p) o)
-    still None is = absurd (cc)
-    still (Some s) is = refl

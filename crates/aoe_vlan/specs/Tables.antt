@@ -1,5 +1,5 @@
 -- What a switch knows: a table for each VLAN.
-use Rattle.std.specs.Prelude.{ℕ, ◌≡◌, ◌==◌, ◌||◌, true, List, [], ◌∷◌, map, length, nat_lt, Option, Some, None, IfSome, IsSome, option_and_then, if◌then◌else◌}
+use Rattle.std.specs.Prelude.{ℕ, ◌≡◌, ◌==◌, ◌||◌, Bool, List, [], ◌∷◌, count_by, map, length, nat_lt, Option, Some, None, IfSome, option_and_then, if◌then◌else◌}
 use Rattle.std.specs.List.{list_any}
 use Rattle.std.specs.Map.{keys_of, lookup}
 use Rattle.indexmap.specs.IndexMap.{insert_entry}
@@ -59,14 +59,22 @@ HasLearnt switch inputs = (vid : ℕ) → IfSome (stations_of vid switch.tables)
 abbrev pub CanHaveLearnt : Knowing → Type 0
 CanHaveLearnt switch = (inputs : List Passing) × HasLearnt switch inputs
 
--- each VLAN of a port has a table
-abbrev pub AreCovered : List PortKind → List Table → Type 0
-AreCovered ports tables = (vid : ℕ) → list_any (carries vid) ports ≡ true → IsSome (stations_of vid tables)
+-- how many tables a VLAN has
+abbrev pub tables_of : ℕ → List Table → ℕ
+tables_of vid tables = count_by (λ t. t.vid == vid) tables
+
+-- each of these VLANs has one table, and no other has any
+abbrev pub HaveOne : (ℕ → Bool) → List Table → Type 0
+HaveOne are tables = (vid : ℕ) → tables_of vid tables ≡ (if are vid then 1 else 0)
+
+-- each VLAN of a port has one table, and no other has any, so a switch has as many tables as its ports have VLANs
+abbrev pub IsFrugal : Knowing → Type 0
+IsFrugal switch = HaveOne (λ vid. list_any (carries vid) switch.ports) switch.tables
 
 -- no table has an address
 abbrev pub AreBlank : List Table → Type 0
 AreBlank tables = (vid : ℕ) → IfSome (stations_of vid tables) (λ stations. stations ≡ [])
 
--- which VLAN had a table has one
-abbrev pub AreKept : List Table → List Table → Type 0
-AreKept before after = (vid : ℕ) → IsSome (stations_of vid before) → IsSome (stations_of vid after)
+-- these VLANs have one table each beside those that had one
+abbrev pub AreAdded : (ℕ → Bool) → List Table → List Table → Type 0
+AreAdded more before after = (are : ℕ → Bool) → HaveOne are before → HaveOne (λ vid. are vid || more vid) after

@@ -14,11 +14,12 @@
 //! (`frames_stay_in_their_vlan`), and a port of one VLAN sends what it would if no other had frames
 //! (`a_port_gives_frames_of_its_vlan`). A later run goes on where the earlier ended
 //! (`runs_follow_one_another`). `Switch::form` is `formed_at`, which keeps priority and drop mark.
+//! A switch has one table for each VLAN of its ports, and no other (`IsFrugal`).
 //!
 //! Only tested: frames with two tags and tags that are cut (`aoe_program_tests`, vlan), streams
 //! byte by byte (tests/check), and the same frames through a Linux bridge
-//! (examples/beside-a-bridge). No clause says how long a look-up takes, or that only `Switch::new`
-//! takes memory.
+//! (examples/beside-a-bridge). No clause says how long a look-up takes, how many bytes a table
+//! has, or that only `Switch::new` takes memory.
 #![tactic(auto)]
 
 mod laws;

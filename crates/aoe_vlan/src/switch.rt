@@ -5,7 +5,7 @@ ghost use Rattle.aoe_base.specs.Addresses.{is_individual, source_of};
 ghost use Rattle.aoe_vlan.specs.Tag.{carries, destination_of, is_frame, is_numbered};
 ghost use Rattle.aoe_vlan.specs.Switched.{Passing, carries_at, formed_at, going, is_other, others, passing, toward, vlan_at};
 ghost use Rattle.aoe_vlan.specs.Running.{piece};
-ghost use Rattle.aoe_vlan.specs.Tables.{HasLearnt, AreBlank, AreKept, found_in, learnt_in, stations_of};
+ghost use Rattle.aoe_vlan.specs.Tables.{AreAdded, AreBlank, HasLearnt, IsFrugal, found_in, learnt_in, stations_of};
 ghost use Rattle.arrayvec.specs.ArrayVec.{array_vec_len};
 
 use crate::over_stream::Piece;
@@ -44,7 +44,7 @@ pub struct Switch {
 
 impl Model for Switch {
     ghost use Rattle.std.specs.Prelude.{◌≤◌, length, All};
-    ghost use Rattle.aoe_vlan.specs.Tables.{AreCovered, CanHaveLearnt, Knowing};
+    ghost use Rattle.aoe_vlan.specs.Tables.{CanHaveLearnt, IsFrugal, Knowing};
     ghost use Rattle.aoe_vlan.specs.Tag.{IsNumbered};
 
     ghost Value = { Knowing };
@@ -52,7 +52,7 @@ impl Model for Switch {
     ghost view = { λ s. record { ports = s.ports.items; tables = s.tables.items } };
 
     ghost invariant = { λ s. (length s.ports.items ≤ 16) × All IsNumbered s.ports.items
-        × AreCovered s.ports.items s.tables.items
+        × IsFrugal record { ports = s.ports.items; tables = s.tables.items }
         × CanHaveLearnt record { ports = s.ports.items; tables = s.tables.items } };
 }
 
@@ -67,8 +67,7 @@ fn index_of(tables: &[Table], vid: u16) -> Option<usize>
 fn add_table(alloc: Global, tables: &mut Vec<Table>, vid: u16) -> Result<(), NoMemory>
     requires blank { AreBlank tables.old.items }
     ensures blank { OnOk result (AreBlank tables.new.items) }
-    ensures there { OnOk result (IsSome (stations_of vid tables.new.items)) }
-    ensures kept { OnOk result (AreKept tables.old.items tables.new.items) }
+    ensures added { OnOk result (AreAdded (λ v. vid == v) tables.old.items tables.new.items) }
 {
     if index_of(tables, vid).is_some() {
         return Ok(());
@@ -81,9 +80,8 @@ fn add_table(alloc: Global, tables: &mut Vec<Table>, vid: u16) -> Result<(), NoM
 fn add_tables(alloc: Global, tables: &mut Vec<Table>, port: &PortKind) -> Result<(), NoMemory>
     requires blank { AreBlank tables.old.items }
     ensures blank { OnOk result (AreBlank tables.new.items) }
-    ensures there { OnOk result ((vid : ℕ) → carries vid port.now ≡ true
-        → IsSome (stations_of vid tables.new.items)) }
-    ensures kept { OnOk result (AreKept tables.old.items tables.new.items) }
+    ensures added { OnOk result
+        (AreAdded (λ vid. carries vid port.now) tables.old.items tables.new.items) }
 {
     match port {
         PortKind::Access(vid) => add_table(alloc, tables, *vid),
@@ -125,6 +123,7 @@ impl Switch {
         requires numbers { list_all is_numbered ports.now ≡ true }
         ensures ports { IfOk result (λ switch. switch.ports ≡ ports.now) }
         ensures nothing { IfOk result (λ switch. HasLearnt switch []) }
+        ensures frugal { IfOk result IsFrugal }
     {
         let mut copies = Vec::with_capacity(alloc, ports.len())?;
         let mut tables = Vec::new(alloc);

@@ -29,6 +29,12 @@ fn says_nothing_of_commands(rt: HostRuntime) -> Result<(), Fail> {
         ("answer 1 0 disk keep", "a command"),
         ("audit 1 0 16 keep", "a command"),
         ("put e1.0 0 --tap t --verify", "a command"),
+        (
+            "serve 1 d k --tap t --ports 02:00:00:00:00:0A,02:00:00:AB:CD:EF",
+            "a command",
+        ),
+        ("mask e1.0 edit add=02:AA:BB:CC:DD:0E --tap t", "a command"),
+        ("reserve e1.0 set 02:AA:BB:CC:DD:0E --tap t", "a command"),
     ];
     says(&rt, rt.alloc(), &cases)
 }
@@ -207,6 +213,18 @@ fn says_what_is_wrong_with_flags(rt: HostRuntime) -> Result<(), Fail> {
 fn says_what_is_wrong_with_numbers(rt: HostRuntime) -> Result<(), Fail> {
     let cases = [
         (
+            "serve -1 disk keep --tap t",
+            "SHELF: -1 isn't a number from 0 to 65534",
+        ),
+        (
+            "get e1.0 0 -5 --tap t",
+            "COUNT: -5 isn't a number from 1 to 281474976710656",
+        ),
+        (
+            "serve 1 -1 keep --tap t",
+            "-1: not an option of this command",
+        ),
+        (
             "answer 65535 0 disk keep",
             "SHELF: 65535 isn't a number from 0 to 65534",
         ),
@@ -302,7 +320,19 @@ fn says_what_is_wrong_with_addresses(rt: HostRuntime) -> Result<(), Fail> {
     let cases = [
         (
             "discover --tap t --port 03:00:00:00:00:01",
-            "--port: 03:00:00:00:00:01 isn't the address of one station, in lower-case hexadecimal as 02:00:00:00:00:0a",
+            "--port: 03:00:00:00:00:01 is the address of a group of stations",
+        ),
+        (
+            "get e1.0 --tap t --port=FF:FF:FF:FF:FF:FF",
+            "--port: FF:FF:FF:FF:FF:FF is the address of a group of stations",
+        ),
+        (
+            "get e1.0 --tap t --port 02:00:00:00:00:0G",
+            "--port: 02:00:00:00:00:0G isn't the address of one station, in hexadecimal as 02:00:00:00:00:0a",
+        ),
+        (
+            "serve 1 d k --tap t --ports 02:00:00:00:00:01,01:00:5e:00:00:01",
+            "--ports: 01:00:5e:00:00:01 is the address of a group of stations",
         ),
         (
             "audit 1 0 16 keep --ports 02:00:00:00:00:01,",
@@ -310,20 +340,24 @@ fn says_what_is_wrong_with_addresses(rt: HostRuntime) -> Result<(), Fail> {
         ),
         (
             "serve 1 d k --tap t --ports=02:00:00:00:00:01,02-00-00-00-00-02",
-            "--ports: 02-00-00-00-00-02 isn't the address of one station, in lower-case hexadecimal as 02:00:00:00:00:0a",
+            "--ports: 02-00-00-00-00-02 isn't the address of one station, in hexadecimal as 02:00:00:00:00:0a",
         ),
         (
             "serve 1 d k --tap t --ports 02:00:00:00:00:01,02:00:00:00:00:01",
-            "--ports: 02:00:00:00:00:01,02:00:00:00:00:01 isn't one to four addresses of single stations joined by commas, none twice",
+            "--ports: 02:00:00:00:00:01 is given twice",
+        ),
+        (
+            "serve 1 d k --tap t --ports 02:00:00:00:00:0a,02:00:00:00:00:01,02:00:00:00:00:0A",
+            "--ports: 02:00:00:00:00:0A is given twice",
         ),
         ("flush 1.0", "DEV: 1.0 isn't a device, as e1.0"),
         (
-            "mask e1.0 edit add=02:00:00:00:00:0A",
-            "MAC: add=02:00:00:00:00:0A isn't add=MAC or del=MAC, in lower-case hexadecimal as 02:00:00:00:00:0a",
+            "mask e1.0 edit add=02:00:00:00:00:0x",
+            "MAC: add=02:00:00:00:00:0x isn't add=MAC or del=MAC, in hexadecimal as 02:00:00:00:00:0a",
         ),
         (
             "reserve e1.0 set 02:00:00:00:00",
-            "MAC: 02:00:00:00:00 isn't an address, in lower-case hexadecimal as 02:00:00:00:00:0a",
+            "MAC: 02:00:00:00:00 isn't an address, in hexadecimal as 02:00:00:00:00:0a",
         ),
     ];
     says(&rt, rt.alloc(), &cases)

@@ -1,6 +1,6 @@
 //! The audit of a capture file: the capture of a query, and what it comes to where the file is another.
 use super::loops::{MemShelf, QUERY, shelf_of_one};
-use aoe_audit::{Audit, Kind};
+use aoe_audit::{Audit, Difference, Kind};
 use aoe_base::{Mac, Ports, TargetId};
 use aoe_frame::Frame;
 use aoe_io::{MemSink, MemSource};
@@ -59,6 +59,16 @@ fn ends(
 fn a_file_and_others(rt: HostRuntime) -> Result<(), Fail> {
     let none: &[u8] = b"";
     let found = |number, kind| Err(AuditStop::Finding { number, kind });
+    let request = *b"\xff\xff\xff\xff\xff\xff\x02\0\0\0\0\x0a";
+    let ends_of = *b"\x02\0\0\0\0\x0a\x02\0\0\0\0\x01";
+    let expected = *b"\0\x01\0\x01\0\0\0\x07\0\x10\0\x01\x02\x10\0\0";
+    let differs = Difference {
+        at: 24,
+        expected_len: 60,
+        found_len: 60,
+        expected,
+        found: *b"\0\x01\0\x01\0\0\0\x07\x01\x10\0\x01\x02\x10\0\0",
+    };
     // Which byte is changed, to what, how long the file is, the end, and the line. The reply's first
     // argument stands at 112, and the length of its record at 80.
     let cases = [
@@ -68,11 +78,23 @@ fn a_file_and_others(rt: HostRuntime) -> Result<(), Fail> {
             0xd4,
             24,
             Ok(()),
-            b"ok records 0 requests 0 replies 0 faults 0\n".as_slice(),
+            b"ok records 0 requests 0 replies 0 faults 0\nno reply was judged\n".as_slice(),
         ),
-        (112, 1, 148, found(2, Kind::Reply), none),
-        (0, 0xd4, 72, found(1, Kind::Missing), none),
-        (80, 59, 147, found(2, Kind::Short), none),
+        (
+            112,
+            1,
+            148,
+            found(
+                2,
+                Kind::Reply {
+                    ends: ends_of,
+                    differs: Some(differs),
+                },
+            ),
+            none,
+        ),
+        (0, 0xd4, 72, found(1, Kind::Missing { ends: request }), none),
+        (80, 59, 147, found(2, Kind::Short { ends: ends_of }), none),
         (0, 0xd4, 10, Err(AuditStop::BadHeader), none),
         (20, 105, 148, Err(AuditStop::BadHeader), none),
         (0, 0xd4, 147, Err(AuditStop::BadRecord { number: 2 }), none),
@@ -104,6 +126,8 @@ fn a_capture_passes(rt: HostRuntime) -> Result<(), Fail> {
 #[test]
 fn says_why_a_file_does_not_pass(rt: HostRuntime) -> Result<(), Fail> {
     let found = |number, kind| AuditStop::Finding { number, kind };
+    let ends = [0; 12];
+    let differs = None;
     let texts = [
         (AuditStop::SourceFault, "source fault"),
         (AuditStop::SinkFault, "sink fault"),
@@ -112,9 +136,9 @@ fn says_why_a_file_does_not_pass(rt: HostRuntime) -> Result<(), Fail> {
         (AuditStop::BadRecord { number: 5 }, "bad record 5"),
         (AuditStop::Records, "too many records"),
         (AuditStop::CaptureBytes, "too many captured bytes"),
-        (found(4, Kind::Reply), "record 4: Reply"),
-        (found(3, Kind::Missing), "record 3: Missing"),
-        (found(2, Kind::Short), "record 2: Short"),
+        (found(4, Kind::Reply { ends, differs }), "record 4: Reply"),
+        (found(3, Kind::Missing { ends }), "record 3: Missing"),
+        (found(2, Kind::Short { ends }), "record 2: Short"),
     ];
     for (stop, wanted) in &texts {
         let text = format!(in rt.alloc(); "{stop}")?;

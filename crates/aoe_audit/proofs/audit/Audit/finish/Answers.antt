@@ -13,5 +13,5 @@ returns-in-Nothing-clause-yes c = λ lists c' heard.
 
 pub returns-in-Missing-clause-cause : goal.returns-in-Missing-clause-cause
 returns-in-Missing-clause-cause c = λ lists c' heard.
-    subst (λ (s : Station). IsMissing s lists c' c.in-Missing.number × (IsJudged s lists c' → ⊥)) c.requests.invariant.station
-    (c.end_next.ensures.missing lists c' c.in-Missing.number (c.requests.invariant.heard lists c' heard) c.in-Missing.is)
+    subst (λ (s : Station). IsMissing s lists c' c.in-Missing.number c.in-Missing.ends × (IsJudged s lists c' → ⊥)) c.requests.invariant.station
+    (c.end_next.ensures.missing lists c' c.in-Missing.number c.in-Missing.ends (c.requests.invariant.heard lists c' heard) c.in-Missing.is)

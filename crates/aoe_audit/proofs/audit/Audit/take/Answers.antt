@@ -36,7 +36,7 @@ returns-in-Reply-clause-heard c = λ lists c' heard.
     c.take_reply.ensures.heard lists c' p heard (sym (c.class_of.ensures c.args.number) ∙ c.in-Reply.is) refl
 
 pub returns-in-Short-clause-cause : goal.returns-in-Short-clause-cause
-returns-in-Short-clause-cause c = λ lists c' heard. (refl, sym (c.class_of.ensures c.args.number) ∙ c.in-Short.is)
+returns-in-Short-clause-cause c = λ lists c' heard. (refl, (sym (c.class_of.ensures c.args.number) ∙ c.in-Short.is, c.ends_of.ensures))
 
 pub returns-in-Request-clause-cause : goal.returns-in-Request-clause-cause
 returns-in-Request-clause-cause c = λ lists c' heard.

@@ -1,7 +1,8 @@
-use Rattle.std.proofs.Common.{◌∷◌, ◌∙◌, ap, subst, sym}
+use Rattle.std.proofs.Common.{◌∷◌, ◌∙◌, ap, subst, sym, List, ℕ}
 use Rattle.aoe_target.specs.declared.station.Station.{Station}
 use Rattle.aoe_audit.specs.Auditing.{asks_memory}
-use Rattle.aoe_audit.specs.Captured.{class_of}
+use Rattle.aoe_audit.specs.Captured.{class_of, ends_of}
+use Rattle.aoe_audit.specs.Differing.{Differs}
 use Rattle.aoe_audit.specs.Judged.{IsJudgedSoFar}
 use Rattle.aoe_audit.proofs.audit.Audit.take_reply.Goals as goal
 
@@ -22,9 +23,13 @@ returns-in-Ok-Wrong-clause-cause c = λ lists c' p heard is frame number. (
   (
     is,
     λ judged.
-        c.next.ensures.wrong lists c' p (c.requests.invariant.heard lists c' heard) (ap (λ (s : Station). class_of s p) c.requests.invariant.station ∙ is) frame
+        c.next.ensures.wrong lists c' p c.in-Ok-Wrong.differs (c.requests.invariant.heard lists c' heard) (ap (λ (s : Station). class_of s p) c.requests.invariant.station ∙ is) frame
         (cc)
         (subst (λ (s : Station). IsJudgedSoFar s lists (p ∷ c')) (sym c.requests.invariant.station) judged),
+    c.ends_of-ends.ensures ∙ ap ends_of (sym frame),
+    subst (λ (f : List ℕ). Differs c.args.self.now.station lists c' f c.in-Ok-Wrong.differs) (sym frame)
+        (subst (λ (s : Station). Differs s lists c' c.args.frame.now c.in-Ok-Wrong.differs) c.requests.invariant.station
+        (c.next.ensures.differs lists c' c.in-Ok-Wrong.differs (c.requests.invariant.heard lists c' heard) (cc))),
   ),
 )
 

@@ -1,17 +1,19 @@
 use Rattle.std.proofs.Common.{◌≡◌, ℕ, true, slice_get, ◌<◌, List, ◌∷◌, None, cond, length, sym, ap, subst, ◌∙◌, arith}
-use Rattle.aoe_base.specs.Addresses.{is_individual}
-use Rattle.aoe_vlan.specs.Tag.{destination_of}
-use Rattle.std.specs.Prelude.{All, IsSome}
+use Rattle.std.specs.List.{list_any}
+use Rattle.aoe_base.specs.Addresses.{is_individual, source_of}
+use Rattle.aoe_vlan.specs.Tag.{carries, destination_of}
+use Rattle.std.specs.Prelude.{All}
 use Rattle.aoe_vlan.specs.Switched.{Passing, carries_at, going, vlan_at}
-use Rattle.aoe_vlan.specs.Tables.{HasLearnt, Knowing, Table, found_in, stations_of}
-use Rattle.aoe_vlan.proofs.TakeLemmas.{any-there, some-kept, takes-going, takes-some, vlan-frame, vlan-there}
+use Rattle.aoe_vlan.specs.Tables.{HasLearnt, Knowing, Table, found_in, tables_of}
+use Rattle.aoe_vlan.proofs.TakeLemmas.{any-there, takes-going, takes-some, vlan-frame, vlan-there}
+use Rattle.aoe_vlan.proofs.TableLemmas.{one-learnt, one-there}
 use Rattle.aoe_vlan.proofs.LawLemmas.{going-carried}
 use Rattle.aoe_vlan.proofs.switch.Switch.take.Goals as goal
 
 pub learn-place-requires-clause-table : goal.learn-place-requires-clause-table
 learn-place-requires-clause-table c =
     let lt : c.args.port < length c.self.inside.ports.items = omega (arith, c.requires, ap (λ (k : Knowing). length k.ports) c.self.view_is) in
-    c.self.invariant.2 c.in-Some.vid
+    one-there c.in-Some.vid (λ vid. list_any (carries vid) c.self.inside.ports.items) c.self.inside.tables.items c.self.invariant.2
     (any-there c.self.inside.ports.items c.args.port c.index.result.now c.args.frame.now c.in-Some.vid lt c.index.ensures
     (sym c.vlan_of.ensures ∙ c.in-Some.is))
 
@@ -26,8 +28,8 @@ invariant_of-self c =
     let after = takes-some s.ports.items s.tables.items before.0 i before.1 c.in-Some.vid there in (
       c.self.invariant.0,
       c.self.invariant.1,
-      λ w any. subst (λ (l : List Table). IsSome (stations_of w l)) (sym c.learn-place.ensures.tables)
-          (some-kept c.in-Some.vid w _ c.args.port s.tables.items (c.self.invariant.2 w any)),
+      λ w. ap (λ (l : List Table). tables_of w l) c.learn-place.ensures.tables
+          ∙ one-learnt w c.in-Some.vid (source_of c.args.frame.now) c.args.port s.tables.items ∙ c.self.invariant.2 w,
       (
         i ∷ before.0,
         subst (λ (l : List Table). HasLearnt record { ports = s.ports.items; tables = l } (i ∷ before.0))
@@ -51,7 +53,8 @@ returns-clause-ports c = λ inputs learnt.
     let kind = c.index.result.now in
     let is = sym c.vlan_of.ensures ∙ c.in-Some.is in
     let there = vlan-there s.ports.items c.args.port kind c.args.frame.now c.in-Some.vid lt c.index.ensures is in
-    let table = c.self.invariant.2 c.in-Some.vid (any-there s.ports.items c.args.port kind c.args.frame.now c.in-Some.vid lt c.index.ensures is) in
+    let table = one-there c.in-Some.vid (λ vid. list_any (carries vid) s.ports.items) s.tables.items c.self.invariant.2
+    (any-there s.ports.items c.args.port kind c.args.frame.now c.in-Some.vid lt c.index.ensures is) in
     let before = subst (λ (k : Knowing). HasLearnt k inputs) (sym c.self.view_is) learnt in
     let place = ap (λ l. cond (is_individual (destination_of i.frame)) (found_in c.in-Some.vid l (destination_of i.frame)) None) c.learn-place.ensures.tables in
     c.toward.ensures ∙ takes-going s.ports.items s.tables.items inputs i before c.in-Some.vid there c.learn-place.result table
@@ -79,7 +82,8 @@ returns-clause-members c =
     let kind = c.index.result.now in
     let is = sym c.vlan_of.ensures ∙ c.in-Some.is in
     let there = vlan-there s.ports.items c.args.port kind c.args.frame.now c.in-Some.vid lt c.index.ensures is in
-    let table = c.self.invariant.2 c.in-Some.vid (any-there s.ports.items c.args.port kind c.args.frame.now c.in-Some.vid lt c.index.ensures is) in
+    let table = one-there c.in-Some.vid (λ vid. list_any (carries vid) s.ports.items) s.tables.items c.self.invariant.2
+    (any-there s.ports.items c.args.port kind c.args.frame.now c.in-Some.vid lt c.index.ensures is) in
     let before = c.self.invariant.3 in
     let place = ap (λ l. cond (is_individual (destination_of i.frame)) (found_in c.in-Some.vid l (destination_of i.frame)) None) c.learn-place.ensures.tables in
     let to : c.toward.result.items ≡ going s.ports.items before.0 i =
