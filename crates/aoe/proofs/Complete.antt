@@ -16,18 +16,18 @@ use Rattle.aoe_serve.specs.declared.over_stream.AnswerEnd.{AnswerEnd}
 use Rattle.aoe_serve.specs.declared.over_stream.AnswerEnd.TheVariants as answer
 use Rattle.aoe_serve.specs.declared.over_link.ServeEnd.TheVariants as serve
 use Rattle.aoe_serve.specs.Exporting.{AtFirst, HasRun, Outside, Tells}
+use Rattle.aoe_serve.specs.declared.over_files.ExportOptions.{ExportOptions}
 use Rattle.aoe_serve.specs.declared.over_stream.Format.{Format}
 use Rattle.aoe_serve.specs.declared.plan.Plan.TheVariants as plan
 use Rattle.aoe_serve.specs.declared.plan.RunEnd.{RunEnd}
 use Rattle.aoe_serve.specs.declared.plan.RunEnd.TheVariants as end
 use Rattle.aoe_args.specs.declared.command.Answer.{Answer as Answers}
 use Rattle.aoe_args.specs.declared.command.Serve.{Serve as Serves}
-use Rattle.aoe_args.specs.declared.command.Command.TheVariants.{Answer, Serve}
 use Rattle.aoe_world.specs.Replay.{IsFaultless}
 use Rattle.aoe_world.proofs.RunLemmas.{no_fault}
-use Rattle.aoe.specs.Commands.{format_of, limit}
-use Rattle.aoe.specs.Ending.{after_syncs, ended_by}
-use Rattle.aoe.specs.Run.{OnSlot, Ran}
+use Rattle.aoe.specs.Commands.{answer_plan, format_of, limit, serve_plan}
+use Rattle.aoe.specs.Ending.{after_syncs, ended_by, refused_slot}
+use Rattle.aoe.specs.Run.{AreFilesFaultless, RanFiles}
 use Rattle.aoe.specs.declared.status.Status.{Status}
 use Rattle.aoe.specs.declared.status.Status.TheVariants as status
 use Rattle.aoe.proofs.Exits.{all-synced}
@@ -114,7 +114,7 @@ all-synced-same status.NotMark None e = refl
 all-synced-same (status.Differ sectors) None e = refl
 
 module _ {D S K L : Type 0} (state : D → DiskState) (t : Tells S K L) (s : Status) (a b : Outside S K L) (disks disks' : List (Option D))
-    (fine : (slot : ℕ) → OnSlot (λ file file' _ _. IsFaultless (state file).faults (state file').faults) slot disks disks') where
+    (fine : AreFilesFaultless state disks disks') where
   answers-by : (format : Format) (e : RunEnd) (old new : List Slot) (fs : List (List ℕ)) → HasRun t (plan.Answer format) e a b old new → s ≡ ended_by e
       → t.left a.source ≡ Some (stream fs) → All IsFrame fs → length fs < 4294967295
       → s ≢ status.SourceFault → s ≢ status.SinkFault → s ≡ status.Ok
@@ -124,7 +124,7 @@ module _ {D S K L : Type 0} (state : D → DiskState) (t : Tells S K L) (s : Sta
       is ∙ answered-whole format e (t.left b.source) (t.held a.sink) (t.held b.sink) old new fs (subst P left_is ran.answered) all few (λ x. source (is ∙ x))
       (λ x. sink (is ∙ x))
 
-  pub answers : (asked : Answers) (fs : List (List ℕ)) → Ran state (Answer asked) t s a b disks disks' → t.left a.source ≡ Some (stream fs) → All IsFrame fs
+  pub answers : (asked : Answers) (fs : List (List ℕ)) → RanFiles state (answer_plan asked).0 (answer_plan asked).1 t s a b disks disks' → t.left a.source ≡ Some (stream fs) → All IsFrame fs
       → length fs < 4294967295
       → s ≢ status.SourceFault → s ≢ status.SinkFault → s ≡ status.Ok
   answers asked fs r left_is all few source sink =
@@ -138,18 +138,30 @@ module _ {D S K L : Type 0} (state : D → DiskState) (t : Tells S K L) (s : Sta
   serves-by (end.Served serve.Ended) limit idle old new ran is link = is
   serves-by (end.Served serve.LinkFault) limit idle old new ran is link = absurd (link is)
 
-  pub serves : (asked : Serves) → Ran state (Serve asked) t s a b disks disks' → s ≢ status.LinkFault 0 → s ≡ status.Ok
+  pub serves : (asked : Serves) → RanFiles state (serve_plan asked).0 (serve_plan asked).1 t s a b disks disks' → s ≢ status.LinkFault 0 → s ≡ status.Ok
   serves asked r link =
       let synced = all-synced state _ _ _ t (plan.Serve (limit asked.frames) (limit asked.idle)) r.exported a b disks disks' r.run fine in
       serves-by r.exported.end (limit asked.frames) (limit asked.idle) r.run.first r.run.run.middle r.run.run.ran
       (r.ends ∙ all-synced-same (ended_by r.exported.end) r.exported.unsynced synced) link
 
--- a link that didn't fail isn't told as one that did
-pub link-fine : {L : Type 0} (faults : L → ℕ) (links links' : List L) → AtFirst (λ a b. IsFaultless (faults a) (faults b)) links links'
-    → AtFirst (λ a b. Rose (faults a) (faults b)) links links' → 0 < length links → ⊥
-link-fine faults [] links' fine rose some = omega (arith, some)
-link-fine faults (l ∷ links) [] fine rose some = fine
-link-fine faults (l ∷ links) (l' ∷ links') fine rose some = no_fault (faults l) (faults l') fine.0 rose.0
+-- a run over streams tells of no link
+answered-unlinked : {S K L : Type 0} (t : Tells S K L) (format : Format) (e : RunEnd) (a b : Outside S K L) (old new : List Slot) (unsynced : Option ℕ)
+    → HasRun t (plan.Answer format) e a b old new → (link : ℕ) → after_syncs (ended_by e) unsynced ≢ status.LinkFault link
+answered-unlinked t format (end.Served e) a b old new unsynced ran link told = absurd ran
+answered-unlinked t format (end.Answered answer.Ended) a b old new None ran link told = cc
+answered-unlinked t format (end.Answered answer.Ended) a b old new (Some slot) ran link told = cc
+answered-unlinked t format (end.Answered answer.SourceFault) a b old new unsynced ran link told = cc
+answered-unlinked t format (end.Answered answer.SinkFault) a b old new unsynced ran link told = cc
+answered-unlinked t format (end.Answered (answer.Stream at)) a b old new unsynced ran link told = cc
+answered-unlinked t format (end.Answered answer.Limit) a b old new unsynced ran link told = cc
+
+pub unlinked : {D S K L : Type 0} (state : D → DiskState) (options : ExportOptions) (format : Format) (t : Tells S K L) (s : Status) (a b : Outside S K L)
+    (disks disks' : List (Option D))
+    → (refused_slot s ≡ None → s ≢ status.NoMemory → RanFiles state options (plan.Answer format) t s a b disks disks')
+    → (link : ℕ) → s ≢ status.LinkFault link
+unlinked state options format t s a b disks disks' run link told =
+    let r = run (ap refused_slot told) (λ f. cc) in
+    answered-unlinked t format r.exported.end a b r.run.first r.run.run.middle r.exported.unsynced r.run.run.ran link (sym r.ends ∙ told)
 
 -- a fault is told just where it ended the frames, whatever the last syncs did
 module _ {s : Status} (x : RunEnd) (unsynced : Option ℕ) (is : s ≡ after_syncs (ended_by x) unsynced) where

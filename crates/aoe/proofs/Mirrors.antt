@@ -1,7 +1,7 @@
 -- A run over a mirror, by its status.
 use Rattle.std.proofs.Common.{◌≡◌, ◌≢◌, ◌≤◌, ◌<◌, ◌⊎◌, ℕ, zero, suc, Bool, true, false, List, length, Option, Some, None, IfSome, Result, Ok, Err, refl, sym, ap, subst, ◌∙◌, inl, inr, arith, eq-eqb, ne_eqb}
 use Rattle.std.proofs.lemmas.Bool.{OnTrue_at, cases_eq}
-use Rattle.std.specs.Prelude.{◌↔◌, All, IfErr, IfOk, IsSome, OnErr}
+use Rattle.std.specs.Prelude.{◌↔◌, All, IfErr, IfOk, IsSome, OnErr, if◌then◌else◌}
 use Rattle.aoe_base.specs.Faults.{Rose}
 use Rattle.aoe_disk.specs.State.{DiskState}
 use Rattle.aoe_keep.specs.declared.refusal.MountRefusal.{MountRefusal}
@@ -19,17 +19,17 @@ use Rattle.aoe_serve.specs.declared.over_mirror.MirrorEnd.{MirrorEnd}
 use Rattle.aoe_serve.specs.declared.over_mirror.MirrorStop.{MirrorStop}
 use Rattle.aoe_serve.specs.declared.over_mirror.MirrorStop.TheVariants as stop
 use Rattle.aoe_serve.specs.declared.over_stream.AnswerEnd.TheVariants as answer
+use Rattle.aoe_serve.specs.declared.over_stream.Format.TheVariants as format
 use Rattle.aoe_serve.specs.declared.plan.Plan.{Plan}
 use Rattle.aoe_serve.specs.declared.plan.Plan.TheVariants as plan
 use Rattle.aoe_serve.specs.declared.plan.RunEnd.{RunEnd}
 use Rattle.aoe_serve.specs.declared.plan.RunEnd.TheVariants.{Answered, Served}
 use Rattle.aoe_target.specs.declared.station.Station.{Station}
-use Rattle.aoe_args.specs.declared.command.Command.{Command}
-use Rattle.aoe_args.specs.declared.command.Command.TheVariants as command
 use Rattle.aoe_args.specs.declared.command.Mirror.{Mirror}
-use Rattle.aoe.specs.Commands.{has_sides, mirror_options, mirror_plan, target_of}
+use Rattle.aoe.specs.Commands.{limit, mirror_options, mirror_plan, target_of}
 use Rattle.aoe.specs.Ending.{after_sync, ended_by, kept_out, left_stale, mirrored_as, stopped_by}
 use Rattle.aoe.specs.Mirror.{ComesToSides, HasSides, LeavesOthers, LeavesStale, RunsMirror, faults_at, four_of, is_kept_out, is_mirror_status}
+use Rattle.aoe.specs.Traits.{Spares, link_of, streams_of}
 use Rattle.aoe.specs.declared.status.Status.{Status}
 use Rattle.aoe.specs.declared.status.Status.TheVariants as status
 
@@ -172,14 +172,14 @@ ended-status t (plan.Serve frames idle) a b (Served serve.Ended) None old new ra
 ended-status t (plan.Serve frames idle) a b (Served serve.Ended) (Some k) old new ran = refl
 ended-status t (plan.Serve frames idle) a b (Served serve.LinkFault) unsynced old new ran = refl
 
-ran-others : {S K L : Type 0} (t : Tells S K L) (p : Plan) (a b : Outside S K L) (end : RunEnd) (old new : List Slot) → HasRun t p end a b old new
+pub ran-others : {S K L : Type 0} (t : Tells S K L) (p : Plan) (a b : Outside S K L) (end : RunEnd) (old new : List Slot) → HasRun t p end a b old new
     → LeavesOthers p a b
 ran-others t (plan.Answer f) a b (Answered x) old new ran = ran.links
 ran-others t (plan.Answer f) a b (Served x) old new ran = absurd ran
 ran-others t (plan.Serve frames idle) a b (Answered x) old new ran = absurd ran
 ran-others t (plan.Serve frames idle) a b (Served x) old new ran = (ran.source, ran.sink)
 
-same-others : {S K L : Type 0} (p : Plan) (a b : Outside S K L) → b.source ≡ a.source → b.sink ≡ a.sink → b.links ≡ a.links → LeavesOthers p a b
+pub same-others : {S K L : Type 0} (p : Plan) (a b : Outside S K L) → b.source ≡ a.source → b.sink ≡ a.sink → b.links ≡ a.links → LeavesOthers p a b
 same-others (plan.Answer f) a b source sink links = links
 same-others (plan.Serve frames idle) a b source sink links = (source, sink)
 
@@ -478,24 +478,19 @@ runs-mirror state asked t a b r given back disks disks' were are ran stopped sta
       stale = stale state name t (mirror_plan asked) a b given back r law;
     }
 
--- A command with sides is a mirror or compares them.
-
-pub of-sides : {P : Type 0} (c : Command) → has_sides c ≡ true → ((asked : Mirror) → c ≡ command.Mirror asked → P) → (c ≡ command.Compare → P) → P
-of-sides (command.Answer x) e p q = absurd cc
-of-sides (command.Serve x) e p q = absurd cc
-of-sides (command.Mirror asked) e p q = p asked refl
-of-sides command.Replay e p q = absurd cc
-of-sides (command.Soak x) e p q = absurd cc
-of-sides (command.Ask x) e p q = absurd cc
-of-sides (command.Get x) e p q = absurd cc
-of-sides (command.Put x) e p q = absurd cc
-of-sides (command.Nbd x) e p q = absurd cc
-of-sides (command.Live x) e p q = absurd cc
-of-sides (command.Switch x) e p q = absurd cc
-of-sides (command.Keep x) e p q = absurd cc
-of-sides (command.Audit x) e p q = absurd cc
-of-sides command.Compare e p q = q refl
-
 pub within-four : {D S K L : Type 0} (state : D → DiskState) (asked : Mirror) (t : Tells S K L) (s : Status) (a b : Outside S K L)
     (disks disks' : List (Option D)) → RunsMirror state asked t s a b disks disks' → (disk : ℕ) → s ≡ status.DiskFault disk → disk < length disks
 within-four state asked t s a b disks disks' r disk e = let few = (r.blames disk e).0 in omega (arith, few, ap length r.were)
+
+-- What it touches.
+
+module _ {S K L : Type 0} (s : Status) (idle : ℕ) (a b : Outside S K L)
+    (memory : s ≡ status.NoMemory → (b.source ≡ a.source) × (b.sink ≡ a.sink) × (b.links ≡ a.links)) where
+  pub leaves-by : (w : Bool) → LeavesOthers (if w then plan.Serve (limit None) idle else plan.Answer format.Replies) a b
+      → Spares (streams_of w) s a.source b.source × Spares (streams_of w) s a.sink b.sink × Spares (link_of w) s a.links b.links
+  leaves-by true others = (others.0, others.1, λ e. (memory e).2)
+  leaves-by false others = (λ e. (memory e).0, λ e. (memory e).1, others)
+
+pub mirror-links : (n : ℕ) (w : Bool) → n ≡ (if w then 1 else 0) → n ≤ 1
+mirror-links n true e = omega (arith, e)
+mirror-links n false e = omega (arith, e)

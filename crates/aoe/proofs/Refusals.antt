@@ -19,20 +19,9 @@ use Rattle.aoe_serve.specs.declared.plan.RunEnd.{RunEnd}
 use Rattle.aoe_serve.specs.declared.plan.RunEnd.TheVariants.{Answered, Served}
 use Rattle.aoe_serve.specs.declared.over_stream.AnswerEnd.TheVariants as answer
 use Rattle.aoe_serve.specs.declared.over_link.ServeEnd.TheVariants as serve
-use Rattle.aoe_world.specs.declared.end.ReplayEnd.{ReplayEnd}
-use Rattle.aoe_world.specs.declared.end.ReplayEnd.TheVariants as replay
-use Rattle.aoe_vlan.specs.declared.over_stream.SwitchEnd.{SwitchEnd}
-use Rattle.aoe_vlan.specs.declared.over_stream.SwitchEnd.TheVariants as switch
-use Rattle.aoe_args.specs.Words.{file_count}
-use Rattle.aoe_args.specs.declared.command.Command.{Command}
-use Rattle.aoe_args.specs.declared.command.Command.TheVariants as command
 use Rattle.aoe_world.specs.Replay.{IsFaultless}
-use Rattle.aoe.specs.Commands.{exports, has_sides}
-use Rattle.aoe.specs.Ending.{after_syncs, ended_by, file_at, keep_at, refused_as, refused_slot, replayed_as, slot_of_keep, switched_as}
-use Rattle.aoe.specs.Run.{HasLists, IsBad, IsSmall, NothingLoose, OnSlot, Ran, RanFiles, Refused, refused_before}
-use Rattle.aoe.specs.Live.{is_live_status}
-use Rattle.aoe.specs.Serving.{is_served_status}
-use Rattle.aoe.specs.Tools.{is_copy_status, is_tool_status}
+use Rattle.aoe.specs.Ending.{after_syncs, ended_by, file_at, keep_at, refused_as, refused_slot, slot_of_keep}
+use Rattle.aoe.specs.Run.{HasLists, IsBad, IsSmall, NothingLoose, OnSlot, RanFiles, Refused, RunsFiles, refused_before}
 use Rattle.aoe.specs.declared.status.Status.{Status}
 use Rattle.aoe.specs.declared.status.Status.TheVariants as status
 use Rattle.aoe.proofs.Exits.{Stands, all-settled, stands, unsynced-rose, unsynced-within}
@@ -79,19 +68,6 @@ module _ (refused : Option ℕ) (none : refused ≡ None) where
 
   pub not-some : IsSome refused → ⊥
   not-some some = let e : IsSome {T = ℕ} None = subst IsSome none some in cc
-
--- no tool and no run over two links is told as a refusal
-pub copy-not-refused : (s : Status) → is_copy_status s ≡ true → refused_slot s ≡ None
-copy-not-refused s e = grind (arith, e)
-
-pub tool-not-refused : (s : Status) → is_tool_status s ≡ true → refused_slot s ≡ None
-tool-not-refused s e = grind (arith, e)
-
-pub served-not-refused : (s : Status) → is_served_status s ≡ true → refused_slot s ≡ None
-served-not-refused s e = grind (arith, e)
-
-pub live-not-refused : (s : Status) → is_live_status s ≡ true → refused_slot s ≡ None
-live-not-refused s e = grind (arith, e)
 
 -- What became of a keep.
 
@@ -344,75 +320,24 @@ memory-wanting (status.Stale file sectors) e = absurd cc
 memory-wanting status.NotMark e = absurd cc
 memory-wanting (status.Differ sectors) e = absurd cc
 
--- A run of a command.
+-- A run over files.
 
--- no replay is told as a fault of a disk
-no-disk : (end : ReplayEnd) (disk : ℕ) → replayed_as end ≢ status.DiskFault disk
-no-disk replay.Ended disk e = cc
-no-disk replay.SourceFault disk e = cc
-no-disk replay.SinkFault disk e = cc
-no-disk replay.NoMemory disk e = cc
-no-disk (replay.Script line why) disk e = cc
-no-disk (replay.Limit excess) disk e = cc
-
--- nor is a run of a switch
-no-disk-switched : (end : SwitchEnd) (disk : ℕ) → switched_as end ≢ status.DiskFault disk
-no-disk-switched switch.Ended disk e = cc
-no-disk-switched switch.SourceFault disk e = cc
-no-disk-switched switch.SinkFault disk e = cc
-no-disk-switched (switch.Stream offset) disk e = cc
-no-disk-switched switch.Limit disk e = cc
-
--- over files, without any, or over a keep alone
-data Runs {D S K L : Type 0} (state : D → DiskState) (t : Tells S K L) (s : Status) (a b : Outside S K L) (disks disks' : List (Option D)) : Type 0 where
-  over_files : (options : ExportOptions) (p : Plan) → RanFiles state options p t s a b disks disks' → Runs state t s a b disks disks'
-  over_none : length disks ≡ 0 → ((disk : ℕ) → s ≢ status.DiskFault disk) → Runs state t s a b disks disks'
-  over_one : length disks ≡ 1 → ((disk : ℕ) → s ≡ status.DiskFault disk → disk ≡ 0) → Runs state t s a b disks disks'
-
-runs-of : {D S K L : Type 0} (state : D → DiskState) (command : Command) (t : Tells S K L) (s : Status) (a b : Outside S K L) (disks disks' : List (Option D))
-    → has_sides command ≡ false → length disks ≡ file_count command
-    → Ran state command t s a b disks disks' → Runs state t s a b disks disks'
-runs-of state (command.Answer answer) t s a b disks disks' other count run = over_files _ _ run
-runs-of state (command.Serve serve) t s a b disks disks' other count run = over_files _ _ run
-runs-of state (command.Mirror asked) t s a b disks disks' other count run = absurd cc
-runs-of state command.Compare t s a b disks disks' other count run = absurd cc
-runs-of state command.Replay t s a b disks disks' other count run = over_none count (λ disk e. no-disk run.0.end disk (sym run.0.ends ∙ e))
-runs-of state (command.Soak asked) t s a b disks disks' other count run = over_none count (λ disk e. no-disk run.0.end disk (sym run.0.ends ∙ e))
-runs-of state (command.Ask tool) t s a b disks disks' other count run = over_none count (λ disk e. let f = sym (ap is_tool_status e) ∙ run.0 in absurd cc)
-runs-of state (command.Get asked) t s a b disks disks' other count run = over_none count (λ disk e. let f = sym (ap is_copy_status e) ∙ run.0 in absurd cc)
-runs-of state (command.Put asked) t s a b disks disks' other count run = over_none count (λ disk e. let f = sym (ap is_copy_status e) ∙ run.0 in absurd cc)
-runs-of state (command.Nbd asked) t s a b disks disks' other count run = over_none count (λ disk e. let f = sym (ap is_served_status e) ∙ run.0 in absurd cc)
-runs-of state (command.Live asked) t s a b disks disks' other count run = over_none count (λ disk e. let f = sym (ap is_live_status e) ∙ run.0 in absurd cc)
-runs-of state (command.Switch asked) t s a b disks disks' other count run = over_none count (λ disk e. no-disk-switched run.0.end disk (sym run.0.ends ∙ e))
-runs-of state (command.Keep action) t s a b disks disks' other count run = over_one count (λ disk e. (run.0.blames disk e).0)
-runs-of state (command.Audit asked) t s a b disks disks' other count run = over_one count (λ disk e. (run.0.judges.blames disk e).0)
-
-module _ {D S K L : Type 0} (state : D → DiskState) (command : Command) (t : Tells S K L) (s : Status) (a b : Outside S K L) (disks disks' : List (Option D))
-    (run : refused_slot s ≡ None → s ≢ status.NoMemory → Ran state command t s a b disks disks')
-    (refused_if : has_sides command ≡ false → (slot : ℕ) → refused_slot s ≡ Some slot → Refused state s slot disks disks')
-    (count : length disks ≡ file_count command) (other : has_sides command ≡ false) where
-  refused : (slot : ℕ) → refused_slot s ≡ Some slot → Refused state s slot disks disks'
-  refused = refused_if other
-
-  runs : refused_slot s ≡ None → s ≢ status.NoMemory → Runs state t s a b disks disks'
-  runs unrefused some_memory = runs-of state command t s a b disks disks' other count (run unrefused some_memory)
-
+module _ {D S K L : Type 0} (state : D → DiskState) (options : ExportOptions) (p : Plan) (t : Tells S K L) (s : Status) (a b : Outside S K L)
+    (disks disks' : List (Option D))
+    (run : refused_slot s ≡ None → s ≢ status.NoMemory → RanFiles state options p t s a b disks disks')
+    (refused : (slot : ℕ) → refused_slot s ≡ Some slot → Refused state s slot disks disks') where
   -- the keep of a slot in a run
   keep-is : (slot : ℕ) → OnSlot (λ _ _ keep keep'. KeepIs state s slot keep keep') slot disks disks'
   keep-is slot = by (refused_slot s) refl
     where
       ran : (o : Option ℕ) → o ≡ refused_slot s → o ≡ None → s ≢ status.NoMemory → OnSlot (λ _ _ keep keep'. KeepIs state s slot keep keep') slot disks disks'
-      ran o is none some_memory = over (runs (sym is ∙ none) some_memory)
-        where
-          over : Runs state t s a b disks disks' → OnSlot (λ _ _ keep keep'. KeepIs state s slot keep keep') slot disks disks'
-          over (over_none empty fine) = on-none (λ _ _ keep keep'. KeepIs state s slot keep keep') slot disks disks' empty
-          over (over_one one first) = on-few (λ _ _ keep keep'. KeepIs state s slot keep keep') slot disks disks' (omega (arith, one))
-          over (over_files options p r) =
-              let x = r.run in
-              on-map (Stands state x.first x.last slot) (λ _ _ keep keep'. KeepIs state s slot keep keep') slot disks disks'
-              (λ file file' keep keep' stand. is_mounted stand.a.device.keep stand.a.device.lists stand.mounted
-              (λ k e. absurd (let f : (let y : Option ℕ = None in y) ≡ Some k = sym none ∙ is ∙ e in cc)))
-              (stands state _ _ _ t _ r.exported a b disks disks' x slot)
+      ran o is none some_memory =
+          let r = run (sym is ∙ none) some_memory in
+          let x = r.run in
+          on-map (Stands state x.first x.last slot) (λ _ _ keep keep'. KeepIs state s slot keep keep') slot disks disks'
+          (λ file file' keep keep' stand. is_mounted stand.a.device.keep stand.a.device.lists stand.mounted
+          (λ k e. absurd (let f : (let y : Option ℕ = None in y) ≡ Some k = sym none ∙ is ∙ e in cc)))
+          (stands state _ _ _ t _ r.exported a b disks disks' x slot)
 
       by : (o : Option ℕ) → refused_slot s ≡ o → OnSlot (λ _ _ keep keep'. KeepIs state s slot keep keep') slot disks disks'
       by None is = memory (is_no_memory s) refl
@@ -431,24 +356,24 @@ module _ {D S K L : Type 0} (state : D → DiskState) (command : Command) (t : T
           at n r is keep keep' (here same why) = is_refused r.refusal why (r.ends ∙ ap (λ (j : ℕ). refused_as j r.refusal) (sym same))
           at n r is keep keep' (behind above) = is_behind n is above
 
-  pub keep-fault : (slot : ℕ) → s ≡ status.DiskFault (keep_at slot) → OnSlot (λ _ _ keep keep'. Rose (state keep).faults (state keep').faults) slot disks disks'
+  keep-fault : (slot : ℕ) → s ≡ status.DiskFault (keep_at slot) → OnSlot (λ _ _ keep keep'. Rose (state keep).faults (state keep').faults) slot disks disks'
   keep-fault slot e = on-map (λ _ _ keep keep'. KeepIs state s slot keep keep')
       (λ _ _ keep keep'. Rose (state keep).faults (state keep').faults) slot disks disks'
       (λ _ _ keep keep' is. fault-of state s slot keep keep' is e) (keep-is slot)
 
-  pub keep-small : (slot sectors : ℕ)
+  keep-small : (slot sectors : ℕ)
       → OnSlot (λ _ _ keep _. (s ≡ status.KeepSmall (keep_at slot) sectors) ↔ IsSmall (state keep) s slot sectors) slot disks disks'
   keep-small slot sectors = on-map (λ _ _ keep keep'. KeepIs state s slot keep keep')
       (λ _ _ keep _. (s ≡ status.KeepSmall (keep_at slot) sectors) ↔ IsSmall (state keep) s slot sectors) slot disks disks'
       (λ _ _ keep keep' is. small-of state s slot keep keep' sectors is) (keep-is slot)
 
-  pub keep-bad : (slot bad : ℕ)
+  keep-bad : (slot bad : ℕ)
       → OnSlot (λ _ _ keep _. IfSome (state keep).contents (λ c. (s ≡ status.KeepBad (keep_at slot) bad) ↔ IsBad (state keep) c s slot bad)) slot disks disks'
   keep-bad slot bad = on-map (λ _ _ keep keep'. KeepIs state s slot keep keep')
       (λ _ _ keep _. IfSome (state keep).contents (λ c. (s ≡ status.KeepBad (keep_at slot) bad) ↔ IsBad (state keep) c s slot bad)) slot disks disks'
       (λ _ _ keep keep' is. bad-of state s slot keep keep' bad is) (keep-is slot)
 
-  pub mounted : (slot : ℕ) (lists : Settings)
+  mounted : (slot : ℕ) (lists : Settings)
       → OnSlot (λ _ _ keep keep'. HasLists (state keep) lists → IsFaultless (state keep).faults (state keep').faults → refused_slot s ≢ Some slot) slot disks
       disks'
   mounted slot lists = on-map (λ _ _ keep keep'. KeepIs state s slot keep keep')
@@ -464,54 +389,35 @@ module _ {D S K L : Type 0} (state : D → DiskState) (command : Command) (t : T
       refused-within n (refusal.TooSmall sectors) is within = absurd cc
       refused-within n (refusal.BadKeep k) is within = absurd cc
 
-      over : Runs state t s a b disks disks' → disk < length disks
-      over (over_none empty fine) = absurd (fine disk e)
-      over (over_one one first) = omega (arith, one, first disk e)
-      over (over_files options p r) =
+      over : RanFiles state options p t s a b disks disks' → disk < length disks
+      over r =
           let u = unsynced-disk r.exported.end r.exported.unsynced disk (sym e ∙ r.ends) in
           omega (arith, u.2, unsynced-within state _ _ _ t _ r.exported a b disks disks' r.run u.0 u.1)
 
       by : (o : Option ℕ) → refused_slot s ≡ o → disk < length disks
-      by None is = over (runs is (λ f. cc))
+      by None is = over (run is (λ f. cc))
       by (Some n) is = let r = refused n is in refused-within n r.refusal (sym e ∙ r.ends) (backed state n r.refusal disks disks' r.back).within
 
-  pub file-fault : (slot : ℕ) → s ≡ status.DiskFault (file_at slot) → OnSlot (λ file file' _ _. Rose (state file).faults (state file').faults) slot disks disks'
-  file-fault slot e = over (runs (ap refused_slot e ∙ file-slot slot) (λ f. cc))
-    where
-      over : Runs state t s a b disks disks' → OnSlot (λ file file' _ _. Rose (state file).faults (state file').faults) slot disks disks'
-      over (over_none empty fine) = absurd (fine (file_at slot) e)
-      over (over_one one first) = on-few (λ file file' _ _. Rose (state file).faults (state file').faults) slot disks disks' (omega (arith, one))
-      over (over_files options p r) = unsynced-rose state _ _ _ t _ r.exported a b disks disks' r.run slot
-          (unsynced-at r.exported.end r.exported.unsynced slot (sym e ∙ r.ends))
+  file-fault : (slot : ℕ) → s ≡ status.DiskFault (file_at slot) → OnSlot (λ file file' _ _. Rose (state file).faults (state file').faults) slot disks disks'
+  file-fault slot e =
+      let r = run (ap refused_slot e ∙ file-slot slot) (λ f. cc) in
+      unsynced-rose state _ _ _ t _ r.exported a b disks disks' r.run slot (unsynced-at r.exported.end r.exported.unsynced slot (sym e ∙ r.ends))
 
-  pub settled : (slot : ℕ) → s ≡ status.Ok → OnSlot (λ _ file' _ _. IfSome (state file').contents NothingLoose) slot disks disks'
-  settled slot e = over (runs (ap refused_slot e) (λ f. cc))
-    where
-      over : Runs state t s a b disks disks' → OnSlot (λ _ file' _ _. IfSome (state file').contents NothingLoose) slot disks disks'
-      over (over_none empty fine) = on-none (λ _ file' _ _. IfSome (state file').contents NothingLoose) slot disks disks' empty
-      over (over_one one first) = on-few (λ _ file' _ _. IfSome (state file').contents NothingLoose) slot disks disks' (omega (arith, one))
-      over (over_files options p r) = all-settled state _ _ _ t _ r.exported a b disks disks' r.run slot
-          (synced-at r.exported.end r.exported.unsynced (sym e ∙ r.ends))
+  settled : (slot : ℕ) → s ≡ status.Ok → OnSlot (λ _ file' _ _. IfSome (state file').contents NothingLoose) slot disks disks'
+  settled slot e =
+      let r = run (ap refused_slot e) (λ f. cc) in
+      all-settled state _ _ _ t _ r.exported a b disks disks' r.run slot (synced-at r.exported.end r.exported.unsynced (sym e ∙ r.ends))
 
--- Which command it was.
-
--- a command that exports pairs of files has no sides
-pub pairs-only : (command : Command) → exports command ≡ true → has_sides command ≡ false
-pairs-only (command.Answer asked) e = refl
-pairs-only (command.Serve asked) e = refl
-pairs-only (command.Mirror asked) e = absurd cc
-pairs-only command.Replay e = absurd cc
-pairs-only (command.Soak asked) e = absurd cc
-pairs-only (command.Ask tool) e = absurd cc
-pairs-only (command.Get asked) e = absurd cc
-pairs-only (command.Put asked) e = absurd cc
-pairs-only (command.Nbd asked) e = absurd cc
-pairs-only (command.Live asked) e = absurd cc
-pairs-only (command.Switch asked) e = absurd cc
-pairs-only (command.Keep action) e = absurd cc
-pairs-only (command.Audit asked) e = absurd cc
-pairs-only command.Compare e = absurd cc
-
-pub ran-as : {D S K L : Type 0} (state : D → DiskState) (t : Tells S K L) (s : Status) (a b : Outside S K L) (disks disks' : List (Option D))
-    (command asked : Command) → command ≡ asked → Ran state command t s a b disks disks' → Ran state asked t s a b disks disks'
-ran-as state t s a b disks disks' command asked is run = subst (λ (x : Command). Ran state x t s a b disks disks') is run
+  pub runs-files : (IsSome (refused_slot s) → (b.source ≡ a.source) × (b.sink ≡ a.sink) × (b.links ≡ a.links))
+      → RunsFiles state options p t s a b disks disks'
+  runs-files unread = record {
+    ran = run;
+    refused = refused;
+    unread = unread;
+    file_fault = file-fault;
+    keep_fault = keep-fault;
+    keep_small = keep-small;
+    keep_bad = keep-bad;
+    mounted = mounted;
+    settled = settled;
+  }

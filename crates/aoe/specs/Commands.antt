@@ -1,5 +1,5 @@
 -- What each command exports, and how its frames come.
-use Rattle.std.specs.Prelude.{ℕ, ◌||◌, Bool, true, false, [], ◌∷◌, Option, None, Some, if◌then◌else◌}
+use Rattle.std.specs.Prelude.{ℕ, Bool, false, [], ◌∷◌, Option, None, Some, if◌then◌else◌}
 use Rattle.aoe_target.specs.declared.station.Station.{Station}
 use Rattle.aoe_serve.specs.Files.{named}
 use Rattle.aoe_serve.specs.declared.over_files.ExportOptions.{ExportOptions}
@@ -7,8 +7,6 @@ use Rattle.aoe_serve.specs.declared.over_stream.Format.{Format}
 use Rattle.aoe_serve.specs.declared.over_stream.Format.TheVariants as format
 use Rattle.aoe_serve.specs.declared.plan.Plan.{Plan}
 use Rattle.aoe_serve.specs.declared.plan.Plan.TheVariants as plan
-use Rattle.aoe_args.specs.declared.command.Command.{Command}
-use Rattle.aoe_args.specs.declared.command.Command.TheVariants.{Answer, Ask, Audit, Compare, Get, Keep, Live, Mirror, Nbd, Put, Replay, Serve}
 use Rattle.aoe_args.specs.declared.command.Answer.{Answer as Answers}
 use Rattle.aoe_args.specs.declared.command.Mirror.{Mirror as Mirrors}
 use Rattle.aoe_args.specs.declared.command.Serve.{Serve as Serves}
@@ -38,62 +36,6 @@ mirror_options mirror = record { first = mirror.id; ports = record { items = mir
 -- and what is done with it: its frames come and go as streams, or by a link
 abbrev pub mirror_plan : Mirrors → Plan
 mirror_plan mirror = if mirror.is_served then plan.Serve (limit None) (limit mirror.idle) else plan.Answer format.Replies
-
--- it exports files as slots, a pair of disks each: a file and its keep
-abbrev pub exports : Command → Bool
-exports (Answer asked) = true
-exports (Serve asked) = true
-exports command = false
-
--- it exports two sides as one slot
-abbrev pub is_mirror : Command → Bool
-is_mirror (Mirror asked) = true
-is_mirror command = false
-
--- its first two disks are the sides of a mirror
-abbrev pub has_sides : Command → Bool
-has_sides (Mirror asked) = true
-has_sides Compare = true
-has_sides command = false
-
--- its one disk is the keep of a slot that no shelf serves
-abbrev pub is_over_keep : Command → Bool
-is_over_keep (Keep action) = true
-is_over_keep (Audit asked) = true
-is_over_keep command = false
-
--- it asks by the first link
-abbrev pub is_tool : Command → Bool
-is_tool (Ask tool) = true
-is_tool (Get asked) = true
-is_tool (Put asked) = true
-is_tool command = false
-
--- it serves a device to clients
-abbrev pub is_nbd : Command → Bool
-is_nbd (Nbd asked) = true
-is_nbd command = false
-
--- it runs over two links
-abbrev pub is_live : Command → Bool
-is_live (Live asked) = true
-is_live command = false
-
--- it writes out what it has before it has all
-abbrev pub is_get : Command → Bool
-is_get (Get asked) = true
-is_get command = false
-
--- it takes frames of links and the clock, and exports nothing
-abbrev pub uses_clock : Command → Bool
-uses_clock command = is_tool command || is_nbd command || is_live command
-
--- it reads the source and no stream of frames: a script, sectors, or a capture
-abbrev pub reads_input : Command → Bool
-reads_input Replay = true
-reads_input (Audit asked) = true
-reads_input (Put asked) = true
-reads_input command = false
 
 -- the target with this minor, over a disk of so many sectors
 abbrev pub target_of : ExportOptions → ℕ → ℕ → Station

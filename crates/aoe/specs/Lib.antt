@@ -9,3 +9,5 @@ pub mod Keeping
 pub mod Auditing
 pub mod Serving
 pub mod Comparing
+pub mod Objects
+pub mod Traits

@@ -1,7 +1,10 @@
 -- What a run takes, gives and leaves, by its status.
-use Rattle.std.specs.Prelude.{ℕ, ◌<◌, ◌≤◌, ◌≡◌, ◌≢◌, Bool, true, false, List, Option, Some, Ok, Err, nat_lt, slice_get}
+use Rattle.std.specs.Prelude.{ℕ, ◌+◌, ◌<◌, ◌≤◌, ◌≡◌, ◌≢◌, ◌↔◌, All, Bool, true, false, IfSome, IsSome, List, [], ◌∷◌, Option, None, Some, Ok, Err, length, nat_lt, slice_get}
 use Rattle.std.specs.Option.{option_map_or}
+use Rattle.aoe_base.specs.Faults.{Blamed, Rose}
+use Rattle.aoe_base.specs.Sizes.{most_streamed}
 use Rattle.aoe_disk.specs.State.{Contents, DiskState, is_loose}
+use Rattle.aoe_io.specs.Stream.{IsFrame, stream}
 use Rattle.aoe_keep.specs.Found.{found}
 use Rattle.aoe_keep.specs.declared.refusal.MountRefusal.{MountRefusal}
 use Rattle.aoe_lists.specs.Settings.{Settings}
@@ -11,28 +14,26 @@ use Rattle.aoe_serve.specs.Files.{GivesBack}
 use Rattle.aoe_serve.specs.declared.plan.Exported.{Exported}
 use Rattle.aoe_serve.specs.declared.over_files.ExportOptions.{ExportOptions}
 use Rattle.aoe_serve.specs.declared.plan.Plan.{Plan}
-use Rattle.aoe_world.specs.Replay.{HasRun, LeavesSink, Replayed, Sums}
-use Rattle.aoe_script.specs.Lines.{ScriptLines}
+use Rattle.aoe_world.specs.Replay.{HasRun, IsFaultless, LeavesSink, Replayed, Sums}
+use Rattle.aoe_script.specs.Lines.{ScriptLines, refusal as text_refusal, script_of}
 use Rattle.aoe_soak.specs.Soak.{soaked}
 use Rattle.aoe_world.specs.declared.end.ReplayEnd.{ReplayEnd}
+use Rattle.aoe_args.specs.declared.command.Answer.{Answer}
 use Rattle.aoe_args.specs.declared.command.Command.{Command}
 use Rattle.aoe_args.specs.declared.command.Command.TheVariants as command
-use Rattle.aoe_args.specs.declared.command.Get.{Get}
-use Rattle.aoe_args.specs.declared.command.Nbd.{Nbd}
-use Rattle.aoe_args.specs.declared.command.Put.{Put}
+use Rattle.aoe_args.specs.declared.command.Serve.{Serve}
 use Rattle.aoe_args.specs.declared.command.Soak.{Soak}
-use Rattle.aoe_args.specs.declared.command.Tool.{Tool}
-use Rattle.aoe_tools.specs.Runs.{Told}
 use Rattle.aoe.specs.Auditing.{RunsAudit}
-use Rattle.aoe.specs.Commands.{answer_plan, mirror_plan, serve_plan, target_of}
-use Rattle.aoe.specs.Comparing.{is_compare_status}
+use Rattle.aoe.specs.Commands.{answer_plan, serve_plan, target_of}
+use Rattle.aoe.specs.Comparing.{RunsCompare}
 use Rattle.aoe.specs.Ending.{file_at, keep_at, refused_as, refused_slot, replayed_as, status_of}
 use Rattle.aoe.specs.Keeping.{RunsKeep}
-use Rattle.aoe.specs.Live.{is_live_status}
-use Rattle.aoe.specs.Mirror.{LeavesOthers, is_mirror_status}
-use Rattle.aoe.specs.Serving.{is_served_status, DoorSeen, IsServedTo}
+use Rattle.aoe.specs.Live.{AtBoth, RunsLive, ends}
+use Rattle.aoe.specs.Mirror.{RunsMirror}
+use Rattle.aoe.specs.Objects.{Objects, Views, door_of, outside_of, tells_of, told_over}
+use Rattle.aoe.specs.Serving.{IsServedTo}
 use Rattle.aoe.specs.Switching.{Switches}
-use Rattle.aoe.specs.Tools.{CopiesIn, CopiesOut, RunsTool, is_copy_status, is_tool_status}
+use Rattle.aoe.specs.Tools.{CopiesIn, CopiesOut, RunsTool}
 use Rattle.aoe.specs.declared.status.Status.{Status}
 use Rattle.aoe.specs.declared.status.Status.TheVariants as status
 
@@ -56,44 +57,6 @@ pub record RanSoak {K : Type 0} (held : K → Option (List ℕ)) (asked : Soak) 
   pub run : Sums end (soaked asked.seed asked.count) (held sink) (held sink')
   pub leaves : LeavesSink end sink sink'
   pub ends : s ≡ replayed_as end
-
--- a run of a command: over files, of the script that the source gives, of the script of `soak`, of a tool, of a switch, on a keep alone, or
--- of an audit
-abbrev pub Ran : {D S K L : Type 0} → (D → DiskState) → Command → Tells S K L → Status → Outside S K L → Outside S K L → List (Option D) → List (Option D)
-    → Type 0
-Ran state (command.Answer answer) t s a b disks disks' = RanFiles state (answer_plan answer).0 (answer_plan answer).1 t s a b disks disks'
-Ran state (command.Serve serve) t s a b disks disks' = RanFiles state (serve_plan serve).0 (serve_plan serve).1 t s a b disks disks'
-Ran state (command.Mirror asked) t s a b disks disks' = (is_mirror_status asked.is_served s ≡ true) × LeavesOthers (mirror_plan asked) a b
-Ran state command.Compare t s a b disks disks' = (is_compare_status s ≡ true) × (b.source ≡ a.source) × (b.links ≡ a.links)
-Ran state command.Replay t s a b disks disks' = RanScript t.left t.held s a.source b.source a.sink b.sink × (b.links ≡ a.links) × (disks' ≡ disks)
-Ran state (command.Soak asked) t s a b disks disks' = RanSoak t.held asked s a.sink b.sink × (b.source ≡ a.source) × (b.links ≡ a.links) × (disks' ≡ disks)
-Ran state (command.Ask tool) t s a b disks disks' = (is_tool_status s ≡ true) × (b.source ≡ a.source) × (disks' ≡ disks)
-Ran state (command.Get asked) t s a b disks disks' = (is_copy_status s ≡ true) × (b.source ≡ a.source) × (disks' ≡ disks)
-Ran state (command.Put asked) t s a b disks disks' = (is_copy_status s ≡ true) × (b.sink ≡ a.sink) × (disks' ≡ disks)
-Ran state (command.Nbd asked) t s a b disks disks' = (is_served_status s ≡ true) × (b.source ≡ a.source) × (b.sink ≡ a.sink) × (disks' ≡ disks)
-Ran state (command.Live asked) t s a b disks disks' = (is_live_status s ≡ true) × (b.source ≡ a.source) × (disks' ≡ disks)
-Ran state (command.Switch asked) t s a b disks disks' =
-    Switches asked.ports.items s (t.left a.source) (t.left b.source) (t.held a.sink) (t.held b.sink) × (b.links ≡ a.links) × (disks' ≡ disks)
-Ran state (command.Keep action) t s a b disks disks' =
-    RunsKeep state action s (t.held a.sink) (t.held b.sink) disks disks' × (b.source ≡ a.source) × (b.links ≡ a.links)
-Ran state (command.Audit asked) t s a b disks disks' =
-    RunsAudit state asked s (t.left a.source) (t.left b.source) (t.held a.sink) (t.held b.sink) disks disks' × (b.links ≡ a.links)
-
--- a tool ran over the first link and a clock, and a sink took what it says
-abbrev pub Asked : {K L : Type 0} → (K → Option (List ℕ)) → (L → L → Told) → Tool → Status → K → K → List L → List L → Type 0
-Asked held told tool s sink sink' links links' = AtFirst (λ a b. RunsTool tool s (held sink) (held sink') (told a b)) links links'
-
--- `get` ran over the first link and a clock, and a sink took the sectors as they came
-abbrev pub IsGot : {K L : Type 0} → (K → Option (List ℕ)) → (L → L → Told) → Get → Status → K → K → List L → List L → Type 0
-IsGot held told asked s sink sink' links links' = AtFirst (λ a b. CopiesOut asked s (held sink) (held sink') (told a b)) links links'
-
--- `put` ran over a source, the first link and a clock
-abbrev pub IsPut : {S L : Type 0} → (S → Option (List ℕ)) → (L → L → Told) → Put → Status → S → S → List L → List L → Type 0
-IsPut left told asked s source source' links links' = AtFirst (λ a b. CopiesIn asked s (left source) (left source') (told a b)) links links'
-
--- `nbd` ran over the first link, a clock and a door
-abbrev pub IsExportedTo : {L D : Type 0} → (D → DoorSeen) → (L → L → Told) → Nbd → Status → D → D → List L → List L → Type 0
-IsExportedTo seen told asked s door door' links links' = AtFirst (λ a b. IsServedTo seen asked s door door' (told a b)) links links'
 
 -- the script was run to its end, or until there was no memory or no room for a frame that it calls for
 pub record HasReplayed (script : ScriptLines) (s : Status) : Type 0 where
@@ -136,3 +99,81 @@ pub record HasLists (keep : DiskState) (lists : Settings) : Type 0 where
   pub contents : Contents
   pub told : keep.contents ≡ Some contents
   pub stand : found contents.bytes ≡ Ok lists
+
+-- no file of a slot failed
+abbrev pub AreFilesFaultless : {D : Type 0} → (D → DiskState) → List (Option D) → List (Option D) → Type 0
+AreFilesFaultless state disks disks' = (slot : ℕ) → OnSlot (λ file file' _ _. IsFaultless (state file).faults (state file').faults) slot disks disks'
+
+-- A run of a command that exports files as slots, a pair of disks each: a file and its keep. All keeps were mounted and the slots run, or one
+-- keep was refused and nothing read, written or sent, or there was no memory.
+pub record RunsFiles {D S K L : Type 0} (state : D → DiskState) (options : ExportOptions) (p : Plan) (t : Tells S K L) (s : Status) (a b : Outside S K L)
+    (disks disks' : List (Option D)) : Type 0 where
+  pub ran : refused_slot s ≡ None → s ≢ status.NoMemory → RanFiles state options p t s a b disks disks'
+  pub refused : (slot : ℕ) → refused_slot s ≡ Some slot → Refused state s slot disks disks'
+  pub unread : IsSome (refused_slot s) → (b.source ≡ a.source) × (b.sink ≡ a.sink) × (b.links ≡ a.links)
+  -- a disk that is said to have failed did
+  pub file_fault : (slot : ℕ) → s ≡ status.DiskFault (file_at slot)
+      → OnSlot (λ file file' _ _. Rose (state file).faults (state file').faults) slot disks disks'
+  pub keep_fault : (slot : ℕ) → s ≡ status.DiskFault (keep_at slot)
+      → OnSlot (λ _ _ keep keep'. Rose (state keep).faults (state keep').faults) slot disks disks'
+  -- exactly when a keep is refused; one that holds lists and doesn't fail never is
+  pub keep_small : (slot sectors : ℕ)
+      → OnSlot (λ _ _ keep _. (s ≡ status.KeepSmall (keep_at slot) sectors) ↔ IsSmall (state keep) s slot sectors) slot disks disks'
+  pub keep_bad : (slot bad : ℕ) → OnSlot (λ _ _ keep _. IfSome (state keep).contents (λ c.
+      (s ≡ status.KeepBad (keep_at slot) bad) ↔ IsBad (state keep) c s slot bad)) slot disks disks'
+  pub mounted : (slot : ℕ) (lists : Settings) → OnSlot (λ _ _ keep keep'. HasLists (state keep) lists
+      → IsFaultless (state keep).faults (state keep').faults → refused_slot s ≢ Some slot) slot disks disks'
+  -- where all went well no sector of a file is loose
+  pub settled : (slot : ℕ) → s ≡ status.Ok → OnSlot (λ _ file' _ _. IfSome (state file').contents NothingLoose) slot disks disks'
+
+-- `answer` and `capture`: where its keep was mounted and nothing failed, a stream of frames is answered to its end.
+pub record RunsAnswer {D S K L : Type 0} (state : D → DiskState) (asked : Answer) (t : Tells S K L) (s : Status) (a b : Outside S K L)
+    (disks disks' : List (Option D)) : Type 0 where
+  pub runs : RunsFiles state (answer_plan asked).0 (answer_plan asked).1 t s a b disks disks'
+  pub whole : (frames : List (List ℕ)) → refused_slot s ≡ None → s ≢ status.NoMemory → t.left a.source ≡ Some (stream frames) → All IsFrame frames
+      → length frames < most_streamed → s ≢ status.SourceFault → s ≢ status.SinkFault → AreFilesFaultless state disks disks' → s ≡ status.Ok
+
+-- `serve`: where its keeps were mounted and nothing failed, the link is served to the end.
+pub record RunsServe {D S K L : Type 0} (state : D → DiskState) (asked : Serve) (t : Tells S K L) (s : Status) (a b : Outside S K L)
+    (disks disks' : List (Option D)) : Type 0 where
+  pub runs : RunsFiles state (serve_plan asked).0 (serve_plan asked).1 t s a b disks disks'
+  pub whole : refused_slot s ≡ None → s ≢ status.NoMemory → s ≢ status.LinkFault 0 → AreFilesFaultless state disks disks' → s ≡ status.Ok
+
+-- `replay`: without a fault a script with no bad line is run.
+pub record RunsReplay {S K : Type 0} (left : S → Option (List ℕ)) (held : K → Option (List ℕ)) (source_faults : S → ℕ) (sink_faults : K → ℕ) (s : Status)
+    (source source' : S) (sink sink' : K) : Type 0 where
+  pub ran : RanScript left held s source source' sink sink'
+  pub whole : (text : List ℕ) → left source ≡ Some text → text_refusal text ≡ None
+      → IsFaultless (source_faults source) (source_faults source') → IsFaultless (sink_faults sink) (sink_faults sink') → HasReplayed (script_of text) s
+
+-- `soak`
+pub record RunsSoak {K : Type 0} (held : K → Option (List ℕ)) (sink_faults : K → ℕ) (asked : Soak) (s : Status) (sink sink' : K) : Type 0 where
+  pub ran : RanSoak held asked s sink sink'
+  pub whole : IsFaultless (sink_faults sink) (sink_faults sink') → HasReplayed (soaked asked.seed asked.count) s
+
+-- What a run of each command is, over the objects before and after it. What it leaves untouched its traits say.
+abbrev pub Ran : {S K D L C P B E : Type 0} → Command → Views S K D L C P B E → Status → Objects S K D L C P B E → Objects S K D L C P B E → Type 0
+Ran (command.Answer asked) v s a b = RunsAnswer v.state asked (tells_of v) s (outside_of a) (outside_of b) a.disks b.disks
+Ran (command.Serve asked) v s a b = RunsServe v.state asked (tells_of v) s (outside_of a) (outside_of b) a.disks b.disks
+Ran (command.Mirror asked) v s a b = RunsMirror v.state asked (tells_of v) s (outside_of a) (outside_of b) a.disks b.disks
+Ran command.Compare v s a b = RunsCompare v.state s (v.held a.sink) (v.held b.sink) a.disks b.disks
+Ran (command.Audit asked) v s a b = RunsAudit v.state asked s (v.left a.source) (v.left b.source) (v.held a.sink) (v.held b.sink) a.disks b.disks
+Ran command.Replay v s a b = RunsReplay v.left v.held v.source_faults v.sink_faults s a.source b.source a.sink b.sink
+Ran (command.Soak asked) v s a b = RunsSoak v.held v.sink_faults asked s a.sink b.sink
+Ran (command.Live asked) v s a b =
+    AtBoth (λ one one' two two'. RunsLive asked s (v.held a.sink) (v.held b.sink) (ends v.answers v.turns v.given v.taken one two a.clock)
+    (ends v.answers v.turns v.given v.taken one' two' b.clock)) a.links b.links
+Ran (command.Switch asked) v s a b =
+    s ≢ status.NoMemory → Switches asked.ports.items s (v.left a.source) (v.left b.source) (v.held a.sink) (v.held b.sink)
+Ran (command.Ask tool) v s a b = AtFirst (λ link link'. RunsTool tool s (v.held a.sink) (v.held b.sink) (told_over v a b link link')) a.links b.links
+Ran (command.Get asked) v s a b = AtFirst (λ link link'. CopiesOut asked s (v.held a.sink) (v.held b.sink) (told_over v a b link link')) a.links b.links
+Ran (command.Put asked) v s a b = AtFirst (λ link link'. CopiesIn asked s (v.left a.source) (v.left b.source) (told_over v a b link link')) a.links b.links
+Ran (command.Nbd asked) v s a b = AtFirst (λ link link'. IsServedTo (door_of v) asked s a.door b.door (told_over v a b link link')) a.links b.links
+Ran (command.Keep action) v s a b = RunsKeep v.state action s (v.held a.sink) (v.held b.sink) a.disks b.disks
+
+-- each link failed at most once, and just where the status tells of it by its number; these are numbered from n on
+abbrev pub AreLinksBlamed : {L : Type 0} → (L → ℕ) → Status → ℕ → List L → List L → Type 0
+AreLinksBlamed faults s n [] [] = Unit {0}
+AreLinksBlamed faults s n (link ∷ links) (link' ∷ links') =
+    Blamed (s ≡ status.LinkFault n) (faults link) (faults link') × AreLinksBlamed faults s (n + 1) links links'
+AreLinksBlamed faults s n links links' = ⊥

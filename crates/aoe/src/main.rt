@@ -5,14 +5,14 @@
 //! a clock and a [`Door`] for clients; the text of its [`Status`] goes to standard error. Before a mirror
 //! is served, MARK is settled for the FILEs that are named ([`Settling`]).
 //!
-//! `aoe` (`top`, with `plan`, `mirror`, `tools`, `nbd`, `live`, `switch`, `upkeep`, `compare` and `audit`) opens nothing and says no status;
+//! `aoe` (`top`, with a file for each kind of command, as `files`, `scripts` and `tools`) opens nothing and says no status;
 //! its contract is what the program promises. What a file, a socket, a stream and a clock do is in `aoe_system`, which
 //! tells the proofs nothing of content. The program catches no signal and starts no thread.
 //!
-//! Promised, by [`aoe`]: what a run of each command is, by its status (`Ran`, `RunsTool`,
-//! `IsServedTo`, `RunsLive`, `RunsMirror`, `RunsCompare`, `RunsKeep`, `RunsAudit`). A run over files keeps the shelf law, and
-//! its disks outlive a loss of power (`RanFiles`); a history that `replay` prints is lawful and
-//! keeps the read law. Where a keep is refused nothing was read or sent. A fault of source, sink,
+//! Promised, by [`aoe`]: what a run of each command is, by its status, is its row of `Ran` (run), and what it
+//! may touch of source, sink, disks, links, clock and door its row of `traits_of` (touches). A run over files
+//! keeps the shelf law, and its disks outlive a loss of power (`RanFiles`); a history that `replay` prints is
+//! lawful and keeps the read law. Where a keep is refused nothing was read or sent. A fault of source, sink,
 //! link or socket is told only if its count rose. Without a fault a stream is answered to its end, a link is
 //! served, and a good script is run as far as memory and the network allow. `line_of`: the status
 //! is `Usage` exactly where the arguments spell no command and there is memory to read them.
@@ -29,11 +29,13 @@ ghost use Rattle.aoe_args.specs.Words.{IsInRange, command, file_count, is_word, 
 mod audit;
 mod compare;
 mod door;
+mod files;
 mod live;
 mod log;
 mod mirror;
 mod nbd;
 mod plan;
+mod scripts;
 mod settle;
 mod status;
 mod streams;

@@ -1,239 +1,31 @@
-//! The call that the program makes.
-ghost use Rattle.std.specs.Prelude.{◌≡◌, ◌≢◌, ◌≤◌, ◌<◌, ◌+◌, ◌↔◌, List, ℕ, false, true, All, length, IfSome, IsSome, None, Some};
-ghost use Rattle.aoe_io.specs.Stream.{stream, IsFrame};
-ghost use Rattle.aoe_lists.specs.Settings.{Settings};
-ghost use Rattle.aoe_base.specs.Sizes.{most_streamed};
-ghost use Rattle.aoe_serve.specs.Exporting.{AtFirst, CanExport};
-ghost use Rattle.aoe_world.specs.Replay.{IsFaultless};
-ghost use Rattle.aoe_script.specs.Lines.{refusal, script_of};
-ghost use Rattle.aoe_soak.specs.Soak.{soaked};
-ghost use Rattle.aoe_tools.specs.Runs.{told};
-ghost use Rattle.aoe_args.specs.Words.{CanSoak, IsInRange, file_count, link_count};
-ghost use Rattle.aoe_args.specs.declared.command.Answer.{Answer as Answers};
-ghost use Rattle.aoe_args.specs.declared.command.Audit.{Audit as Audits};
-ghost use Rattle.aoe_args.specs.declared.command.Serve.{Serve as Serves};
-ghost use Rattle.aoe_args.specs.declared.command.Get.{Get as Gets};
-ghost use Rattle.aoe_args.specs.declared.command.KeepAction.{KeepAction};
-ghost use Rattle.aoe_args.specs.declared.command.Live.{Live as Lives};
-ghost use Rattle.aoe_args.specs.declared.command.Mirror.{Mirror as Mirrors};
-ghost use Rattle.aoe_args.specs.declared.command.Nbd.{Nbd as Nbds};
-ghost use Rattle.aoe_args.specs.declared.command.Put.{Put as Puts};
-ghost use Rattle.aoe_args.specs.declared.command.Soak.{Soak as Soaks};
-ghost use Rattle.aoe_args.specs.declared.command.Tool.{Tool};
-ghost use Rattle.aoe_base.specs.Faults.{Blamed, Rose};
-ghost use Rattle.aoe.specs.Auditing.{RunsAudit};
-ghost use Rattle.aoe.specs.Commands.{exports, has_sides, is_get, is_live, is_mirror, is_nbd, is_over_keep, reads_input, uses_clock};
-ghost use Rattle.aoe.specs.Comparing.{RunsCompare};
-ghost use Rattle.aoe.specs.Keeping.{RunsKeep};
-ghost use Rattle.aoe.specs.Live.{AreBlamed, AtBoth, RunsLive, ends};
-ghost use Rattle.aoe.specs.Ending.{file_at, keep_at, refused_slot};
-ghost use Rattle.aoe.specs.Mirror.{AreTold, RunsMirror};
-ghost use Rattle.aoe.specs.Serving.{door_seen};
-ghost use Rattle.aoe.specs.Run.{Asked, HasLists, HasReplayed, IsBad, IsExportedTo, IsGot, IsPut, IsSmall, NothingLoose, OnSlot, Ran, RanFiles, RanScript, RanSoak, Refused};
+//! The call that the program makes: a command is an arm, and a row of `Ran` and of `traits_of`.
+ghost use Rattle.std.specs.Prelude.{◌≡◌, ◌≢◌, ◌<◌, ℕ, All, IsSome, false, length, true};
+ghost use Rattle.aoe_args.specs.Words.{IsInRange, file_count, link_count};
+ghost use Rattle.aoe_base.specs.Faults.{Blamed};
+ghost use Rattle.aoe.specs.Mirror.{AreTold};
+ghost use Rattle.aoe.specs.Run.{AreLinksBlamed, Ran};
+ghost use Rattle.aoe.specs.Traits.{TouchesOnly, always, traits_of};
 
 use crate::audit::run_audit;
 use crate::compare::run_compare;
 use crate::door::Door;
+use crate::files::{run_answer, run_serve};
 use crate::live::run_live;
 use crate::mirror::run_mirror;
 use crate::nbd::run_nbd;
-use crate::plan::{answer_plan, refused_as, replayed_as, serve_plan, status_of};
+use crate::scripts::{run_script, run_soak};
 use crate::status::Status;
 use crate::switch::run_switch;
 use crate::tools::{run_get, run_put, run_tool};
 use crate::upkeep::run_keep;
-use aoe_args::{Command, Soak};
+use aoe_args::Command;
 use aoe_clients::{Bell, Clients};
 use aoe_copy::Watch;
 use aoe_disk::Disk;
 use aoe_io::{Clock, Link, Sink, Source};
 use aoe_mirror::MirrorWatch;
 use aoe_nbd_serve::Ending;
-use aoe_serve::{ExportOptions, ExportRefusal, Plan, export};
-use aoe_world::{replay, soak};
 use std::alloc::Global;
-
-/// Runs a plan over files and links.
-fn run_files<S: Source, K: Sink, D: Disk + Drop, L: Link>(
-    alloc: Global,
-    options: ExportOptions,
-    plan: Plan,
-    source: &mut S,
-    sink: &mut K,
-    disks: &mut [Option<D>],
-    links: &mut [L],
-) -> Status
-    requires possible { CanExport options plan (length disks.old) (length links.old) }
-    requires there { All IsSome disks.old }
-    ensures run { refused_slot result ≡ None → result ≢ Status.NoMemory → RanFiles D.state options plan
-        record { left = S.left; held = K.held; turns = L.turns; given = L.given; taken = L.taken } result
-        record { source = source.old; sink = sink.old; links = links.old } record { source = source.new; sink = sink.new; links = links.new }
-        disks.old disks.new }
-    ensures refused { (slot : ℕ) → refused_slot result ≡ Some slot
-        → Refused D.state result slot disks.old disks.new }
-    ensures unread { IsSome (refused_slot result)
-        → (source.new ≡ source.old) × (sink.new ≡ sink.old) × (links.new ≡ links.old) }
-    ensures memory { result ≡ Status.NoMemory → (source.new ≡ source.old) × (sink.new ≡ sink.old)
-        × (disks.new ≡ disks.old) × (links.new ≡ links.old) }
-    ensures usage { result ≢ Status.Usage }
-    ensures unheard { result ≢ Status.ClientFault }
-    ensures there { All IsSome disks.new }
-    ensures source { Blamed (result ≡ Status.SourceFault) (S.faults source.old)
-        (S.faults source.new) }
-    ensures sink { Blamed (result ≡ Status.SinkFault) (K.faults sink.old) (K.faults sink.new) }
-    ensures first { AtFirst (λ a b. Blamed (result ≡ Status.LinkFault 0) (L.faults a)
-        (L.faults b)) links.old links.new }
-    ensures alone { (link : ℕ) → result ≡ Status.LinkFault link → link ≡ 0 }
-{
-    match export(alloc, options, plan, source, sink, disks, links) {
-        Ok(exported) => status_of(exported),
-        Err(ExportRefusal::NoMemory) => Status::NoMemory,
-        Err(ExportRefusal::Keep { slot, refusal }) => refused_as(slot, refusal),
-    }
-}
-
-/// Runs the script that the source gives.
-fn run_script<S: Source, K: Sink>(alloc: Global, source: &mut S, sink: &mut K) -> Status
-    ensures run { RanScript S.left K.held result source.old source.new sink.old sink.new }
-    ensures unrefused { refused_slot result ≡ None }
-    ensures disks { (disk : ℕ) → result ≢ Status.DiskFault disk }
-    ensures links { (link : ℕ) → result ≢ Status.LinkFault link }
-    ensures usage { result ≢ Status.Usage }
-    ensures unheard { result ≢ Status.ClientFault }
-    ensures memory { result ≡ Status.NoMemory → sink.new ≡ sink.old }
-    ensures source { Blamed (result ≡ Status.SourceFault) (S.faults source.old)
-        (S.faults source.new) }
-    ensures sink { Blamed (result ≡ Status.SinkFault) (K.faults sink.old) (K.faults sink.new) }
-    ensures replays { (text : List ℕ) → S.left source.old ≡ Some text → refusal text ≡ None
-        → IsFaultless (S.faults source.old) (S.faults source.new) → IsFaultless (K.faults sink.old) (K.faults sink.new) → HasReplayed (script_of text) result }
-{
-    replayed_as(replay(alloc, source, sink))
-}
-
-/// Runs the script that a number makes.
-fn run_soak<K: Sink>(alloc: Global, asked: Soak, sink: &mut K) -> Status
-    requires { CanSoak asked }
-    ensures run { RanSoak K.held asked result sink.old sink.new }
-    ensures unrefused { refused_slot result ≡ None }
-    ensures disks { (disk : ℕ) → result ≢ Status.DiskFault disk }
-    ensures links { (link : ℕ) → result ≢ Status.LinkFault link }
-    ensures usage { result ≢ Status.Usage }
-    ensures unheard { result ≢ Status.ClientFault }
-    ensures source { result ≢ Status.SourceFault }
-    ensures memory { result ≡ Status.NoMemory → sink.new ≡ sink.old }
-    ensures sink { Blamed (result ≡ Status.SinkFault) (K.faults sink.old) (K.faults sink.new) }
-    ensures soaks { IsFaultless (K.faults sink.old) (K.faults sink.new)
-        → HasReplayed (soaked asked.seed asked.count) result }
-{
-    replayed_as(soak(alloc, asked.seed, asked.count, sink))
-}
-
-/// Runs a command: over its files and links, or the script that the source gives.
-fn run_command<
-    S: Source,
-    K: Sink,
-    D: Disk + Drop,
-    L: Link,
-    C: Clock,
-    W: Watch,
-    M: MirrorWatch + Drop,
-    P: Clients,
-    B: Bell,
-    E: Ending,
->(
-    alloc: Global,
-    command: &Command,
-    source: &mut S,
-    sink: &mut K,
-    disks: &mut [Option<D>],
-    links: &mut [L],
-    clock: &mut C,
-    watch: &mut W,
-    sides: M,
-    door: &mut Door<P, B, E>,
-) -> Status
-    requires range { IsInRange command.now }
-    requires count { length disks.old ≡ file_count command.now }
-    requires there { All IsSome disks.old }
-    requires links { length links.old ≡ link_count command.now }
-    requires told { is_mirror command.now ≡ true → AreTold D.state disks.old }
-    requires nobody { is_nbd command.now ≡ true → P.connected door.old.clients ≡ false }
-    ensures run { refused_slot result ≡ None → result ≢ Status.NoMemory → Ran D.state command.now
-        record { left = S.left; held = K.held; turns = L.turns; given = L.given; taken = L.taken } result
-        record { source = source.old; sink = sink.old; links = links.old } record { source = source.new; sink = sink.new; links = links.new }
-        disks.old disks.new }
-    ensures refused { has_sides command.now ≡ false → (slot : ℕ) → refused_slot result ≡ Some slot
-        → Refused D.state result slot disks.old disks.new }
-    ensures unread { has_sides command.now ≡ false → IsSome (refused_slot result)
-        → (source.new ≡ source.old) × (sink.new ≡ sink.old) × (links.new ≡ links.old) }
-    ensures mirrors { (asked : Mirrors) → command.now ≡ Command.Mirror asked → RunsMirror D.state asked
-        record { left = S.left; held = K.held; turns = L.turns; given = L.given; taken = L.taken } result
-        record { source = source.old; sink = sink.old; links = links.old } record { source = source.new; sink = sink.new; links = links.new }
-        disks.old disks.new }
-    ensures keeps { (action : KeepAction) → command.now ≡ Command.Keep action
-        → RunsKeep D.state action result (K.held sink.old) (K.held sink.new) disks.old disks.new }
-    ensures audits { (asked : Audits) → command.now ≡ Command.Audit asked
-        → RunsAudit D.state asked result (S.left source.old) (S.left source.new) (K.held sink.old)
-        (K.held sink.new) disks.old disks.new }
-    ensures compares { command.now ≡ Command.Compare
-        → RunsCompare D.state result (K.held sink.old) (K.held sink.new) disks.old disks.new
-        × (source.new ≡ source.old) × (links.new ≡ links.old) }
-    ensures memory { result ≡ Status.NoMemory → (reads_input command.now ≡ false
-        → source.new ≡ source.old) × (is_get command.now ≡ false → sink.new ≡ sink.old)
-        × (has_sides command.now ≡ false → is_over_keep command.now ≡ false → disks.new ≡ disks.old) × (uses_clock command.now ≡ false → links.new ≡ links.old) }
-    ensures asks { (tool : Tool) → command.now ≡ Command.Ask tool → Asked K.held (λ a b. told C.least C.answers L.turns L.given L.taken clock.old clock.new a b) tool result sink.old sink.new links.old links.new }
-    ensures gets { (asked : Gets) → command.now ≡ Command.Get asked → IsGot K.held (λ a b. told C.least C.answers L.turns L.given L.taken clock.old clock.new a b) asked result sink.old sink.new links.old links.new }
-    ensures puts { (asked : Puts) → command.now ≡ Command.Put asked → IsPut S.left (λ a b. told C.least C.answers L.turns L.given L.taken clock.old clock.new a b) asked result source.old source.new links.old links.new }
-    ensures nbds { (asked : Nbds) → command.now ≡ Command.Nbd asked → IsExportedTo (door_seen P.told P.connected B.waits E.answers) (λ a b. told C.least C.answers L.turns L.given L.taken clock.old clock.new a b) asked result door.old door.new links.old links.new }
-    ensures door { is_nbd command.now ≡ false → door.new ≡ door.old }
-    ensures lives { (asked : Lives) → command.now ≡ Command.Live asked → AtBoth (λ one one' two two'. RunsLive asked result (K.held sink.old) (K.held sink.new)
-        (ends C.answers L.turns L.given L.taken one two clock.old) (ends C.answers L.turns L.given L.taken one' two' clock.new)
-        × AreBlamed result (L.faults one) (L.faults one') (L.faults two) (L.faults two')) links.old links.new }
-    ensures clock { uses_clock command.now ≡ false → clock.new ≡ clock.old }
-    ensures usage { result ≢ Status.Usage }
-    ensures there { All IsSome disks.new }
-    ensures source { Blamed (result ≡ Status.SourceFault) (S.faults source.old)
-        (S.faults source.new) }
-    ensures sink { Blamed (result ≡ Status.SinkFault) (K.faults sink.old) (K.faults sink.new) }
-    ensures clients { Blamed (result ≡ Status.ClientFault) (P.faults door.old.clients)
-        (P.faults door.new.clients) }
-    ensures first { is_live command.now ≡ false
-        → AtFirst (λ a b. Blamed (result ≡ Status.LinkFault 0) (L.faults a)
-        (L.faults b)) links.old links.new }
-    ensures alone { is_live command.now ≡ false → (link : ℕ) → result ≡ Status.LinkFault link
-        → link ≡ 0 }
-    ensures soaks { (asked : Soaks) → command.now ≡ Command.Soak asked
-        → IsFaultless (K.faults sink.old) (K.faults sink.new)
-        → HasReplayed (soaked asked.seed asked.count) result }
-    ensures replays { (text : List ℕ) → command.now ≡ Command.Replay → S.left source.old ≡ Some text → refusal text ≡ None
-        → IsFaultless (S.faults source.old) (S.faults source.new) → IsFaultless (K.faults sink.old) (K.faults sink.new) → HasReplayed (script_of text) result }
-{
-    match command {
-        Command::Answer(answer) => {
-            let (options, plan) = answer_plan(*answer);
-            run_files(alloc, options, plan, source, sink, disks, links)
-        }
-        Command::Serve(serve) => {
-            let (options, plan) = serve_plan(serve);
-            run_files(alloc, options, plan, source, sink, disks, links)
-        }
-        Command::Mirror(asked) => run_mirror(alloc, *asked, source, sink, disks, links, sides),
-        Command::Replay => run_script(alloc, source, sink),
-        Command::Soak(asked) => run_soak(alloc, *asked, sink),
-        Command::Live(asked) => {
-            let (one, two) = links.split_at_mut(1);
-            run_live(alloc, asked, sink, &mut one[0], &mut two[0], clock)
-        }
-        Command::Switch(asked) => run_switch(alloc, asked.ports.as_slice(), source, sink),
-        Command::Ask(tool) => run_tool(alloc, tool, sink, &mut links[0], clock),
-        Command::Get(asked) => run_get(alloc, asked, sink, &mut links[0], clock, watch),
-        Command::Put(asked) => run_put(alloc, asked, source, &mut links[0], clock, watch),
-        Command::Nbd(asked) => run_nbd(alloc, asked, &mut links[0], clock, watch, door),
-        Command::Keep(action) => run_keep(alloc, *action, sink, disks),
-        Command::Compare => run_compare(alloc, sink, disks),
-        Command::Audit(asked) => run_audit(alloc, asked, source, sink, disks),
-    }
-}
 
 /// Runs a command over its files and links, the standard streams and the clock.
 ///
@@ -327,99 +119,64 @@ pub fn aoe<
     requires count { length disks.old ≡ file_count command.now }
     requires there { All IsSome disks.old }
     requires links { length links.old ≡ link_count command.now }
-    requires told { is_mirror command.now ≡ true → AreTold D.state disks.old }
-    requires nobody { is_nbd command.now ≡ true → P.connected door.old.clients ≡ false }
-    ensures usage { result ≢ Status.Usage }
+    requires told { (traits_of command.now).is_mirror ≡ true → AreTold D.state disks.old }
+    requires nobody { (traits_of command.now).door ≡ always
+        → P.connected door.old.clients ≡ false }
 
-    // A keep is refused, or the run is one of the shelf law, or the history of a script is lawful and read as was written.
-    ensures refused { has_sides command.now ≡ false → (slot : ℕ) → refused_slot result ≡ Some slot
-        → Refused D.state result slot disks.old disks.new }
-    ensures unread { has_sides command.now ≡ false → IsSome (refused_slot result)
-        → (source.new ≡ source.old) × (sink.new ≡ sink.old) × (links.new ≡ links.old) }
-    ensures run { refused_slot result ≡ None → result ≢ Status.NoMemory → Ran D.state command.now
-        record { left = S.left; held = K.held; turns = L.turns; given = L.given; taken = L.taken } result
-        record { source = source.old; sink = sink.old; links = links.old } record { source = source.new; sink = sink.new; links = links.new }
-        disks.old disks.new }
-    ensures settled { exports command.now ≡ true → (slot : ℕ) → result ≡ Status.Ok
-        → OnSlot (λ _ file' _ _. IfSome (D.state file').contents NothingLoose) slot disks.old disks.new }
+    // The law of the command, and what it leaves as it was.
+    ensures run { Ran command.now
+        record {
+          left = S.left;
+          source_faults = S.faults;
+          held = K.held;
+          sink_faults = K.faults;
+          state = D.state;
+          turns = L.turns;
+          given = L.given;
+          taken = L.taken;
+          least = C.least;
+          answers = C.answers;
+          told = P.told;
+          here = P.connected;
+          waits = B.waits;
+          asked = E.answers;
+        } result
+        record { source = source.old; sink = sink.old; disks = disks.old; links = links.old; clock = clock.old; door = door.old }
+        record { source = source.new; sink = sink.new; disks = disks.new; links = links.new; clock = clock.new; door = door.new } }
+    ensures touches { TouchesOnly (traits_of command.now) result
+        record { source = source.old; sink = sink.old; disks = disks.old; links = links.old; clock = clock.old; door = door.old }
+        record { source = source.new; sink = sink.new; disks = disks.new; links = links.new; clock = clock.new; door = door.new } }
+    ensures usage { result ≢ Status.Usage }
     ensures there { All IsSome disks.new }
 
-    // A mirror of two sides is the store of one slot.
-    ensures mirrors { (asked : Mirrors) → command.now ≡ Command.Mirror asked → RunsMirror D.state asked
-        record { left = S.left; held = K.held; turns = L.turns; given = L.given; taken = L.taken } result
-        record { source = source.old; sink = sink.old; links = links.old } record { source = source.new; sink = sink.new; links = links.new }
-        disks.old disks.new }
-
-    // A keep is shown or changed while no shelf runs over it.
-    ensures keeps { (action : KeepAction) → command.now ≡ Command.Keep action
-        → RunsKeep D.state action result (K.held sink.old) (K.held sink.new) disks.old disks.new }
-
-    // A capture of a target's wire is judged by the lists of its keep.
-    ensures audits { (asked : Audits) → command.now ≡ Command.Audit asked
-        → RunsAudit D.state asked result (S.left source.old) (S.left source.new) (K.held sink.old)
-        (K.held sink.new) disks.old disks.new }
-
-    // The sides of a mirror are compared, and stay as they are.
-    ensures compares { command.now ≡ Command.Compare
-        → RunsCompare D.state result (K.held sink.old) (K.held sink.new) disks.old disks.new
-        × (source.new ≡ source.old) × (links.new ≡ links.old) }
-
-    // When a fault is told: an object whose fault isn't told had none, and one whose fault is told had one, since the first trouble ends
-    // the run. Of a command that exports files as slots, the faults of files and keeps, and when a keep is refused.
+    // An object whose fault isn't told had none, and one whose fault is told had one, since the first trouble ends the run. Of disks the
+    // commands' laws speak.
     ensures source { Blamed (result ≡ Status.SourceFault) (S.faults source.old)
         (S.faults source.new) }
     ensures sink { Blamed (result ≡ Status.SinkFault) (K.faults sink.old) (K.faults sink.new) }
     ensures clients { Blamed (result ≡ Status.ClientFault) (P.faults door.old.clients)
         (P.faults door.new.clients) }
-    ensures link { is_live command.now ≡ false
-        → AtFirst (λ a b. Blamed (result ≡ Status.LinkFault 0) (L.faults a) (L.faults b)) links.old links.new }
-    ensures one_link { is_live command.now ≡ false → (link : ℕ) → result ≡ Status.LinkFault link
-        → link ≡ 0 }
-    ensures disk_fault { (disk : ℕ) → result ≡ Status.DiskFault disk → disk < length disks.old }
-    ensures file_fault { exports command.now ≡ true → (slot : ℕ) → result ≡ Status.DiskFault (file_at slot)
-        → OnSlot (λ file file' _ _. Rose (D.state file).faults (D.state file').faults) slot disks.old disks.new }
-    ensures keep_fault { exports command.now ≡ true → (slot : ℕ) → result ≡ Status.DiskFault (keep_at slot)
-        → OnSlot (λ _ _ keep keep'. Rose (D.state keep).faults (D.state keep').faults) slot disks.old disks.new }
-    ensures keep_small { exports command.now ≡ true → (slot sectors : ℕ)
-        → OnSlot (λ _ _ keep _. (result ≡ Status.KeepSmall (keep_at slot) sectors) ↔ IsSmall (D.state keep) result slot sectors) slot disks.old disks.new }
-    ensures keep_bad { exports command.now ≡ true → (slot bad : ℕ) → OnSlot (λ _ _ keep _. IfSome (D.state keep).contents (λ c.
-        (result ≡ Status.KeepBad (keep_at slot) bad) ↔ IsBad (D.state keep) c result slot bad)) slot disks.old disks.new }
-    ensures memory { result ≡ Status.NoMemory → (reads_input command.now ≡ false → source.new ≡ source.old)
-        × (is_get command.now ≡ false → sink.new ≡ sink.old)
-        × (has_sides command.now ≡ false → is_over_keep command.now ≡ false → disks.new ≡ disks.old)
-        × (uses_clock command.now ≡ false → links.new ≡ links.old) }
-
-    // What a tool asks, when it ends and what it says; and what clients are served.
-    ensures asks { (tool : Tool) → command.now ≡ Command.Ask tool → Asked K.held (λ a b. told C.least C.answers L.turns L.given L.taken clock.old clock.new a b) tool result sink.old sink.new links.old links.new }
-    ensures gets { (asked : Gets) → command.now ≡ Command.Get asked → IsGot K.held (λ a b. told C.least C.answers L.turns L.given L.taken clock.old clock.new a b) asked result sink.old sink.new links.old links.new }
-    ensures puts { (asked : Puts) → command.now ≡ Command.Put asked → IsPut S.left (λ a b. told C.least C.answers L.turns L.given L.taken clock.old clock.new a b) asked result source.old source.new links.old links.new }
-    ensures nbds { (asked : Nbds) → command.now ≡ Command.Nbd asked → IsExportedTo (door_seen P.told P.connected B.waits E.answers) (λ a b. told C.least C.answers L.turns L.given L.taken clock.old clock.new a b) asked result door.old door.new links.old links.new }
-    ensures door { is_nbd command.now ≡ false → door.new ≡ door.old }
-    ensures lives { (asked : Lives) → command.now ≡ Command.Live asked → AtBoth (λ one one' two two'. RunsLive asked result (K.held sink.old) (K.held sink.new)
-        (ends C.answers L.turns L.given L.taken one two clock.old) (ends C.answers L.turns L.given L.taken one' two' clock.new)
-        × AreBlamed result (L.faults one) (L.faults one') (L.faults two) (L.faults two')) links.old links.new }
-    ensures clock { uses_clock command.now ≡ false → clock.new ≡ clock.old }
-
-    // With no fault keeps that hold lists are mounted, and then a stream of frames is answered to its end, and a link is served;
-    // and a script with no bad line is run.
-    ensures mounted { exports command.now ≡ true → (slot : ℕ) (lists : Settings) → OnSlot (λ _ _ keep keep'. HasLists (D.state keep) lists
-        → IsFaultless (D.state keep).faults (D.state keep').faults → refused_slot result ≢ Some slot) slot disks.old disks.new }
-    ensures answers { (asked : Answers) (frames : List (List ℕ)) → command.now ≡ Command.Answer asked → refused_slot result ≡ None → result ≢ Status.NoMemory
-        → S.left source.old ≡ Some (stream frames) → All IsFrame frames → length frames < most_streamed
-        → IsFaultless (S.faults source.old) (S.faults source.new) → IsFaultless (K.faults sink.old) (K.faults sink.new)
-        → ((slot : ℕ) → OnSlot (λ file file' _ _. IsFaultless (D.state file).faults (D.state file').faults) slot disks.old disks.new)
-        → result ≡ Status.Ok }
-    ensures serves { (asked : Serves) → command.now ≡ Command.Serve asked → refused_slot result ≡ None → result ≢ Status.NoMemory
-        → AtFirst (λ a b. IsFaultless (L.faults a) (L.faults b)) links.old links.new
-        → ((slot : ℕ) → OnSlot (λ file file' _ _. IsFaultless (D.state file).faults (D.state file').faults) slot disks.old disks.new)
-        → result ≡ Status.Ok }
-    ensures soaks { (asked : Soaks) → command.now ≡ Command.Soak asked
-        → IsFaultless (K.faults sink.old) (K.faults sink.new)
-        → HasReplayed (soaked asked.seed asked.count) result }
-    ensures replays { (text : List ℕ) → command.now ≡ Command.Replay → S.left source.old ≡ Some text → refusal text ≡ None
-        → IsFaultless (S.faults source.old) (S.faults source.new) → IsFaultless (K.faults sink.old) (K.faults sink.new) → HasReplayed (script_of text) result }
+    ensures links { AreLinksBlamed L.faults result 0 links.old links.new }
+    ensures link { (link : ℕ) → result ≡ Status.LinkFault link → link < length links.old }
+    ensures disk { (disk : ℕ) → result ≡ Status.DiskFault disk → disk < length disks.old }
 {
-    run_command(
-        alloc, command, source, sink, disks, links, clock, watch, sides, door,
-    )
+    match command {
+        Command::Answer(asked) => run_answer(alloc, *asked, source, sink, disks, links),
+        Command::Serve(asked) => run_serve(alloc, asked, source, sink, disks, links),
+        Command::Mirror(asked) => run_mirror(alloc, *asked, source, sink, disks, links, sides),
+        Command::Compare => run_compare(alloc, sink, disks),
+        Command::Audit(asked) => run_audit(alloc, asked, source, sink, disks),
+        Command::Replay => run_script(alloc, source, sink),
+        Command::Soak(asked) => run_soak(alloc, *asked, sink),
+        Command::Live(asked) => {
+            let (one, two) = links.split_at_mut(1);
+            run_live(alloc, asked, sink, &mut one[0], &mut two[0], clock)
+        }
+        Command::Switch(asked) => run_switch(alloc, asked.ports.as_slice(), source, sink),
+        Command::Ask(tool) => run_tool(alloc, tool, sink, &mut links[0], clock),
+        Command::Get(asked) => run_get(alloc, asked, sink, &mut links[0], clock, watch),
+        Command::Put(asked) => run_put(alloc, asked, source, &mut links[0], clock, watch),
+        Command::Nbd(asked) => run_nbd(alloc, asked, &mut links[0], clock, watch, door),
+        Command::Keep(action) => run_keep(alloc, *action, sink, disks),
+    }
 }

@@ -6,8 +6,9 @@ use Rattle.aoe_serve.specs.declared.plan.Exported.{Exported}
 use Rattle.aoe.proofs.Blame.{at-first, retold}
 use Rattle.aoe.proofs.Complete.{link-told, sink-told, source-told}
 use Rattle.aoe.proofs.Exits.{unsynced-within}
+use Rattle.aoe.proofs.Mirrors.{ran-others, same-others}
 use Rattle.aoe.proofs.Refusals.{backed, not-slot, not-some, ran-not-refused}
-use Rattle.aoe.proofs.top.run_files.Goals as goal
+use Rattle.aoe.proofs.files.run_files.Goals as goal
 
 few-slots : (unsynced : Option ℕ) (n : ℕ) → ((slot : ℕ) → unsynced ≡ Some slot → file_at slot + 1 < n) → n ≤ 32 → IfSome unsynced (λ slot. slot ≤ 15)
 few-slots None n within few = tt
@@ -44,3 +45,8 @@ returns-in-Ok-clause-refused g c slot e = absurd (not-slot _ (unrefused _ c.in-O
 
 pub returns-in-Ok-clause-unread : goal.returns-in-Ok-clause-unread
 returns-in-Ok-clause-unread g c some = absurd (not-some _ (unrefused _ c.in-Ok.exported c.status_of.ensures) some)
+
+pub returns-in-Ok-clause-leaves : goal.returns-in-Ok-clause-leaves
+returns-in-Ok-clause-leaves g c =
+    let x = c.in-Ok.ensures.ran in
+    ran-others _ _ _ _ c.in-Ok.exported.end _ _ x.run.ran
