@@ -15,7 +15,6 @@ use Rattle.aoe_pcap_audit.specs.declared.stop.AuditStop.TheVariants as stop
 use Rattle.aoe_target.specs.Mounted.{station_of}
 use Rattle.aoe_args.specs.declared.command.Audit.{Audit}
 use Rattle.aoe.specs.Auditing.{JudgesCapture, audited_as}
-use Rattle.aoe.specs.Ending.{refused_slot}
 use Rattle.aoe.specs.Keeping.{refused_alone}
 use Rattle.aoe.specs.declared.status.Status.{Status}
 use Rattle.aoe.specs.declared.status.Status.TheVariants as status
@@ -24,22 +23,6 @@ use Rattle.aoe.specs.declared.status.Status.TheVariants as status
 
 abbrev Ended : Type 0
 Ended = Result Unit AuditStop
-
-pub audited-unrefused : (r : Ended) → refused_slot (audited_as r) ≡ None
-audited-unrefused (Ok done) = refl
-audited-unrefused (Err stop.SourceFault) = refl
-audited-unrefused (Err stop.SinkFault) = refl
-audited-unrefused (Err stop.NoMemory) = refl
-audited-unrefused (Err stop.BadHeader) = refl
-audited-unrefused (Err (stop.BadRecord number)) = refl
-audited-unrefused (Err stop.Records) = refl
-audited-unrefused (Err stop.CaptureBytes) = refl
-audited-unrefused (Err (stop.Finding number kind)) = refl
-
-pub alone-unrefused : (r : MountRefusal) → refused_slot (refused_alone r) ≡ None
-alone-unrefused refusal.Failed = refl
-alone-unrefused (refusal.TooSmall sectors) = refl
-alone-unrefused (refusal.BadKeep slot) = refl
 
 -- the statuses of other commands, and those of a keep that was refused
 abbrev IsOther : Status → Type 0

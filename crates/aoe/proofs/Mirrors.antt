@@ -29,7 +29,7 @@ use Rattle.aoe_args.specs.declared.command.Mirror.{Mirror}
 use Rattle.aoe.specs.Commands.{limit, mirror_options, mirror_plan, target_of}
 use Rattle.aoe.specs.Ending.{after_sync, ended_by, kept_out, left_stale, mirrored_as, stopped_by}
 use Rattle.aoe.specs.Mirror.{ComesToSides, HasSides, LeavesOthers, LeavesStale, RunsMirror, faults_at, four_of, is_kept_out, is_mirror_status}
-use Rattle.aoe.specs.Traits.{Spares, link_of, streams_of}
+use Rattle.aoe.specs.Traits.{IsSpared, link_of, streams_of}
 use Rattle.aoe.specs.declared.status.Status.{Status}
 use Rattle.aoe.specs.declared.status.Status.TheVariants as status
 
@@ -487,7 +487,7 @@ within-four state asked t s a b disks disks' r disk e = let few = (r.blames disk
 module _ {S K L : Type 0} (s : Status) (idle : ℕ) (a b : Outside S K L)
     (memory : s ≡ status.NoMemory → (b.source ≡ a.source) × (b.sink ≡ a.sink) × (b.links ≡ a.links)) where
   pub leaves-by : (w : Bool) → LeavesOthers (if w then plan.Serve (limit None) idle else plan.Answer format.Replies) a b
-      → Spares (streams_of w) s a.source b.source × Spares (streams_of w) s a.sink b.sink × Spares (link_of w) s a.links b.links
+      → IsSpared (streams_of w) s a.source b.source × IsSpared (streams_of w) s a.sink b.sink × IsSpared (link_of w) s a.links b.links
   leaves-by true others = (others.0, others.1, λ e. (memory e).2)
   leaves-by false others = (λ e. (memory e).0, λ e. (memory e).1, others)
 

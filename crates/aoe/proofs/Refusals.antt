@@ -162,11 +162,6 @@ below-false j k above = le-ltb j k above
 above-true : (j k : ℕ) → j < k → nat_lt j k ≡ true
 above-true j k below = lt-ltb j k below
 
--- no keep in front of this one was refused
-unrefused : (s : Status) (slot : ℕ) (o : Option ℕ) → refused_slot s ≡ o → ((k : ℕ) → refused_slot s ≡ Some k → slot ≤ k) → refused_before slot s ≡ false
-unrefused s slot None e later = rw e refl
-unrefused s slot (Some k) e later = rw e (below-false k slot (later k e))
-
 module _ {D : Type 0} (state : D → DiskState) (s : Status) (slot : ℕ) (keep keep' : D) where
   -- the status tells of this slot, and of no other
   told-as : (k : ℕ) → refused_slot s ≡ Some slot → refused_slot s ≡ Some k → slot ≡ k

@@ -8,21 +8,11 @@ use Rattle.aoe_upkeep.specs.Upkeep.{IsCaused, is_disk_fault}
 use Rattle.aoe_upkeep.specs.declared.stop.UpkeepStop.{UpkeepStop}
 use Rattle.aoe_upkeep.specs.declared.stop.UpkeepStop.TheVariants as stop
 use Rattle.aoe_args.specs.declared.command.KeepAction.{KeepAction}
-use Rattle.aoe.specs.Ending.{refused_slot}
 use Rattle.aoe.specs.Keeping.{Acts, RunsKeep, upkept_as}
 use Rattle.aoe.specs.declared.status.Status.{Status}
 use Rattle.aoe.specs.declared.status.Status.TheVariants as status
 
 -- What a status tells of how it ended.
-
-pub upkept-unrefused : (r : Result Unit UpkeepStop) → refused_slot (upkept_as r) ≡ None
-upkept-unrefused (Ok done) = refl
-upkept-unrefused (Err (stop.Keep refusal.Failed)) = refl
-upkept-unrefused (Err (stop.Keep (refusal.TooSmall sectors))) = refl
-upkept-unrefused (Err (stop.Keep (refusal.BadKeep slot))) = refl
-upkept-unrefused (Err stop.Failed) = refl
-upkept-unrefused (Err stop.NoMemory) = refl
-upkept-unrefused (Err stop.SinkFault) = refl
 
 told-small : (r : Result Unit UpkeepStop) (sectors : ℕ) → upkept_as r ≡ status.KeepSmall 0 sectors → r ≡ Err (stop.Keep (refusal.TooSmall sectors))
 told-small (Ok done) sectors e = absurd cc

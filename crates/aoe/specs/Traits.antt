@@ -53,12 +53,12 @@ traits_of (Nbd asked) = row never never never always always always false
 traits_of (Keep action) = row never in_memory always never never never false
 
 -- what becomes of an object
-abbrev pub Spares : {X : Type 0} → Touch → Status → X → X → Type 0
-Spares never s x y = y ≡ x
-Spares in_memory s x y = s ≡ status.NoMemory → y ≡ x
-Spares always s x y = Unit {0}
+abbrev pub IsSpared : {X : Type 0} → Touch → Status → X → X → Type 0
+IsSpared never s x y = y ≡ x
+IsSpared in_memory s x y = s ≡ status.NoMemory → y ≡ x
+IsSpared always s x y = Unit {0}
 
 -- a run that ended so left each object as its row says
 abbrev pub TouchesOnly : {S K D L C P B E : Type 0} → Traits → Status → Objects S K D L C P B E → Objects S K D L C P B E → Type 0
-TouchesOnly t s a b = Spares t.source s a.source b.source × Spares t.sink s a.sink b.sink × Spares t.disks s a.disks b.disks
-    × Spares t.links s a.links b.links × Spares t.clock s a.clock b.clock × Spares t.door s a.door b.door
+TouchesOnly t s a b = IsSpared t.source s a.source b.source × IsSpared t.sink s a.sink b.sink × IsSpared t.disks s a.disks b.disks
+    × IsSpared t.links s a.links b.links × IsSpared t.clock s a.clock b.clock × IsSpared t.door s a.door b.door

@@ -3,7 +3,6 @@ ghost use Rattle.std.specs.Prelude.{◌≡◌, ◌≢◌, ℕ, All, Err, IsSome,
 ghost use Rattle.aoe_base.specs.Faults.{Blamed};
 ghost use Rattle.aoe_args.specs.Words.{CanAudit};
 ghost use Rattle.aoe.specs.Auditing.{JudgesCapture, RunsAudit, audited_as};
-ghost use Rattle.aoe.specs.Ending.{refused_slot};
 
 use crate::status::{Status, What};
 use crate::upkeep::{put_one, refused_alone, take_one};
@@ -43,7 +42,6 @@ fn judge<S: Source, K: Sink, D: Disk>(
     ensures judges { JudgesCapture D.state asked.now result.0 (S.left source.old)
         (S.left source.new) (K.held sink.old) (K.held sink.new) disk result.1 }
     ensures memory { result.0 ≡ Status.NoMemory → sink.new ≡ sink.old }
-    ensures unrefused { refused_slot result.0 ≡ None }
     ensures links { (link : ℕ) → result.0 ≢ Status.LinkFault link }
     ensures usage { result.0 ≢ Status.Usage }
     ensures unheard { result.0 ≢ Status.ClientFault }
@@ -81,7 +79,6 @@ pub(crate) fn run_audit<S: Source, K: Sink, D: Disk + Drop>(
     ensures runs { RunsAudit D.state asked.now result (S.left source.old) (S.left source.new)
         (K.held sink.old) (K.held sink.new) disks.old disks.new }
     ensures memory { result ≡ Status.NoMemory → sink.new ≡ sink.old }
-    ensures unrefused { refused_slot result ≡ None }
     ensures links { (link : ℕ) → result ≢ Status.LinkFault link }
     ensures usage { result ≢ Status.Usage }
     ensures unheard { result ≢ Status.ClientFault }

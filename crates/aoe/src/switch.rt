@@ -1,9 +1,9 @@
 //! A run of a switch: what the frames of the source give, on the sink.
-ghost use Rattle.std.specs.Prelude.{◌≡◌, ◌≢◌, ◌≤◌, ℕ, length, true, None};
+ghost use Rattle.std.specs.Prelude.{◌≡◌, ◌≢◌, ◌≤◌, ℕ, length, true};
 ghost use Rattle.std.specs.List.{list_all};
 ghost use Rattle.aoe_base.specs.Faults.{Blamed};
 ghost use Rattle.aoe_vlan.specs.Tag.{is_numbered};
-ghost use Rattle.aoe.specs.Ending.{refused_slot, switched_as};
+ghost use Rattle.aoe.specs.Ending.{switched_as};
 ghost use Rattle.aoe.specs.Switching.{Switches};
 
 use crate::status::{Status, What};
@@ -41,7 +41,6 @@ pub(crate) fn run_switch<S: Source, K: Sink>(
         (S.left source.new) (K.held sink.old) (K.held sink.new) }
     ensures memory { result ≡ Status.NoMemory → (source.new ≡ source.old)
         × (sink.new ≡ sink.old) }
-    ensures unrefused { refused_slot result ≡ None }
     ensures disks { (disk : ℕ) → result ≢ Status.DiskFault disk }
     ensures links { (link : ℕ) → result ≢ Status.LinkFault link }
     ensures usage { result ≢ Status.Usage }

@@ -1,8 +1,7 @@
 //! The command that works on the keep of a slot that no shelf serves.
-ghost use Rattle.std.specs.Prelude.{◌≡◌, ◌≢◌, [], ◌∷◌, ℕ, All, Err, IfErr, IsSome, None, Some, length};
+ghost use Rattle.std.specs.Prelude.{◌≡◌, ◌≢◌, [], ◌∷◌, ℕ, All, Err, IfErr, IsSome, Some, length};
 ghost use Rattle.aoe_base.specs.Faults.{Blamed};
 ghost use Rattle.aoe_upkeep.specs.Upkeep.{IsCaused};
-ghost use Rattle.aoe.specs.Ending.{refused_slot};
 ghost use Rattle.aoe.specs.Keeping.{Acts, RunsKeep, refused_alone, upkept_as};
 
 use crate::status::Status;
@@ -101,7 +100,6 @@ pub(crate) fn run_keep<K: Sink, D: Disk + Drop>(
     ensures runs { RunsKeep D.state action result (K.held sink.old) (K.held sink.new) disks.old
         disks.new }
     ensures memory { result ≡ Status.NoMemory → sink.new ≡ sink.old }
-    ensures unrefused { refused_slot result ≡ None }
     ensures links { (link : ℕ) → result ≢ Status.LinkFault link }
     ensures source { result ≢ Status.SourceFault }
     ensures usage { result ≢ Status.Usage }

@@ -1,5 +1,5 @@
 use Rattle.std.proofs.Common.{refl}
-use Rattle.aoe.proofs.Audits.{alone-other, alone-quiet, alone-unrefused, audited-memory, audited-other, audited-sink, audited-source, audited-unrefused, judged, kept-out, unblamed}
+use Rattle.aoe.proofs.Audits.{alone-other, alone-quiet, audited-memory, audited-other, audited-sink, audited-source, judged, kept-out, unblamed}
 use Rattle.aoe.proofs.Blame.{retold}
 use Rattle.aoe.proofs.audit.judge.Goals as goal
 
@@ -9,9 +9,6 @@ returns-in-Err-clause-judges g c =
 
 pub returns-in-Err-clause-memory : goal.returns-in-Err-clause-memory
 returns-in-Err-clause-memory g c told = absurd ((alone-quiet c.in-Err.refusal).2 (rw c.refused_alone.ensures at told))
-
-pub returns-in-Err-clause-unrefused : goal.returns-in-Err-clause-unrefused
-returns-in-Err-clause-unrefused g c = rw c.refused_alone.ensures (alone-unrefused c.in-Err.refusal)
 
 pub returns-in-Err-clause-links : goal.returns-in-Err-clause-links
 returns-in-Err-clause-links g c link e = (alone-other c.in-Err.refusal).0 link (rw c.refused_alone.ensures at e)
@@ -37,9 +34,6 @@ returns-clause-judges g c =
 
 pub returns-clause-memory : goal.returns-clause-memory
 returns-clause-memory g c told = audited-memory c.audit_capture-ended.result c.audit_capture-ended.ensures.unwritten (rw c.audited_as.ensures at told)
-
-pub returns-clause-unrefused : goal.returns-clause-unrefused
-returns-clause-unrefused g c = rw c.audited_as.ensures (audited-unrefused c.audit_capture-ended.result)
 
 pub returns-clause-links : goal.returns-clause-links
 returns-clause-links g c link e = (audited-other c.audit_capture-ended.result).0 link (rw c.audited_as.ensures at e)

@@ -1,5 +1,5 @@
 use Rattle.aoe.proofs.Blame.{retold}
-use Rattle.aoe.proofs.Upkeeps.{all-one, runs-keep, upkept-link, upkept-memory, upkept-sink, upkept-source, upkept-unheard, upkept-unrefused, upkept-usage}
+use Rattle.aoe.proofs.Upkeeps.{all-one, runs-keep, upkept-link, upkept-memory, upkept-sink, upkept-source, upkept-unheard, upkept-usage}
 use Rattle.aoe.proofs.upkeep.run_keep.Goals as goal
 
 pub returns-clause-runs : goal.returns-clause-runs
@@ -9,9 +9,6 @@ returns-clause-runs g c =
 
 pub returns-clause-memory : goal.returns-clause-memory
 returns-clause-memory g c told = upkept-memory c.act-ended.result.0 c.act-ended.ensures.unwritten (rw c.upkept_as.ensures at told)
-
-pub returns-clause-unrefused : goal.returns-clause-unrefused
-returns-clause-unrefused g c = rw c.upkept_as.ensures (upkept-unrefused c.act-ended.result.0)
 
 pub returns-clause-links : goal.returns-clause-links
 returns-clause-links g c link e = upkept-link c.act-ended.result.0 link (rw c.upkept_as.ensures at e)
