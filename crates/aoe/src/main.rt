@@ -19,7 +19,7 @@
 //!
 //! Only tested, by the scripts of tests/: that the files and links are those of the arguments in
 //! their order, each status with its text, the log, `--stop`, and every fault of a stream, file,
-//! disk and socket (`check`, `datagrams`, `tools`, `nbd`, `wire`, `mirror`, `adapters`). Nothing is said of time.
+//! disk and socket (`check`, `datagrams`, `cables`, `tools`, `nbd`, `wire`, `mirror`, `adapters`). Nothing is said of time.
 #![tactic(auto)]
 
 ghost use Rattle.std.specs.Prelude.{◌≡◌, ◌≢◌, ◌==◌, ◌↔◌, ◌⊎◌, All, Err, IfErr, IfOk, IsSome, None, Some, false, length, map, string_bytes};
@@ -27,6 +27,7 @@ ghost use Rattle.std.specs.List.{list_all, slice_split};
 ghost use Rattle.aoe_args.specs.Words.{IsInRange, command, file_count, is_word, link_count};
 
 mod audit;
+mod cables;
 mod compare;
 mod door;
 mod live;
@@ -49,15 +50,17 @@ use aoe_args::{
 use aoe_base::{Blob, NoMemory};
 use aoe_clients::Clients;
 use aoe_disk::Disk;
+use aoe_io::{Sink, Source};
 use aoe_system::{
-    Carrier, ClientLog, FileDisk, FileRefusal, Flow, Input, KeepDoubt, Output, PollBell,
-    SocketRefusal, StopFile, SystemClock, UnixClients, Until, Waiter, Wire, say, variable_of,
-    words,
+    CableSink, Cables, Carrier, ClientLog, FileDisk, FileRefusal, Flow, Input, KeepDoubt, Output,
+    PollBell, SocketRefusal, StopFile, SystemClock, UnixClients, Until, Waiter, Wire, say,
+    variable_of, words,
 };
 use aoe_tap::{OpenRefusal as TapRefusal, TapMedium};
 use aoe_tools::Refusal;
 use aoe_udp::{OpenRefusal, UdpMedium};
 use aoe_wire::WireLink;
+use cables::{open_cables, open_source};
 use door::{Door, Stopping};
 use log::Log;
 use settle::Settling;
@@ -360,22 +363,17 @@ fn look_at_keeps(
     Ok(())
 }
 
-/// Opens a link over UDP; the exit status where it can't be opened, which is said.
-fn open_udp<'a>(
+/// Opens a socket; the exit status where it can't be opened, which is said.
+fn open_udp(
     rt: &HostRuntime,
     local: &Blob,
     peers: &Blob,
     vxlan: Option<u32>,
-    waiter: &'a Waiter,
-) -> Result<WireLink<Wire<'a>>, u8>
-    ensures { IfOk result (λ link. link.peers ≡ length (slice_split (λ c. c == 44) peers.now)) }
+) -> Result<UdpMedium, u8>
+    ensures { IfOk result (λ udp. length udp.peers.items ≡ length (slice_split (λ c. c == 44) peers.now)) }
 {
     match UdpMedium::open(rt, rt.alloc(), local.bytes(), peers.bytes(), vxlan) {
-        Ok(udp) => {
-            let count = udp.peers();
-            let wire = Wire::new(Carrier::Udp(udp), waiter);
-            Ok(WireLink::new(wire, count))
-        }
+        Ok(udp) => Ok(udp),
         Err(OpenRefusal::NoMemory) => Err(tell(rt, Status::NoMemory)),
         Err(OpenRefusal::Vxlan) => Err(tell(rt, Status::Usage)),
         Err(OpenRefusal::Repeated) => Err(tell_ends(rt, peers.bytes(), b": a peer is named twice")),
@@ -386,16 +384,13 @@ fn open_udp<'a>(
     }
 }
 
-/// Opens a link over a tap file, whose one peer is the wire; the exit status where it can't be opened,
-/// which is said.
-fn open_tap<'a>(rt: &HostRuntime, file: &Blob, waiter: &'a Waiter) -> Result<WireLink<Wire<'a>>, u8>
-    ensures { IfOk result (λ link. link.peers ≡ 1) }
-{
+/// Opens a tap file; the exit status where it can't be opened, which is said.
+fn open_tap(rt: &HostRuntime, file: &Blob) -> Result<TapMedium, u8> {
     let Ok(name) = str::from_utf8(file.bytes()) else {
         return Err(tell_unopened(rt, file.bytes(), NO_TAP, 6));
     };
     match TapMedium::open(rt, rt.alloc(), name) {
-        Ok(tap) => Ok(WireLink::new(Wire::new(Carrier::Tap(tap), waiter), 1)),
+        Ok(tap) => Ok(tap),
         Err(TapRefusal::NoMemory) => Err(tell(rt, Status::NoMemory)),
         Err(TapRefusal::Unopened(error)) => Err(tell_unlinked(rt, file.bytes(), error)),
         Err(TapRefusal::Kind) => Err(tell_unopened(rt, file.bytes(), NO_TAP, 6)),
@@ -414,8 +409,15 @@ fn open_link<'a>(
             local,
             peers,
             vxlan,
-        } => open_udp(rt, local, peers, *vxlan, waiter),
-        PortWords::Tap { file } => open_tap(rt, file, waiter),
+        } => {
+            let udp = open_udp(rt, local, peers, *vxlan)?;
+            let count = udp.peers();
+            Ok(WireLink::new(Wire::new(Carrier::Udp(udp), waiter), count))
+        }
+        PortWords::Tap { file } => {
+            let wire = Wire::new(Carrier::Tap(open_tap(rt, file)?), waiter);
+            Ok(WireLink::new(wire, 1))
+        }
     }
 }
 
@@ -547,8 +549,46 @@ fn say_slip(rt: &HostRuntime, words: &[String]) {
     }
 }
 
-/// Runs the command over its streams, its files, which have these names, its links and the clock. The flow
-/// is told how far a copy has come, and a teller which device is served.
+/// Runs the command over a source and a sink, its files, which have these names, its links and the clock. The
+/// flow is told how far a copy has come, and a teller which device is served.
+fn run_between<S: Source, K: Sink>(
+    rt: &HostRuntime,
+    command: &Command,
+    source: &mut S,
+    sink: &mut K,
+    files: &[String],
+    disks: &mut [Option<FileDisk>],
+    links: &mut [Until<WireLink<Wire>>],
+    flow: &Flow,
+    disk: &Option<DiskTeller>,
+    door: &mut Door<UnixClients, PollBell, Stopping>,
+) -> Status
+    requires range { IsInRange command.now }
+    requires count { length disks.old ≡ file_count command.now }
+    requires there { All IsSome disks.old }
+    requires links { length links.old ≡ link_count command.now }
+    requires nobody { ⟦<UnixClients as Clients>⟧.connected door.old.clients ≡ false }
+{
+    let mut clock = SystemClock::new(rt);
+    let mut watch = Teller::new(flow, disk);
+    let sides = SideTeller::new(rt, files);
+    let status = aoe(
+        rt.alloc(),
+        command,
+        source,
+        sink,
+        disks,
+        links,
+        &mut clock,
+        &mut watch,
+        sides,
+        door,
+    );
+    flow.close();
+    status
+}
+
+/// Runs the command over its streams, its files, which have these names, and its links.
 fn run_over(
     rt: &HostRuntime,
     command: &Command,
@@ -572,23 +612,75 @@ fn run_over(
     };
     let mut source = Input::new(reader);
     let mut sink = Output::new(writer);
-    let mut clock = SystemClock::new(rt);
-    let mut watch = Teller::new(flow, disk);
-    let sides = SideTeller::new(rt, files);
-    let status = aoe(
-        rt.alloc(),
+    run_between(
+        rt,
         command,
         &mut source,
         &mut sink,
+        files,
         disks,
         links,
-        &mut clock,
-        &mut watch,
-        sides,
+        flow,
+        disk,
         door,
-    );
-    flow.close();
-    status
+    )
+}
+
+/// Runs a command that has neither files nor links over a source and a sink, and gives its status; the exit
+/// status where there is no memory, which is said.
+fn run_alone<S: Source, K: Sink>(
+    rt: &HostRuntime,
+    command: &Command,
+    source: &mut S,
+    sink: &mut K,
+) -> Result<Status, u8>
+    requires range { IsInRange command.now }
+    requires files { file_count command.now ≡ 0 }
+    requires links { link_count command.now ≡ 0 }
+{
+    let flow = Flow::nowhere(rt);
+    let waiter = Waiter::medium();
+    let mut door = open_door(rt, None, None, &[], &waiter, false)?;
+    Ok(run_between(
+        rt,
+        command,
+        source,
+        sink,
+        &[],
+        &mut [],
+        &mut [],
+        &flow,
+        &None,
+        &mut door,
+    ))
+}
+
+/// Runs a switch over the links of its ports, until a file of this name is there or so many turns were
+/// quiet, and gives the exit status. A run has a limit of frames, which links don't: a new one goes on.
+fn run_cabled(
+    rt: &HostRuntime,
+    command: &Command,
+    cables: &Cables,
+    stop: Option<String>,
+    idle: Option<u32>,
+) -> u8
+    requires range { IsInRange command.now }
+    requires files { file_count command.now ≡ 0 }
+    requires links { link_count command.now ≡ 0 }
+{
+    let mut source = match open_source(rt, cables, stop, idle) {
+        Ok(source) => source,
+        Err(code) => return code,
+    };
+    let mut sink = CableSink::new(cables);
+    'runs: for _ in 0..u64::MAX {
+        match run_alone(rt, command, &mut source, &mut sink) {
+            Ok(Status::Limit(_)) => {}
+            Ok(status) => return tell(rt, status),
+            Err(code) => return code,
+        }
+    }
+    0
 }
 
 /// What is known of how far a command comes: of a copy it is told.
@@ -762,6 +854,13 @@ fn run_line(rt: &HostRuntime, mut line: CommandLine) -> u8
         && fs::exists(rt, name.as_str()).unwrap_or(false)
     {
         return tell_stopped(rt, name.as_bytes());
+    }
+    let cables = match open_cables(rt, &line) {
+        Ok(cables) => cables,
+        Err(code) => return code,
+    };
+    if let (Command::Switch(_), Some(cables)) = (&line.command, &cables) {
+        return run_cabled(rt, &line.command, cables, line.stop.take(), line.cable_idle);
     }
     let mut log = Log::asked(rt, is_on_link(&line.command));
     let settling = match Settling::open(rt, line.alone.take(), line.lead_other, &mut log) {

@@ -1,5 +1,6 @@
 -- Read `AppLemmas` (what clap finds and refuses is known) and `ParsedLemmas` first.
 mod AppLemmas
+mod CableLemmas
 mod FindLemmas
 mod LinkLemmas
 mod ListedLemmas

@@ -115,9 +115,9 @@ live_ends = with_rule (with_rule (with_rule live_front (optional (codes "one")))
 abbrev pub live_app : App
 live_app = with_rule (with_rule (with_rule live_ends (optional (codes "one-tap"))) (optional (codes "two-tap"))) (optional (codes "turns"))
 
--- switch PORT PORT ..
+-- switch PORT PORT .., with the options of its links
 abbrev pub switch_app : App
-switch_app = with_rule (bare (codes "switch")) (several (codes "ports"))
+switch_app = with_rule (with_rule (with_rule (bare (codes "switch")) (several (codes "ports"))) (optional (codes "idle"))) (optional (codes "stop"))
 
 -- keep KEEP ACTION [LIST]
 abbrev pub keep_app : App

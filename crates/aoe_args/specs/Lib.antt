@@ -1,4 +1,5 @@
 pub mod Apps
+pub mod Cables
 pub mod Lacks
 pub mod Places
 pub mod Slips

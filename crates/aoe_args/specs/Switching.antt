@@ -7,6 +7,7 @@ use Rattle.aoe_base.specs.Texts.{each}
 use Rattle.aoe_vlan.specs.Tag.{carries, is_numbered}
 use Rattle.aoe_vlan.specs.declared.port.PortKind.{PortKind}
 use Rattle.aoe_vlan.specs.declared.port.PortKind.TheVariants.{Access, Trunk}
+use Rattle.aoe_args.specs.Cables.{kind_text}
 use Rattle.aoe_args.specs.Values.{number_within, up_to}
 use Rattle.aoe_args.specs.declared.command.Switch.{Switch}
 
@@ -14,7 +15,7 @@ use Rattle.aoe_args.specs.declared.command.Switch.{Switch}
 abbrev pub vid_of : Text → Option ℕ
 vid_of = number_within 1 4094
 
--- ---- PORT: access:VID, or trunk:VID,VID ..
+-- ---- PORT: access:VID, or trunk:VID,VID .., with or without a link
 
 abbrev pub access_of : Text → Option PortKind
 access_of text = option_map Access (vid_of text)
@@ -29,11 +30,15 @@ abbrev pub trunk_of : Text → Option PortKind
 trunk_of text = option_and_then (λ numbers. if all_different numbers then Some (Trunk (record { items = numbers })) else None)
     (up_to 64 (each vid_of (slice_split (λ c. c == 44) text)))
 
-abbrev pub kind_of : Text → Option PortKind
-kind_of word =
-    if bytes_eq (take 7 word) (codes "access:") then access_of (drop 7 word)
-    else if bytes_eq (take 6 word) (codes "trunk:") then trunk_of (drop 6 word)
+abbrev pub plain_kind_of : Text → Option PortKind
+plain_kind_of text =
+    if bytes_eq (take 7 text) (codes "access:") then access_of (drop 7 text)
+    else if bytes_eq (take 6 text) (codes "trunk:") then trunk_of (drop 6 text)
     else None
+
+-- a link may stand behind it
+abbrev pub kind_of : Text → Option PortKind
+kind_of word = plain_kind_of (kind_text word)
 
 -- ---- PORT PORT ..
 

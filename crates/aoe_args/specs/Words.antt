@@ -17,6 +17,7 @@ use Rattle.aoe_base.specs.declared.address.TargetId.{TargetId}
 use Rattle.aoe_base.specs.Addresses.{all_unique, is_individual}
 use Rattle.aoe_base.specs.Sizes.{most_cached, most_simulated}
 use Rattle.aoe_args.specs.Apps.{aoe_app}
+use Rattle.aoe_args.specs.Cables.{cables_of}
 use Rattle.aoe_args.specs.Values.{default_port, given, given_or, idle_of, is_set, link, number_within, port_of, ports_of, two_ends}
 use Rattle.aoe_args.specs.Switching.{CanSwitch, kinds_of}
 use Rattle.aoe_args.specs.Tools.{CanAsk, CanCfg, CanMask, CanReserve, CanFlush, CanGet, CanNbd, CanPut, IsSocketPath, discover_of, stat_of, cfg_of, mask_of, reserve_of, flush_of, get_of, input, nbd_of, output, put_of, socket_path}
@@ -272,7 +273,8 @@ live_of rows =
 -- switch PORT PORT ..
 unfoldable pub switch_of : List Row → Option Switches
 switch_of rows =
-    option_and_then (λ words. option_map (λ kinds. record { ports = record { items = kinds } }) (kinds_of words)) (all_of (codes "ports") rows)
+    option_and_then (λ idle. option_and_then (λ words. option_map (λ kinds. record { ports = record { items = kinds } })
+    (kinds_of words)) (all_of (codes "ports") rows)) (idle_of rows)
 
 -- keep KEEP clear LIST: what of it is to be emptied
 abbrev pub clear_action : Text → Option KeepAction
@@ -418,7 +420,7 @@ stop_in (Audit audit) rows = None
 stop_in Replay rows = None
 stop_in (Soak soak) rows = None
 stop_in (Live live) rows = None
-stop_in (Switch asked) rows = None
+stop_in (Switch asked) rows = first_of (codes "stop") rows
 stop_in (Ask tool) rows = None
 stop_in (Get get) rows = None
 stop_in (Put put) rows = None
@@ -534,6 +536,46 @@ leads_other_in (Keep action) rows = false
 
 abbrev pub leads_other : List Text → Bool
 leads_other words = option_map_or (λ p. leads_other_in p.0 p.1) (spelled words) false
+
+-- what names the links of a switch's ports, each where it has one
+abbrev pub cables_in : Command → List Row → List (Option PortWords)
+cables_in (Answer answer) rows = []
+cables_in (Serve serve) rows = []
+cables_in (Mirror asked) rows = []
+cables_in Compare rows = []
+cables_in (Audit audit) rows = []
+cables_in Replay rows = []
+cables_in (Soak soak) rows = []
+cables_in (Live live) rows = []
+cables_in (Switch asked) rows = option_map_or cables_of (all_of (codes "ports") rows) []
+cables_in (Ask tool) rows = []
+cables_in (Get get) rows = []
+cables_in (Put put) rows = []
+cables_in (Nbd nbd) rows = []
+cables_in (Keep action) rows = []
+
+abbrev pub cables : List Text → List (Option PortWords)
+cables words = option_map_or (λ p. cables_in p.0 p.1) (spelled words) []
+
+-- how many quiet turns of them end its run
+abbrev pub cable_idle_in : Command → List Row → Option ℕ
+cable_idle_in (Answer answer) rows = None
+cable_idle_in (Serve serve) rows = None
+cable_idle_in (Mirror asked) rows = None
+cable_idle_in Compare rows = None
+cable_idle_in (Audit audit) rows = None
+cable_idle_in Replay rows = None
+cable_idle_in (Soak soak) rows = None
+cable_idle_in (Live live) rows = None
+cable_idle_in (Switch asked) rows = unwrap_or (idle_of rows) None
+cable_idle_in (Ask tool) rows = None
+cable_idle_in (Get get) rows = None
+cable_idle_in (Put put) rows = None
+cable_idle_in (Nbd nbd) rows = None
+cable_idle_in (Keep action) rows = None
+
+abbrev pub cable_idle : List Text → Option ℕ
+cable_idle words = option_and_then (λ p. cable_idle_in p.0 p.1) (spelled words)
 
 -- what names its links: the one that it has, and two
 abbrev pub one_link : List Row → List PortWords

@@ -188,7 +188,7 @@ pub(crate) static FORMS: [Form; 19] = [
             TURNS,
         ],
     ),
-    ("switch", &[("ports", Several)]),
+    ("switch", &[("ports", Several), IDLE, STOP]),
     (
         "discover",
         &[LOCAL, PEERS, VXLAN, TAP, PORT, TURNS, ("long", Flag)],

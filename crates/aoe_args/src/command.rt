@@ -124,8 +124,8 @@ pub struct Live {
 /// The kinds of a switch's ports, which count from 0.
 pub type PortKinds = ArrayVec<PortKind, MAX_PORTS>;
 
-/// What `switch PORT PORT ..` asks for: to carry the frames of a stream between ports, and to keep
-/// their VLANs apart.
+/// What `switch PORT PORT ..` asks for: to carry the frames of a stream, or of the links of its ports,
+/// between ports, and to keep their VLANs apart.
 #[derive(Drop, PartialEq, Eq)]
 pub struct Switch {
     /// Of which VLANs each port is: 2 to 16 ports, of 64 VLANs at most.
@@ -405,8 +405,8 @@ pub struct CommandLine {
     /// other commands.
     pub socket: Option<String>,
 
-    /// The name of the file whose coming ends the run: what `--stop` of `serve`, `mirror` or `nbd` gives,
-    /// where it stands.
+    /// The name of the file whose coming ends the run: what `--stop` of `serve`, `mirror`, `switch` or `nbd`
+    /// gives, where it stands.
     pub stop: Option<String>,
 
     /// The name of the file that is written in place of standard output: what `--output` of `get` gives,
@@ -428,4 +428,11 @@ pub struct CommandLine {
     /// Whether a side may lead from now on that lacks sectors of the one that led: `--lead-other` of
     /// `mirror`.
     pub lead_other: bool,
+
+    /// What names the link of each port of `switch`, where it has one; nothing for the other commands.
+    pub cables: Vec<Option<PortWords>>,
+
+    /// How many turns without a frame, one behind the other, end a switch with links: `--idle` of `switch`;
+    /// none for the other commands.
+    pub cable_idle: Option<u32>,
 }

@@ -21,7 +21,8 @@
 //! Promised: unless memory is short, `read_words` returns the command that the arguments spell by
 //! `command`, and none exactly where they spell none; with it files (`file_names`), links (`port_words`),
 //! socket (`socket_name`), stop file (`stop_name`), files of a copy (`output_name`, `input_part`),
-//! `is_told`, the side of a mirror that is there (`alone_of`) and `leads_other`. Numbers are in their
+//! `is_told`, the side of a mirror that is there (`alone_of`), `leads_other`, and the links of a switch
+//! (`cables`), of which [`cable_fault`] says what is wrong. Numbers are in their
 //! ranges (`IsInRange`, `IsPart`), and the path of a socket has 1 to 107 bytes (`IsSocketPath`). `slip_of` returns none exactly for a command; else the argument that it
 //! names is there, and its reason holds of it or of all (`IsSlip`): an option is the command's or isn't
 //! (`option_at`), a text isn't what its argument has to be (`IsUnfit`), what is missing is missing
@@ -37,6 +38,7 @@
 
 mod app;
 mod bounds;
+mod cables;
 mod command;
 mod files;
 mod lack;
@@ -54,6 +56,7 @@ mod tools;
 mod values;
 mod word;
 
+pub use cables::{CableFault, cable_fault};
 pub use command::{
     Alone, Answer, Asking, Audit, Cfg, Command, CommandLine, Discover, Flush, Get, InputFile,
     KeepAction, Live, Mask, Mirror, Nbd, PortKinds, PortWords, Put, Reserve, Serve, Soak, Stat,

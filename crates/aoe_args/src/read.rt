@@ -3,11 +3,12 @@ ghost use Rattle.std.specs.Prelude.{◌≡◌, ◌≢◌, ◌≤◌, length, fal
 ghost use Rattle.std.specs.List.{list_all, list_any};
 ghost use Rattle.clap.specs.Values.{kind_of};
 ghost use Rattle.clap.specs.Words.{found_of, rows_of};
-ghost use Rattle.aoe_args.specs.Words.{CanRun, CanServe, Fits, IsFoundIn, IsInRange, alone_in, alone_of, alone_words, answer_of, are_words, asked_of, audit_of, command, command_of, file_count, file_names, files_of, holds_back_durably, input_in, input_part, is_durable, is_hyphen, is_mirror, is_told, is_told_in, is_word, clear_action, plain_action, keep_name, keep_of, leads_other, leads_other_in, link_count, links_of, list_tool_of, listens, live_of, output_in, output_name, parsed, port_words, run_of, serve_of, serve_with, soak_of, socket_in, socket_name, stop_in, stop_name, switch_of, tool_of};
+ghost use Rattle.aoe_args.specs.Words.{CanRun, CanServe, Fits, IsFoundIn, IsInRange, alone_in, alone_of, alone_words, answer_of, are_words, asked_of, audit_of, cable_idle, cable_idle_in, cables, cables_in, command, command_of, file_count, file_names, files_of, holds_back_durably, input_in, input_part, is_durable, is_hyphen, is_mirror, is_told, is_told_in, is_word, clear_action, plain_action, keep_name, keep_of, leads_other, leads_other_in, link_count, links_of, list_tool_of, listens, live_of, output_in, output_name, parsed, port_words, run_of, serve_of, serve_with, soak_of, socket_in, socket_name, stop_in, stop_name, switch_of, tool_of};
 ghost use Rattle.aoe_args.specs.Values.{idle_of, link};
 ghost use Rattle.aoe_args.specs.Tools.{IsPart, IsSocketPath, part_words};
 
 use crate::app::matches;
+use crate::cables::all_cables;
 use crate::bounds::{
     CACHE, FRAMES, LAST_SEED, LIVE_COMMANDS, LIVE_SECTORS, MOST_CAPTURED_SECTORS, MTU,
     SOAK_COMMANDS, TURNS,
@@ -239,6 +240,7 @@ fn switch_of(found: &ArgMatches) -> Option<Command>
     ensures value { result ≡ option_map Command.Switch (switch_of (rows_of (found_of found.now))) }
     ensures fits { IfSome result (Fits (rows_of (found_of found.now))) }
 {
+    let _idle = idle_of(found)?;
     Some(Command::Switch(Switch {
         ports: read_kinds(texts(found, "ports")?)?,
     }))
@@ -477,10 +479,9 @@ fn stop_of(alloc: Global, command: &Command, found: &ArgMatches) -> Result<Optio
         ≡ stop_in command.now (rows_of (found_of found.now))) }
 {
     match command {
-        Command::Serve(_) | Command::Mirror(_) | Command::Nbd(_) => copy(
-            alloc,
-            text(found, "stop"),
-        ),
+        Command::Serve(_) | Command::Mirror(_) | Command::Switch(_) | Command::Nbd(_) => {
+            copy(alloc, text(found, "stop"))
+        }
         _ => Ok(None),
     }
 }
@@ -548,6 +549,31 @@ fn leads_other_in(command: &Command, found: &ArgMatches) -> bool
     }
 }
 
+/// What names the link of each port of a switch, where it has one.
+fn cables_of(
+    alloc: Global,
+    command: &Command,
+    found: &ArgMatches,
+) -> Result<Vec<Option<PortWords>>, NoMemory>
+    ensures { IfOk result (λ cables. cables.items
+        ≡ cables_in command.now (rows_of (found_of found.now))) }
+{
+    match (command, texts(found, "ports")) {
+        (Command::Switch(_), Some(words)) => all_cables(alloc, words),
+        _ => Ok(Vec::new(alloc)),
+    }
+}
+
+/// How many quiet turns of its links end a switch.
+fn cable_idle_of(command: &Command, found: &ArgMatches) -> Option<u32>
+    ensures { result ≡ cable_idle_in command.now (rows_of (found_of found.now)) }
+{
+    match command {
+        Command::Switch(_) => idle_of(found).unwrap_or(None),
+        _ => None,
+    }
+}
+
 /// What the arguments behind the program's name spell, or `None` where they spell no command. Memory is
 /// asked for once each argument can stand on a command line.
 pub fn read_words(alloc: Global, words: &[String]) -> Result<Option<CommandLine>, NoMemory>
@@ -583,6 +609,10 @@ pub fn read_words(alloc: Global, words: &[String]) -> Result<Option<CommandLine>
     ensures side { IfOk result (λ r. IfSome r (λ line. IfSome line.alone (λ a. a.side ≤ 1))) }
     ensures leads_other { IfOk result (λ r. IfSome r (λ line. line.lead_other
         ≡ leads_other (map string_bytes words.now))) }
+    ensures cables { IfOk result (λ r. IfSome r (λ line. line.cables.items
+        ≡ cables (map string_bytes words.now))) }
+    ensures cable_idle { IfOk result (λ r. IfSome r (λ line. line.cable_idle
+        ≡ cable_idle (map string_bytes words.now))) }
     ensures words { list_all is_word (map string_bytes words.now) ≡ false → result ≡ Ok None }
 {
     let Some((name, found)) = parsed(alloc, words)? else {
@@ -601,6 +631,8 @@ pub fn read_words(alloc: Global, words: &[String]) -> Result<Option<CommandLine>
         is_told: is_told_in(&command, &found),
         alone: alone_of(alloc, &command, &found)?,
         lead_other: leads_other_in(&command, &found),
+        cables: cables_of(alloc, &command, &found)?,
+        cable_idle: cable_idle_of(&command, &found),
         command: run_of(command, &found),
     }))
 }

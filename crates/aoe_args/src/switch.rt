@@ -3,11 +3,12 @@ ghost use Rattle.std.specs.Prelude.{◌≡◌, ◌≤◌, ◌==◌, length, map,
 ghost use Rattle.std.specs.List.{list_all, list_any, slice_split};
 ghost use Rattle.aoe_base.specs.Texts.{each};
 ghost use Rattle.aoe_vlan.specs.Tag.{carries, is_numbered, is_vid};
-ghost use Rattle.aoe_args.specs.Switching.{access_of, all_different, is_port_count, kind_of, kinds_of, trunk_of, vid_of, vlans_of};
+ghost use Rattle.aoe_args.specs.Switching.{access_of, all_different, is_port_count, kind_of, kinds_of, plain_kind_of, trunk_of, vid_of, vlans_of};
 ghost use Rattle.aoe_args.specs.Values.{up_to};
 
 use crate::PortKinds;
 use crate::bounds::Bounds;
+use crate::cables::kind_text;
 use crate::values::number_within;
 use aoe_vlan::{MAX_PORTS, MAX_VLANS, PortKind};
 use arrayvec::ArrayVec;
@@ -83,15 +84,23 @@ fn read_trunk(text: &[u8]) -> Option<PortKind>
     }
 }
 
-/// The port that a word spells: `access:VID` or `trunk:VID,VID ..`.
+/// The port that a text spells: `access:VID` or `trunk:VID,VID ..`.
+fn read_plain_kind(text: &[u8]) -> Option<PortKind>
+    ensures value { result ≡ plain_kind_of text.now }
+    ensures range { IfSome result (λ kind. is_numbered kind ≡ true) }
+{
+    if let Some(vid) = text.strip_prefix(b"access:") {
+        return read_access(vid);
+    }
+    read_trunk(text.strip_prefix(b"trunk:")?)
+}
+
+/// The port that a word spells, whatever its link.
 pub(crate) fn read_kind(word: &[u8]) -> Option<PortKind>
     ensures value { result ≡ kind_of word.now }
     ensures range { IfSome result (λ kind. is_numbered kind ≡ true) }
 {
-    if let Some(vid) = word.strip_prefix(b"access:") {
-        return read_access(vid);
-    }
-    read_trunk(word.strip_prefix(b"trunk:")?)
+    read_plain_kind(kind_text(word))
 }
 
 /// The ports that words spell, one each.

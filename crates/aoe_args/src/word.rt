@@ -29,7 +29,7 @@ pub(crate) fn is_value(text: &[u8]) -> bool
 }
 
 /// Where a byte stands first in a text.
-fn place_of(byte: u8, text: &[u8]) -> Option<usize>
+pub(crate) fn place_of(byte: u8, text: &[u8]) -> Option<usize>
     ensures { result ≡ position (λ other. other == byte) text.now }
 {
     text.iter().position(|other| *other == byte)

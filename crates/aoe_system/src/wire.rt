@@ -25,7 +25,8 @@ pub struct Wire<'a> {
 }
 
 impl Carrier {
-    fn make_nonblocking(&mut self) -> io::Result<()> {
+    /// From now on a call that takes waits for nothing.
+    pub(crate) fn make_nonblocking(&mut self) -> io::Result<()> {
         match self {
             Carrier::Udp(udp) => udp.make_nonblocking(),
             Carrier::Tap(tap) => {
@@ -63,12 +64,18 @@ impl<'a> Wire<'a> {
     }
 }
 
-impl AsRawFd for Wire<'_> {
+impl AsRawFd for Carrier {
     fn as_raw_fd(&self) -> RawFd {
-        match &self.carrier {
+        match self {
             Carrier::Udp(udp) => udp.as_raw_fd(),
             Carrier::Tap(tap) => tap.as_raw_fd(),
         }
+    }
+}
+
+impl AsRawFd for Wire<'_> {
+    fn as_raw_fd(&self) -> RawFd {
+        self.carrier.as_raw_fd()
     }
 }
 

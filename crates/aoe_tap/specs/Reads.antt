@@ -1,6 +1,6 @@
 -- What a read of a tap file brings: ten bytes of offload header (virtio 1.2, section 5.1.6, without the count of buffers),
 -- then a frame.
-use Rattle.std.specs.Prelude.{ℕ, Bool, not, ◌&&◌, List, length, take, drop, replicate, nat_le, if◌then◌else◌}
+use Rattle.std.specs.Prelude.{ℕ, ◌%◌, ◌==◌, Bool, not, ◌&&◌, List, length, take, drop, replicate, nat_le, slice_index, if◌then◌else◌}
 use Rattle.std.specs.Str.{bytes_eq}
 use Rattle.aoe_wire.specs.Frames.{is_aoe}
 use Rattle.aoe_tap.specs.declared.read.Read.{Read}
@@ -20,3 +20,7 @@ read_of bytes =
     if not (has_frame bytes) then read.Foreign
     else if is_plain (take 10 bytes) then read.Frame
     else read.Offloaded
+
+-- nothing of a frame is left to its receiver: the flag VIRTIO_NET_HDR_F_NEEDS_CSUM (1) isn't set, and the type of segmentation is VIRTIO_NET_HDR_GSO_NONE (0)
+abbrev pub is_whole : List ℕ → Bool
+is_whole head = (slice_index head 0 % 2 == 0) && (slice_index head 1 == 0)

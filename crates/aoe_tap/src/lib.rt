@@ -31,3 +31,4 @@ mod read;
 
 pub use errors::OpenRefusal;
 pub use medium::TapMedium;
+pub use read::{HEAD_LEN, is_whole};

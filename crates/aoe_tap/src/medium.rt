@@ -1,6 +1,7 @@
 //! A tap file as a medium. It tells nothing of what it gives and takes.
 ghost use Rattle.std.specs.Prelude.{◌≡◌, ◌≢◌, ◌≤◌, ◌^◌, ◌+◌, ◌-◌, None, Some, true, false, IfOk, length, min};
 ghost use Rattle.std.specs.Fd.{file_raw_fd};
+ghost use Rattle.std.specs.Io.{ReadsAtMost};
 
 use crate::errors::{OpenRefusal, Trouble, given_of, trouble_of};
 use crate::read::{HEAD_LEN, PLAIN, Read, hand_over};
@@ -125,6 +126,24 @@ impl TapMedium {
             // What ended the wait is gone again.
             Err(Trouble::Empty) if !self.events.is_empty() => Err(Trouble::Interrupted),
             answer => answer,
+        }
+    }
+
+    /// Fills the front of `out` with the next read, whatever it brings: the header, then a frame. Says how
+    /// many bytes that are. What `out` has no room for is cut off.
+    pub fn take_any(&self, out: &mut [u8]) -> io::Result<usize>
+        ensures bound { ReadsAtMost result out.new }
+        ensures len { length out.new ≡ length out.old }
+    {
+        let mut file = &self.file;
+        file.read(out)
+    }
+
+    /// Writes a frame. Where it would have to wait the frame is lost.
+    pub fn offer(&self, frame: &[u8]) -> Given {
+        match self.write(frame) {
+            Ok(_) => Given::Sent,
+            Err(error) => given_of(&error),
         }
     }
 

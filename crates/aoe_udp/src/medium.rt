@@ -1,6 +1,7 @@
 //! A UDP socket as a medium. It tells nothing of what it gives and takes.
 ghost use Rattle.std.specs.Prelude.{◌≡◌, ◌==◌, ◌≤◌, ◌<◌, ℤ, Option, List, None, Some, Err, true, false, IfOk, IfSome, OnErr, OnOk, length};
 ghost use Rattle.std.proofs.Props.{props};
+ghost use Rattle.std.specs.Io.{ReadsAtMost};
 ghost use Rattle.std.specs.List.{slice_split};
 ghost use Rattle.std.specs.declared.net.socket_addr.SocketAddr.{SocketAddr};
 ghost use Rattle.std.specs.Net.Udp.{udp_raw_fd};
@@ -165,6 +166,26 @@ impl UdpMedium {
     /// That something was dropped now.
     fn dropped(&self) -> Taken {
         Taken::Dropped(time_of(&self.rt))
+    }
+
+    /// Fills the front of `out` with the next datagram, whatever it is, and says how many bytes of it. What
+    /// `out` has no room for is cut off.
+    pub fn take_any(&self, out: &mut [u8]) -> io::Result<usize>
+        ensures bound { ReadsAtMost result out.new }
+        ensures len { length out.new ≡ length out.old }
+    {
+        self.socket.recv(out)
+    }
+
+    /// Sends a frame to the first peer. Where it would have to wait the frame is lost.
+    pub fn offer(&self, frame: &[u8]) -> Given {
+        let Some(address) = self.peers.first() else {
+            return Given::Lost;
+        };
+        match self.socket.send_to(frame, *address) {
+            Ok(_) => Given::Sent,
+            Err(error) => given_of(&error),
+        }
     }
 
     /// Sends a datagram to an address. It may be lost.
