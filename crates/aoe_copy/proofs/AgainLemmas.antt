@@ -32,14 +32,14 @@ starts-again d = record { matches = d.matches; tags = d.tags }
 
 -- as many bytes come back as were asked for
 pub back-long : {b : Start} {p : Plan} {turns : ℕ} {seen now : Seen} {back : List ℕ} → IsStart b
-    → Runs (Ok record {}) b p turns (record { link = seen; held = Some [] }) (record { link = now; held = Some back }) → length back ≡ 512 * p.count
+    → Runs (Ok record {}) b p turns (holding [] seen) (holding back now) → length back ≡ 512 * p.count
 back-long {b} {p} {turns} {back = back} start r =
     let is : back ≡ written r.steps = same_Some _ _ r.ends.0.wrote in
     let long = (front-law b start p (patience turns) r.steps r.are).long in
     ap (λ (l : List ℕ). length l) is ∙ long ∙ ap (λ (n : ℕ). 512 * n) r.ends.2
 
 pub long-ok : (read : Result Unit CopyRefusal) {b : Start} {p : Plan} {turns : ℕ} {seen now : Seen} {back : List ℕ} (sent : List ℕ) → IsStart b
-    → Runs read b p turns (record { link = seen; held = Some [] }) (record { link = now; held = Some back }) → p.count ≡ length sent / 512
+    → Runs read b p turns (holding [] seen) (holding back now) → p.count ≡ length sent / 512
     → length sent % 512 ≡ 0 → OnOk read (length back ≡ length sent)
 long-ok (Ok done) sent start r count whole = omega (arith, back-long start r, count, whole)
 long-ok (Err e) sent start r count whole = tt

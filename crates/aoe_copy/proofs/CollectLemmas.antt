@@ -1,5 +1,5 @@
 -- The first part of a turn: the clock answers, outcomes are taken, and the sink takes sectors.
-use Rattle.std.proofs.Common.{ℕ, suc, ◌≡◌, ◌+◌, ◌≤◌, true, false, List, [], ◌∷◌, ◌++◌, length, reverse, Option, Some, refl, sym, ap, ◌∙◌, arith, inl, inr, append-nil}
+use Rattle.std.proofs.Common.{ℕ, suc, ◌≡◌, ◌+◌, ◌-◌, ◌≤◌, true, false, List, [], ◌∷◌, ◌++◌, length, reverse, Option, Some, refl, sym, ap, ◌∙◌, arith, inl, inr, append-nil}
 use Rattle.std.specs.Prelude.{Err, IfSome}
 use Rattle.std.proofs.lemmas.List.{append_assoc, reverse-append, reverse-reverse}
 use Rattle.std.proofs.lemmas.List.Elements.{Contains-append_cases, Contains-append_left, Contains-append_right}
@@ -21,12 +21,15 @@ use Rattle.aoe_copy.specs.declared.copying.Copying.{Copying}
 use Rattle.aoe_copy.specs.declared.end.CopyRefusal.TheVariants as copy
 use Rattle.aoe_copy.specs.declared.plan.Plan.{Plan}
 use Rattle.aoe_copy.specs.declared.window.Window.{Window}
-use Rattle.aoe_copy.specs.Copying.{left_of, AreUpTo, Collected, Ended, InOrder, Keeps, MayBegin, Setting, Stands}
+use Rattle.aoe_copy.specs.Copying.{left_of, reached_by, AreUpTo, Collected, Ended, InOrder, Keeps, MayBegin, Setting, Stands}
 use Rattle.aoe_copy.specs.Ending.{failure}
+use Rattle.aoe_copy.specs.Plan.{reach}
 use Rattle.aoe_copy.specs.Runs.{Breaks, ReadSeen}
 use Rattle.aoe_copy.specs.Steps.{given, patience, written, Fails, ReadLaw, ReadStep}
+use Rattle.aoe_copy.specs.Telling.{TellsOn}
 use Rattle.aoe_copy.specs.Window.{in_order, is_ready, read_done, HasAll, AreRead, AreThere, Given, GivenPart, IsAsLong}
 use Rattle.aoe_copy.proofs.LawLemmas.{ticket-law}
+use Rattle.aoe_copy.proofs.TellLemmas.{reach-is, reach-more, tells-on}
 use Rattle.aoe_copy.proofs.WindowLemmas.{change-all, none-ready, there-more}
 
 -- the clock answered
@@ -52,11 +55,11 @@ module _ {x : Host} {h : Host} {now : ℕ} (a : Advanced x h now) {outs : List D
         well = o.well;
       }
 
-module _ {c : Setting} {seen : Seen} {held : Option (List ℕ)} {later : Option (List ℕ)} {steps : List ReadStep} {x : Copying} {h : Host} {now turns : ℕ}
+module _ {c : Setting} {seen : Seen} {held told later : Option (List ℕ)} {steps : List ReadStep} {x : Copying} {h : Host} {now turns : ℕ}
     (a : Advanced x.host h now) (ticks_is : IfSome later (λ _. Added seen.answers later (now ∷ [])))
-    (stands : Stands c (record { link = seen; held = held }) steps) (k : Keeps c steps x) (o : InOrder x.host.waiting (outcomes steps))
+    (stands : Stands c (record { link = seen; held = held; told = told }) steps) (k : Keeps c steps x) (o : InOrder x.host.waiting (outcomes steps))
     (may : MayBegin c turns steps) where
-  pub ticked : Ticked c (record { link = record seen { answers = later }; held = held }) steps (record x { host = h })
+  pub ticked : Ticked c (record { link = record seen { answers = later }; held = held; told = told }) steps (record x { host = h })
   ticked =
       let up = a.gives_up.0 in
       let gives_up = ticks-gives-up a k.drives in
@@ -65,10 +68,11 @@ module _ {c : Setting} {seen : Seen} {held : Option (List ℕ)} {later : Option 
         stands = record {
           begins = stands.begins;
           are = (stands.are, (may.unticked, may.few, gives_up));
-          read = record { seen_is = seen-ticks up stands.read.seen_is ticks_is; wrote = stands.read.wrote };
+          read = record { seen_is = seen-ticks up stands.read.seen_is ticks_is; wrote = stands.read.wrote; tells = stands.read.tells };
         };
         keeps = record {
           plan_is = k.plan_is;
+          before_is = k.before_is;
           drives = drives-ticks a k.drives;
           given_is = k.given_is;
           reached_is = k.reached_is;
@@ -100,6 +104,7 @@ pub keeps-taken : {c : Setting} {steps : List ReadStep} {x y : Copying} → Keep
     → HasAll (outcomes steps) y.host.waiting (suc y.window.given) y.window.slots.items → Keeps c steps y
 keeps-taken {c} {steps} {x} {y} k is plan reached before window matches there all = record {
   plan_is = plan ∙ k.plan_is;
+  before_is = before ∙ k.before_is;
   drives = record {
     same = let d = k.drives.same in rw is (record { ports = d.ports; life = d.life; room = d.room; dead = d.dead; devices = d.devices });
     matches = matches (log_of c.start steps) k.drives.matches;
@@ -176,10 +181,12 @@ are-after c (bytes ∷ earlier) steps ticked are read =
     (are-after c earlier steps ticked are read.0, (a.ticked_is ∙ ticked, rw (a.outcomes_are, place) read.1))
 
 -- the sink took the sectors of commands
-pub stands-after : {c : Setting} {seen : Seen} {mid after : Option (List ℕ)} (parts : List (List ℕ)) (steps : List ReadStep) → has_ticked steps ≡ true
-    → Stands c (record { link = seen; held = mid }) steps → AreRead (outcomes steps) (c.start.host.last_ticket + given steps) parts
-    → Took mid after (in_order parts) → Stands c (record { link = seen; held = after }) (after_gives parts steps)
-stands-after {c} {seen} {mid} {after} parts steps ticked stands read took =
+pub stands-after : {c : Setting} {seen : Seen} {mid after told told' : Option (List ℕ)} (parts : List (List ℕ)) (steps : List ReadStep)
+    → has_ticked steps ≡ true → Stands c (record { link = seen; held = mid; told = told }) steps
+    → AreRead (outcomes steps) (c.start.host.last_ticket + given steps) parts → Took mid after (in_order parts)
+    → TellsOn (reach c.plan (given steps)) (reach c.plan (given (after_gives parts steps))) told told'
+    → Stands c (record { link = seen; held = after; told = told' }) (after_gives parts steps)
+stands-after {c} {seen} {mid} {after} parts steps ticked stands read took on =
     let s = stands.read.seen_is in
     let a = alike c.start parts steps in
     record {
@@ -188,6 +195,7 @@ stands-after {c} {seen} {mid} {after} parts steps ticked stands read took =
       read = record {
         seen_is = record { turned = rw a.turns_are s.turned; took = rw a.frames_are s.took; told = rw a.answers_are s.told };
         wrote = rw (written-after parts steps) (Took-then c.before.held mid after (written steps) (in_order parts) stands.read.wrote took);
+        tells = tells-on stands.read.tells on (rw (given-after parts steps) (reach-more c.plan (length parts) (given steps)));
       };
     }
 
@@ -199,6 +207,7 @@ keeps-after {c} {steps} {x} w parts k given_is there all =
     let d = k.drives in
     record {
       plan_is = k.plan_is;
+      before_is = k.before_is;
       drives = record {
         same = d.same;
         matches = rw a.log_is d.matches;
@@ -232,23 +241,33 @@ why turns o p steps (tool.Unanswered n) is f = inr f
 why turns o p steps tool.NoMemory is f = absurd ((refused-why turns o).0 is)
 why turns o p steps tool.LinkFault is f = absurd ((refused-why turns o).1 is)
 
-module _ {c : Setting} {seen : Seen} {mid after : Option (List ℕ)} {steps : List ReadStep} {x : Copying} (w : Window)
-    (t : Ticked c (record { link = seen; held = mid }) steps x)
-    {y : Copying} (k : Keeps c t.steps' y) where
+-- what was told while the sink took the sectors of commands
+module _ {c : Setting} {steps : List ReadStep} {y : Copying} (k : Keeps c steps y) (w : Window) (parts : List (List ℕ))
+    (given_is : w.given ≡ length parts + y.window.given) {told told' : Option (List ℕ)} where
+  pub on-steps : TellsOn (reached_by y) (reached_by (record y { window = w })) told told'
+      → TellsOn (reach c.plan (given steps)) (reach c.plan (given (after_gives parts steps))) told told'
+  on-steps on =
+      let were : y.window.given - y.before ≡ given steps = omega (arith, k.given_is, k.before_is) in
+      let are : w.given - y.before ≡ given (after_gives parts steps) = omega (arith, k.given_is, k.before_is, given_is, given-after parts steps) in
+      rw (reach-is c.plan (given steps), reach-is c.plan (given (after_gives parts steps)), ← k.plan_is, ← were, ← are) on
+
+module _ {c : Setting} {seen : Seen} {mid after told told' : Option (List ℕ)} {steps : List ReadStep} {x : Copying} (w : Window)
+    (t : Ticked c (record { link = seen; held = mid; told = told }) steps x)
+    {y : Copying} (k : Keeps c t.steps' y) (on : TellsOn (reached_by y) (reached_by (record y { window = w })) told told') where
   read-so : {outs : List Done} (g : Given outs y.window w mid after) → outs ≡ outcomes t.steps'
       → AreRead (outcomes t.steps') (c.start.host.last_ticket + given t.steps') g.parts
   read-so g is = rw (← k.given_is, ← is) g.are
 
   -- all outcomes were taken
   pub collected : Given (outcomes t.steps') y.window w mid after → is_ready w.slots.items ≡ false → y.host.waiting ≡ [] → GoesOn t.steps'
-      → Collected c (record { link = seen; held = after }) steps (record y { window = w })
+      → Collected c (record { link = seen; held = after; told = told' }) steps (record y { window = w })
   collected g unready none well =
       let a = alike c.start g.parts t.steps' in
       let all = g.all y.host.waiting k.all in
       let keeps = keeps-after w g.parts k g.given_is g.there all in
       record {
         steps' = after_gives g.parts t.steps';
-        stands = stands-after g.parts t.steps' t.ticked t.stands (read-so g refl) g.took;
+        stands = stands-after g.parts t.steps' t.ticked t.stands (read-so g refl) g.took (on-steps k w g.parts g.given_is on);
         keeps = keeps;
         given_out = λ bytes there. none-ready (outcomes t.steps') (suc w.given) w.slots.items unready (rw none at all) bytes
             (rw (a.outcomes_are, ← keeps.given_is) at there);
@@ -261,10 +280,10 @@ module _ {c : Setting} {seen : Seen} {mid after : Option (List ℕ)} {steps : Li
 
   -- one ended the copy
   pub ends-by : (turns : ℕ) → c.turns ≡ turns → (e : ToolRefusal) → Given (outcomes t.steps') y.window w mid after → Fails turns (outcomes t.steps') e
-      → Ended (Err (copy.Tool e)) c (record { link = seen; held = after })
+      → Ended (Err (copy.Tool e)) c (record { link = seen; held = after; told = told' })
   ends-by turns is e g f =
       let a = alike c.start g.parts t.steps' in
-      let s = stands-after g.parts t.steps' t.ticked t.stands (read-so g refl) g.took in
+      let s = stands-after g.parts t.steps' t.ticked t.stands (read-so g refl) g.took (on-steps k w g.parts g.given_is on) in
       let still : Fails c.turns (outcomes (after_gives g.parts t.steps')) e = rw (a.outcomes_are, is) f in
       record {
         steps = after_gives g.parts t.steps';
@@ -273,11 +292,11 @@ module _ {c : Setting} {seen : Seen} {mid after : Option (List ℕ)} {steps : Li
       }
 
   -- the sink failed
-  pub ends-part : GivenPart (outcomes t.steps') y.window mid after → Ended (Err copy.SinkFault) c (record { link = seen; held = after })
+  pub ends-part : GivenPart (outcomes t.steps') y.window w mid after → Ended (Err copy.SinkFault) c (record { link = seen; held = after; told = told' })
   ends-part g =
       let a = alike c.start g.parts t.steps' in
       let read = rw k.given_is at g.are in
-      let s = stands-after {mid = mid} {after = g.mid} g.parts t.steps' t.ticked t.stands read g.took in
+      let s = stands-after {mid = mid} {after = g.mid} g.parts t.steps' t.ticked t.stands read g.took (on-steps k w g.parts g.given_is on) in
       let place : c.start.host.last_ticket + given (after_gives g.parts t.steps') ≡ length g.parts + y.window.given =
       omega (arith, given-after g.parts t.steps', k.given_is) in
       record {

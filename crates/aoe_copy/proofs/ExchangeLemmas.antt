@@ -31,8 +31,9 @@ pub count-same : (heard : Option Heard) → count_of heard ≡ count_heard heard
 count-same None = refl
 count-same (Some h) = refl
 
-abbrev pub seen_by : ℕ → Option (List Turn) → Option (List (List ℕ)) → Option (List ℕ) → Option (List ℕ) → ReadSeen
-seen_by turned given taken answers held = record { link = record { turns = turned; given = given; taken = taken; answers = answers }; held = held }
+abbrev pub seen_by : ℕ → Option (List Turn) → Option (List (List ℕ)) → Option (List ℕ) → Option (List ℕ) → Option (List ℕ) → ReadSeen
+seen_by turned given taken answers held told =
+    record { link = record { turns = turned; given = given; taken = taken; answers = answers }; held = held; told = told }
 
 -- frames change nothing that the law asks before a turn of the link
 may-hear : {c : Setting} {seen : ReadSeen} {steps : List ReadStep} {x : Copying} (w : Asked c seen steps x) → IsFilled c.plan w.steps' → IsGivenOut c.start steps
@@ -45,11 +46,11 @@ may-hear {c} w filled out more sent turn heard =
       λ o. more (record { asked_all = rw a.asked_is at o.asked_all; given_all = rw (a.asked_is, a.owns_are) at o.given_all }),
     )
 
-module _ {c : Setting} {turned turned' : ℕ} {given_by given_by' : Option (List Turn)} {taken taken' : Option (List (List ℕ))} {answers held : Option (List ℕ)}
-    {steps : List ReadStep} {x : Copying} (w : Asked c (seen_by turned given_by taken answers held) steps x) (well : GoesOn steps) where
+module _ {c : Setting} {turned turned' : ℕ} {given_by given_by' : Option (List Turn)} {taken taken' : Option (List (List ℕ))} {answers held told : Option (List ℕ)}
+    {steps : List ReadStep} {x : Copying} (w : Asked c (seen_by turned given_by taken answers held told) steps x) (well : GoesOn steps) where
   passes-by : {y : Copying} {heard : Option Heard} → IsFit x → x.host.waiting ≡ [] → y ≡ record x { host = y.host }
-      → Exchanged (ReadLaw c.start c.plan) c.start (patience c.turns) c.before.link (seen_by turned' given_by' taken' answers held).link w.steps' x.host y.host heard
-      → Passes c (seen_by turned' given_by' taken' answers held) steps y heard
+      → Exchanged (ReadLaw c.start c.plan) c.start (patience c.turns) c.before.link (seen_by turned' given_by' taken' answers held told).link w.steps' x.host y.host heard
+      → Passes c (seen_by turned' given_by' taken' answers held told) steps y heard
   passes-by {y} {heard} fit none is e =
       let k = w.keeps in
       let s = w.stands in
@@ -59,9 +60,10 @@ module _ {c : Setting} {turned turned' : ℕ} {given_by given_by' : Option (List
       let outs = outcomes w.steps' in
       record {
         steps' = hears e.turn heard ∷ after_sends e.sent w.steps';
-        stands = record { begins = s.begins; are = e.are; read = record { seen_is = e.seen_is; wrote = rw a.owns_are s.read.wrote } };
+        stands = record { begins = s.begins; are = e.are; read = record { seen_is = e.seen_is; wrote = rw a.owns_are s.read.wrote; tells = rw a.owns_are s.read.tells } };
         keeps = record {
           plan_is = ap (λ (z : Copying). z.plan) is ∙ k.plan_is;
+          before_is = ap (λ (z : Copying). z.before) is ∙ k.before_is;
           drives = e.drives;
           given_is = ap (λ (z : Copying). z.window.given) is ∙ k.given_is ∙ ap (λ (l : List (List ℕ)). c.start.host.last_ticket + length l) (sym a.owns_are);
           reached_is = ap (λ (z : Copying). z.reached) is ∙ k.reached_is ∙ ap (reach c.plan) (sym a.asked_is);
@@ -89,7 +91,7 @@ module _ {c : Setting} {turned turned' : ℕ} {given_by given_by' : Option (List
 
   pub passes : {finished : Bool} {y : Copying} → IsFilled c.plan w.steps' → IsGivenOut c.start steps → IsFit x → is_over x ≡ false → x.host.waiting ≡ []
       → Exchanges (Ok finished) (patience c.turns).most x.host y.host turned turned' given_by given_by' taken taken' → y ≡ record x { host = y.host }
-      → (heard : Option Heard) × Passes c (seen_by turned' given_by' taken' answers held) steps y heard × (finished ≡ is_heard heard)
+      → (heard : Option Heard) × Passes c (seen_by turned' given_by' taken' answers held told) steps y heard × (finished ≡ is_heard heard)
   passes {y = y} filled out fit more none ex is =
       let k = w.keeps in
       let s = w.stands in
@@ -98,7 +100,7 @@ module _ {c : Setting} {turned turned' : ℕ} {given_by given_by' : Option (List
       (e.0, passes-by fit none is e.1, e.2)
 
   pub fails : {failed : Failed} (host' : Host) → Exchanges (Err failed) (patience c.turns).most x.host host' turned turned' given_by given_by' taken taken'
-      → Ended (Err (copy.Tool tool.LinkFault)) c (seen_by turned' given_by' taken' answers held)
+      → Ended (Err (copy.Tool tool.LinkFault)) c (seen_by turned' given_by' taken' answers held told)
   fails host' ex =
       let s = w.stands in
       let still = goes-on w well in
@@ -107,7 +109,7 @@ module _ {c : Setting} {turned turned' : ℕ} {given_by given_by' : Option (List
       record {
         steps = after_sends e.sent w.steps';
         are = e.are;
-        ends = (record { seen_is = e.seen_is; wrote = rw a.owns_are s.read.wrote }, rw a.outcomes_are still);
+        ends = (record { seen_is = e.seen_is; wrote = rw a.owns_are s.read.wrote; tells = rw a.owns_are s.read.tells }, rw a.outcomes_are still);
       }
 
 pub was-answered : {c : Setting} {seen : ReadSeen} {steps : List ReadStep} {y : Copying} {finished : Bool} → finished ≡ true

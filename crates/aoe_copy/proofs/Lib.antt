@@ -2,7 +2,7 @@
 -- come, and host, window and counts are what they come to. All of a run is a function of its list
 -- of steps, which `aoe_block` gives an account of: read its lemmas first.
 -- Read of `get` the specs Steps, Runs and Law, then `HostLemmas`, `WindowLemmas`, `OutcomeLemmas`,
--- `StepLemmas`, `LawLemmas`, `CollectLemmas`, `ExchangeLemmas`, `TurnLemmas`. Of `put` the specs
+-- `StepLemmas`, `LawLemmas`, `TellLemmas`, `CollectLemmas`, `ExchangeLemmas`, `TurnLemmas`. Of `put` the specs
 -- PutSteps, PutRuns, PutLaw and Puts, then `FeedLemmas`, `PutStepLemmas`, `PutTurnLemmas`,
 -- `PutLawLemmas`; of its sectors that are read again specs/Again, `OtherLemmas`, `AgainLemmas`; of
 -- `flush` `FlushLemmas`.
@@ -21,5 +21,6 @@ mod PutLawLemmas
 mod PutStepLemmas
 mod PutTurnLemmas
 mod StepLemmas
+mod TellLemmas
 mod TurnLemmas
 mod WindowLemmas

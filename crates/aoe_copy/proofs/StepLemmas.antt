@@ -96,10 +96,11 @@ module _ {c : Setting} {seen : ReadSeen} {steps : List ReadStep} {x : Copying} (
         stands = record {
           begins = s.begins;
           are = (s.are, (goes-on w well, w.ticked, (refl, may_is)));
-          read = record { seen_is = seen-submits o s.read.seen_is; wrote = s.read.wrote };
+          read = record { seen_is = seen-submits o s.read.seen_is; wrote = s.read.wrote; tells = s.read.tells };
         };
         keeps = record {
           plan_is = one.plan_is ∙ plan;
+          before_is = one.before_is ∙ k.before_is;
           drives = drives-submits o k.drives (rw (k.reached_is, plan) at one.submits) one.same (omega arith) (omega (arith, one.last)) one.tag;
           given_is = one.given_is ∙ k.given_is;
           reached_is = rw (k.reached_is, plan) at one.reached_is;

@@ -21,6 +21,7 @@ use Rattle.aoe_copy.specs.Plan.{reach}
 use Rattle.aoe_copy.specs.Runs.{ReadSeen}
 use Rattle.aoe_copy.specs.Steps.{given, ReadStep}
 use Rattle.aoe_copy.proofs.StepLemmas.{open-is}
+use Rattle.aoe_copy.proofs.TellLemmas.{tells-nothing}
 
 -- with an empty window all that was asked for was given, and where nothing is left to be asked for that is all
 pub over : {c : Setting} {seen : ReadSeen} {steps : List ReadStep} {x : Copying} → Collected c seen steps x → IsFit x → true ≡ is_over x
@@ -83,10 +84,12 @@ begun {b} {p} {seen} {x} g none = record {
         told = elim seen.link.answers as (λ o. Told o o []) [ None ↦ tt | Some l ↦ refl ];
       };
       wrote = Took-nothing seen.held;
+      tells = tells-nothing seen.told;
     };
   };
   keeps = record {
     plan_is = g.plan_is;
+    before_is = g.before_is;
     drives = rw g.host_is (drives-start g.begins.matches g.begins.tags);
     given_is = omega (arith, g.given_is);
     reached_is = g.reached_is;

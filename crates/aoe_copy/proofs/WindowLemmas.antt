@@ -106,7 +106,8 @@ given-none outs w held there = record {
 }
 
 -- as many commands stand in the window or were given as before
-pub taken-sum : {bytes : List ℕ} {now later : Window} → IsTaken bytes now later → later.given + length later.slots.items ≡ now.given + length now.slots.items
+pub taken-sum : {bytes : List ℕ} {now later : Window} → IsTaken bytes now later
+    → suc later.given + length later.slots.items ≡ now.given + length now.slots.items
 taken-sum {bytes} {now} {later} t =
     let long : length now.slots.items ≡ suc (length later.slots.items) = ap (λ (l : List (Option (List ℕ))). length l) t.slots_are in
     omega (arith, t.given_is, long)
@@ -125,17 +126,29 @@ module _ {outs : List Done} {old now later : Window} {held mid : Option (List �
   came = rw (← g.given_is) first.0
 
   -- the sink takes the sectors of one more
-  pub gives-more : {held' : Option (List ℕ)} → Took mid held' bytes → Given outs old later held held'
-  gives-more {held'} took = record {
-    parts = bytes ∷ g.parts;
-    are = (g.are, came);
-    given_is = omega (arith, t.given_is, g.given_is);
-    there = rw t.given_is first.1;
-    all = λ waiting all. let now_all = rw t.slots_are at (g.all waiting all) in rw t.given_is now_all.1;
-    sum = taken-sum t ∙ g.sum;
-    took = Took-then held mid held' (in_order g.parts) bytes g.took took;
-  }
+  pub gives-more : {held' : Option (List ℕ)} (next : Window) → next.given ≡ later.given + 1 → next.slots.items ≡ later.slots.items → Took mid held' bytes
+      → Given outs old next held held'
+  gives-more {held'} next one slots took =
+      let given : next.given ≡ suc now.given = omega (arith, one, t.given_is) in
+      record {
+        parts = bytes ∷ g.parts;
+        are = (g.are, came);
+        given_is = omega (arith, given, g.given_is);
+        there = rw (given, slots) first.1;
+        all = λ waiting all. let now_all = rw t.slots_are at (g.all waiting all) in rw (given, slots) now_all.1;
+        sum = omega (arith, taken-sum t, g.sum, given, t.given_is, ap (λ (l : List (Option (List ℕ))). length l) slots);
+        took = Took-then held mid held' (in_order g.parts) bytes g.took took;
+      }
 
   -- or a part of them
-  pub gives-part : {held' : Option (List ℕ)} → TookSome mid held' bytes → GivenPart outs old held held'
-  gives-part part = record { parts = g.parts; are = g.are; mid = mid; took = g.took; next = bytes; there = came; part = part }
+  pub gives-part : {held' : Option (List ℕ)} → TookSome mid held' bytes → GivenPart outs old later held held'
+  gives-part part = record {
+    parts = g.parts;
+    are = g.are;
+    given_is = t.given_is ∙ g.given_is;
+    mid = mid;
+    took = g.took;
+    next = bytes;
+    there = came;
+    part = part;
+  }

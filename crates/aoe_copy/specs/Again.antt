@@ -68,7 +68,7 @@ abbrev pub sending : Seen → PutSeen
 sending seen = record { link = seen; left = Some [] }
 
 abbrev pub holding : List ℕ → Seen → ReadSeen
-holding bytes seen = record { link = seen; held = Some bytes }
+holding bytes seen = record { link = seen; held = Some bytes; told = None }
 
 -- A part was written, and flushed where that is asked for, and then the same host read its sectors into memory: all, or up to where that ended.
 pub record ReadsAgain (read : Result Unit CopyRefusal) (back : List ℕ) (c : Course) (b : Start) (reached : ℕ) (part : List ℕ) (seen now : Seen) : Type 0 where

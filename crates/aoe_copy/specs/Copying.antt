@@ -1,5 +1,5 @@
 -- What a copy out of a device keeps while it runs, and what it is true of: the steps so far, and what link, clock and sink tell of them.
-use Rattle.std.specs.Prelude.{ℕ, suc, ◌≡◌, ◌+◌, ◌-◌, ◌^◌, ◌<◌, ◌≤◌, min, nat_eq, nat_lt, Bool, true, false, ◌&&◌, List, [], ◌∷◌, ◌++◌, length, reverse, Option, Some, None, Result, Ok, Err, All, Contains}
+use Rattle.std.specs.Prelude.{ℕ, suc, ◌≡◌, ◌+◌, ◌-◌, ◌*◌, ◌^◌, ◌<◌, ◌≤◌, min, nat_eq, nat_lt, Bool, true, false, ◌&&◌, List, [], ◌∷◌, ◌++◌, length, reverse, Option, Some, None, Result, Ok, Err, All, Contains}
 use Rattle.aoe_base.specs.declared.failure.NoMemory.{NoMemory}
 use Rattle.aoe_block.specs.Answered.{IsStart}
 use Rattle.aoe_block.specs.Steps.{asked, has_ticked, open_of, outcomes, owns, quiet_turns, AreSteps, Drives, GoesOn, IsWell, Start}
@@ -46,11 +46,12 @@ pub record Setting : Type 0 where
 pub record Stands (c : Setting) (seen : ReadSeen) (steps : List ReadStep) : Type 0 where
   pub begins : IsStart c.start
   pub are : AreSteps (ReadLaw c.start c.plan) c.start (patience c.turns) steps
-  pub read : HasRead c.before seen steps
+  pub read : HasRead c.plan c.before seen steps
 
 -- what it keeps is true of these steps
 pub record Keeps (c : Setting) (steps : List ReadStep) (x : Copying) : Type 0 where
   pub plan_is : x.plan ≡ c.plan
+  pub before_is : x.before ≡ c.start.host.last_ticket
   pub drives : Drives c.start steps x.host
   pub given_is : x.window.given ≡ c.start.host.last_ticket + given steps
   pub reached_is : x.reached ≡ reach c.plan (asked steps)
@@ -61,6 +62,7 @@ pub record Keeps (c : Setting) (steps : List ReadStep) (x : Copying) : Type 0 wh
 pub record Begins (b : Start) (p : Plan) (x : Copying) : Type 0 where
   pub host_is : x.host ≡ b.host
   pub plan_is : x.plan ≡ p
+  pub before_is : x.before ≡ b.host.last_ticket
   pub reached_is : x.reached ≡ 0
   pub given_is : x.window.given ≡ b.host.last_ticket
   pub slots_are : x.window.slots.items ≡ []
@@ -90,6 +92,10 @@ TakesAll result turns outs x =
 abbrev pub is_over : Copying → Bool
 is_over x = nat_eq (length x.window.slots.items) 0 && nat_eq x.reached x.plan.count
 
+-- how many sectors the sink took
+abbrev pub reached_by : Copying → ℕ
+reached_by x = min ((x.window.given - x.before) * x.plan.max) x.plan.count
+
 -- sectors are left that may be asked for
 abbrev pub may_ask : Copying → Bool
 may_ask x = nat_lt (length x.window.slots.items) most_open && nat_lt x.reached x.plan.count
@@ -107,6 +113,7 @@ pub record AsksOne (old new : Copying) : Type 0 where
   pub tag : new.host.flight.last_tag ≡ old.host.flight.last_tag
   pub waiting : new.host.waiting ≡ old.host.waiting
   pub plan_is : new.plan ≡ old.plan
+  pub before_is : new.before ≡ old.before
   pub reached_is : new.reached ≡ old.reached + next_count old
   pub given_is : new.window.given ≡ old.window.given
   pub slots_are : new.window.slots.items ≡ old.window.slots.items ++ None ∷ []

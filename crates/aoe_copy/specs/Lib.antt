@@ -13,4 +13,5 @@ pub mod Puts
 pub mod Putting
 pub mod Runs
 pub mod Steps
+pub mod Telling
 pub mod Window

@@ -17,17 +17,20 @@ use Rattle.aoe_copy.specs.declared.end.CopyRefusal.TheVariants as copy
 use Rattle.aoe_copy.specs.declared.plan.Plan.{Plan}
 use Rattle.aoe_copy.specs.declared.terms.Terms.{Terms}
 use Rattle.aoe_copy.specs.Plan.{plan_of, reach, wanted}
+use Rattle.aoe_copy.specs.Telling.{Tells}
 use Rattle.aoe_copy.specs.Steps.{given, patience, written, Fails, IsNextRead, MayAsk, ReadLaw, ReadStep}
 
--- what link, clock and sink tell
+-- what link, clock and sink tell, and what was told of how far the copy has come
 pub record ReadSeen : Type 0 where
   pub link : Seen
   pub held : Option (List ℕ)
+  pub told : Option (List ℕ)
 
--- what they tell now is what they told before, and these steps
-pub record HasRead (before now : ReadSeen) (steps : List ReadStep) : Type 0 where
+-- What they tell now is what they told before, and these steps; and what was told last is how many sectors of the plan the sink took in these steps.
+pub record HasRead (p : Plan) (before now : ReadSeen) (steps : List ReadStep) : Type 0 where
   pub seen_is : HasSeen before.link now.link steps
   pub wrote : Took before.held now.held (written steps)
+  pub tells : Tells before.told now.told (reach p (given steps))
 
 -- why a copy ends in a refusal of a tool: the first outcome that isn't a success; no command ended in so many turns; there was no memory for
 -- the next command; the link failed
@@ -40,10 +43,10 @@ Breaks (tool.Refused r) p turns steps = Fails turns (outcomes steps) (tool.Refus
 -- How a copy ends: with all sectors written; or with those that these steps wrote, where the sink failed with a part of the next
 -- command's.
 abbrev pub Ends : Result Unit CopyRefusal → Start → Plan → ℕ → ReadSeen → ReadSeen → List ReadStep → Type 0
-Ends (Ok done) b p turns before now steps = HasRead before now steps × GoesOn steps × (reach p (given steps) ≡ p.count)
-Ends (Err (copy.Tool refusal)) b p turns before now steps = HasRead before now steps × Breaks refusal p turns steps
+Ends (Ok done) b p turns before now steps = HasRead p before now steps × GoesOn steps × (reach p (given steps) ≡ p.count)
+Ends (Err (copy.Tool refusal)) b p turns before now steps = HasRead p before now steps × Breaks refusal p turns steps
 Ends (Err copy.SinkFault) b p turns before now steps =
-    (mid : Option (List ℕ)) × HasRead before (record now { held = mid }) steps
+    (mid : Option (List ℕ)) × HasRead p before (record now { held = mid }) steps
     × ((next : List ℕ) × IsNextRead b steps next × TookSome mid now.held next)
 Ends (Err refusal) b p turns before now steps = ⊥
 
@@ -79,7 +82,7 @@ CopiesAt (Ok d) result t id at count before now =
     × MayRun result t id d (plan_of d at count) before now)
 
 -- the device is found, by the clock's first answer, and then copied; a command has so many sectors at most
-pub record Copies (result : Result Unit CopyRefusal) (t : Terms) (id : TargetId) (at : ℕ) (count : Option ℕ) (x : ToldAll) (held held' : Option (List ℕ)) : Type 0 where
+pub record Copies (result : Result Unit CopyRefusal) (t : Terms) (id : TargetId) (at : ℕ) (count : Option ℕ) (x : ToldAll) (held held' told told' : Option (List ℕ)) : Type 0 where
   pub first : ℕ
   pub later : Option (List ℕ)
   pub answered : Answers first x.least x.answers later
@@ -87,5 +90,5 @@ pub record Copies (result : Result Unit CopyRefusal) (t : Terms) (id : TargetId)
   pub mid : LinkState
   pub finds : Finds found t.ask id first t.most (record { turns = x.turns; given = x.given; taken = x.taken }) mid
   pub copies : CopiesAt found result t id at count
-      (record { link = record { turns = mid.turns; given = mid.given; taken = mid.taken; answers = later }; held = held })
-      (record { link = record { turns = x.turns'; given = x.given'; taken = x.taken'; answers = x.answers' }; held = held' })
+      (record { link = record { turns = mid.turns; given = mid.given; taken = mid.taken; answers = later }; held = held; told = told })
+      (record { link = record { turns = x.turns'; given = x.given'; taken = x.taken'; answers = x.answers' }; held = held'; told = told' })

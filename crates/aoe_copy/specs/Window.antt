@@ -39,7 +39,7 @@ is_ready (Some bytes ∷ slots) = true
 
 -- it left the window with its sectors
 pub record IsTaken (bytes : List ℕ) (old new : Window) : Type 0 where
-  pub given_is : new.given ≡ suc old.given
+  pub given_is : new.given ≡ old.given
   pub slots_are : old.slots.items ≡ Some bytes ∷ new.slots.items
 
 -- the sectors of the commands behind n others, the latest first, each as an outcome has them
@@ -63,9 +63,10 @@ pub record Given (outs : List Done) (old new : Window) (held held' : Option (Lis
   pub took : Took held held' (in_order parts)
 
 -- and a part of those of the next one
-pub record GivenPart (outs : List Done) (old : Window) (held held' : Option (List ℕ)) : Type 0 where
+pub record GivenPart (outs : List Done) (old new : Window) (held held' : Option (List ℕ)) : Type 0 where
   pub parts : List (List ℕ)
   pub are : AreRead outs old.given parts
+  pub given_is : new.given ≡ length parts + old.given
   pub mid : Option (List ℕ)
   pub took : Took held mid (in_order parts)
   pub next : List ℕ
@@ -75,4 +76,4 @@ pub record GivenPart (outs : List Done) (old : Window) (held held' : Option (Lis
 -- the sink took the sectors of the commands that stood first and were answered; where it failed, a part of them
 abbrev pub GivesSome : Result Unit Failed → List Done → Window → Window → Option (List ℕ) → Option (List ℕ) → Type 0
 GivesSome (Ok done) outs old new held held' = Given outs old new held held' × (is_ready new.slots.items ≡ false)
-GivesSome (Err failed) outs old new held held' = GivenPart outs old held held'
+GivesSome (Err failed) outs old new held held' = GivenPart outs old new held held'

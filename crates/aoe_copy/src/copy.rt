@@ -4,6 +4,7 @@ ghost use Rattle.aoe_base.specs.Faults.{Blamed};
 ghost use Rattle.aoe_base.specs.Sizes.{longest_lifetime};
 ghost use Rattle.aoe_tools.specs.Runs.{told};
 ghost use Rattle.aoe_copy.specs.Runs.{Copies, MayRun};
+ghost use Rattle.aoe_copy.specs.Telling.{TellsFront};
 
 use crate::copying::Copying;
 use crate::end::CopyRefusal;
@@ -36,8 +37,10 @@ fn copy_out<L: Link, C: Clock, K: Sink, W: Watch>(
     requires same { plan.max ≡ device.now.max }
     requires within { plan.at + plan.count ≤ device.now.total }
     ensures runs { MayRun result terms.now id device.now plan
-        (record { link = record { turns = L.turns link.old; given = L.given link.old; taken = L.taken link.old; answers = C.answers clock.old }; held = K.held sink.old })
-        (record { link = record { turns = L.turns link.new; given = L.given link.new; taken = L.taken link.new; answers = C.answers clock.new }; held = K.held sink.new }) }
+        (record { link = record { turns = L.turns link.old; given = L.given link.old; taken = L.taken link.old; answers = C.answers clock.old }; held = K.held sink.old; told = W.told watch.old })
+        (record { link = record { turns = L.turns link.new; given = L.given link.new; taken = L.taken link.new; answers = C.answers clock.new }; held = K.held sink.new; told = W.told watch.new }) }
+    ensures told { TellsFront result (K.held sink.old) (K.held sink.new) (W.told watch.old)
+        (W.told watch.new) }
     ensures unread { result ≢ Err CopyRefusal.SourceFault }
     ensures count { L.faults link.old ≤ L.faults link.new }
     ensures link { Blamed (result ≡ Err (CopyRefusal.Tool ToolRefusal.LinkFault))
@@ -66,7 +69,8 @@ fn copy_out<L: Link, C: Clock, K: Sink, W: Watch>(
 /// Reads the `count` sectors of a device from `at` on, or all that it has there, and writes them to
 /// the sink in their order, each as soon as all before it are there. A command asks for as many
 /// sectors as the device takes, but at most as many as the terms say. A device that tells no number of
-/// sectors has none to read (`Range`).
+/// sectors has none to read (`Range`). The watch is told how many sectors the sink took, each time that
+/// there are more; where the sink fails it may have taken a part of the next command's, too.
 pub fn get<L: Link, C: Clock, K: Sink, W: Watch>(
     alloc: Global,
     terms: &Terms,
@@ -84,7 +88,9 @@ pub fn get<L: Link, C: Clock, K: Sink, W: Watch>(
     requires responses { terms.now.life.responses.0 ≤ longest_lifetime }
     ensures run { Copies result terms.now id at count
         (told C.least C.answers L.turns L.given L.taken clock.old clock.new link.old link.new)
-        (K.held sink.old) (K.held sink.new) }
+        (K.held sink.old) (K.held sink.new) (W.told watch.old) (W.told watch.new) }
+    ensures told { TellsFront result (K.held sink.old) (K.held sink.new) (W.told watch.old)
+        (W.told watch.new) }
     ensures unread { result ≢ Err CopyRefusal.SourceFault }
     ensures count { L.faults link.old ≤ L.faults link.new }
     ensures link { Blamed (result ≡ Err (CopyRefusal.Tool ToolRefusal.LinkFault))

@@ -8,9 +8,10 @@ ghost use Rattle.aoe_initiator.specs.Host.{Matches};
 ghost use Rattle.aoe_initiator.specs.HostLog.{Event};
 ghost use Rattle.aoe_io.specs.Link.{Added};
 ghost use Rattle.aoe_copy.specs.declared.plan.Plan.{Plan as PlanOf};
-ghost use Rattle.aoe_copy.specs.Copying.{is_over, may_ask, AreUpTo, Asks, AsksOne, Begins, Collects, InOrder, IsFit, Keeps, MayBegin, Setting, Stands, TakesAll, Turns};
+ghost use Rattle.aoe_copy.specs.Copying.{is_over, may_ask, reached_by, AreUpTo, Asks, AsksOne, Begins, Collects, InOrder, IsFit, Keeps, MayBegin, Setting, Stands, TakesAll, Turns};
 ghost use Rattle.aoe_copy.specs.Runs.{ReadSeen, Runs};
 ghost use Rattle.aoe_copy.specs.Steps.{IsGivenOut, ReadStep};
+ghost use Rattle.aoe_copy.specs.Telling.{TellsOn};
 ghost use Rattle.aoe_copy.specs.Window.{most_open, AreThere, HasAll, IsAsLong};
 
 use crate::end::CopyRefusal;
@@ -180,10 +181,10 @@ impl Copying {
         ensures fit { OnOk result (IsFit self.new) }
         ensures source { result ≢ Err CopyRefusal.SourceFault }
         ensures sink { result ≢ Err CopyRefusal.SinkFault }
-        ensures exchanges { (c : Setting) (answers : Option (List ℕ)) (held : Option (List ℕ)) (steps : List ReadStep)
-            → Stands c (record { link = record { turns = L.turns link.old; given = L.given link.old; taken = L.taken link.old; answers = answers }; held = held }) steps
+        ensures exchanges { (c : Setting) (answers held told : Option (List ℕ)) (steps : List ReadStep)
+            → Stands c (record { link = record { turns = L.turns link.old; given = L.given link.old; taken = L.taken link.old; answers = answers }; held = held; told = told }) steps
             → Keeps c steps self.old → GoesOn steps → has_ticked steps ≡ true → IsGivenOut c.start steps
-            → Turns result c (record { link = record { turns = L.turns link.new; given = L.given link.new; taken = L.taken link.new; answers = answers }; held = held }) steps self.new }
+            → Turns result c (record { link = record { turns = L.turns link.new; given = L.given link.new; taken = L.taken link.new; answers = answers }; held = held; told = told }) steps self.new }
         ensures count { L.faults link.old ≤ L.faults link.new }
         ensures link { Blamed (result ≡ Err (CopyRefusal.Tool ToolRefusal.LinkFault))
             (L.faults link.old) (L.faults link.new) }
@@ -199,9 +200,34 @@ impl Copying {
         }
     }
 
+    /// How many sectors the sink took.
+    fn written(&self) -> u64
+        ensures { result ≡ reached_by self.now }
+    {
+        let parts = self.window.given().saturating_sub(self.before);
+        let whole = parts.saturating_mul(u64::from(self.plan.max));
+        whole.min(self.plan.count)
+    }
+
+    /// Tells how many sectors the sink took, where that was another number before.
+    fn tell<W: Watch>(&self, before: u64, watch: &mut W)
+        ensures { TellsOn before (reached_by self.now) (W.told watch.old) (W.told watch.new) }
+    {
+        let written = self.written();
+        if written != before {
+            watch.reached(written);
+        }
+    }
+
     /// The first part of a turn that begins at a time: outcomes are taken, and sectors are given to
-    /// the sink. Whether all is written.
-    fn collect<K: Sink>(&mut self, now: u64, turns: u32, sink: &mut K) -> Result<bool, CopyRefusal>
+    /// the sink, and it is told how many. Whether all is written.
+    fn collect<K: Sink, W: Watch>(
+        &mut self,
+        now: u64,
+        turns: u32,
+        sink: &mut K,
+        watch: &mut W,
+    ) -> Result<bool, CopyRefusal>
         requires fit { IsFit self.old }
         ensures fit { OnOk result (IsFit self.new) }
         ensures over { IfOk result (λ over. over ≡ is_over self.new) }
@@ -210,16 +236,19 @@ impl Copying {
         ensures source { result ≢ Err CopyRefusal.SourceFault }
         ensures collects { (c : Setting) (seen : Seen) (later : Option (List ℕ)) (steps : List ReadStep)
             → IfSome later (λ _. Added seen.answers later (now ∷ []))
-            → Stands c (record { link = seen; held = K.held sink.old }) steps
+            → Stands c (record { link = seen; held = K.held sink.old; told = W.told watch.old }) steps
             → Keeps c steps self.old → InOrder self.old.host.waiting (outcomes steps)
             → MayBegin c turns steps
-            → Collects result c (record { link = record seen { answers = later }; held = K.held sink.new }) steps self.new }
+            → Collects result c (record { link = record seen { answers = later }; held = K.held sink.new; told = W.told watch.new }) steps self.new }
         ensures count { K.faults sink.old ≤ K.faults sink.new }
         ensures sink { Blamed (result ≡ Err CopyRefusal.SinkFault) (K.faults sink.old) (K.faults sink.new) }
     {
         self.host.advance(Millis(now));
         let taken = self.take_all(turns);
-        match self.window.give(sink) {
+        let before = self.written();
+        let given = self.window.give(sink);
+        self.tell(before, watch);
+        match given {
             Ok(()) => {}
             Err(Failed) => return Err(CopyRefusal::SinkFault),
         }
@@ -227,13 +256,6 @@ impl Copying {
             Ok(()) => Ok(self.is_over()),
             Err(refusal) => Err(CopyRefusal::Tool(refusal)),
         }
-    }
-
-    /// How many sectors were given to the sink.
-    fn written(&self) -> u64 {
-        let parts = self.window.given().saturating_sub(self.before);
-        let whole = parts.saturating_mul(u64::from(self.plan.max));
-        whole.min(self.plan.count)
     }
 
     /// A turn that begins at a time.
@@ -251,10 +273,10 @@ impl Copying {
         ensures source { result ≢ Err CopyRefusal.SourceFault }
         ensures turn { (c : Setting) (answers : Option (List ℕ)) (later : Option (List ℕ)) (steps : List ReadStep)
             → IfSome later (λ _. Added answers later (now ∷ []))
-            → Stands c (record { link = record { turns = L.turns link.old; given = L.given link.old; taken = L.taken link.old; answers = answers }; held = K.held sink.old }) steps
+            → Stands c (record { link = record { turns = L.turns link.old; given = L.given link.old; taken = L.taken link.old; answers = answers }; held = K.held sink.old; told = W.told watch.old }) steps
             → Keeps c steps self.old → InOrder self.old.host.waiting (outcomes steps)
             → MayBegin c turns steps
-            → Turns result c (record { link = record { turns = L.turns link.new; given = L.given link.new; taken = L.taken link.new; answers = later }; held = K.held sink.new }) steps self.new }
+            → Turns result c (record { link = record { turns = L.turns link.new; given = L.given link.new; taken = L.taken link.new; answers = later }; held = K.held sink.new; told = W.told watch.new }) steps self.new }
         ensures count { L.faults link.old ≤ L.faults link.new }
         ensures link { Blamed (result ≡ Err (CopyRefusal.Tool ToolRefusal.LinkFault))
             (L.faults link.old) (L.faults link.new) }
@@ -262,15 +284,7 @@ impl Copying {
         ensures sink { Blamed (result ≡ Err CopyRefusal.SinkFault) (K.faults sink.old)
             (K.faults sink.new) }
     {
-        let before = self.written();
-        let collected = self.collect(now, turns, sink);
-        let written = self.written();
-        // The command that a failing sink was given isn't written.
-        let is_sunk = matches!(collected, Err(CopyRefusal::SinkFault));
-        if written != before && !is_sunk {
-            watch.reached(written);
-        }
-        match collected {
+        match self.collect(now, turns, sink, watch) {
             Ok(true) => Ok(Passed::Over),
             Ok(false) => self.exchange(link, frame),
             Err(refusal) => Err(refusal),
@@ -291,13 +305,13 @@ impl Copying {
         requires waiting { self.old.host.waiting ≡ [] }
         ensures fit { OnOk result (IsFit self.new) }
         ensures ran { OnOk result ((b : Start) (p : PlanOf) → Begins b p self.old → (r : Runs (Ok record {}) b p turns
-            (record { link = record { turns = L.turns link.old; given = L.given link.old; taken = L.taken link.old; answers = C.answers clock.old }; held = K.held sink.old })
-            (record { link = record { turns = L.turns link.new; given = L.given link.new; taken = L.taken link.new; answers = C.answers clock.new }; held = K.held sink.new }))
+            (record { link = record { turns = L.turns link.old; given = L.given link.old; taken = L.taken link.old; answers = C.answers clock.old }; held = K.held sink.old; told = W.told watch.old })
+            (record { link = record { turns = L.turns link.new; given = L.given link.new; taken = L.taken link.new; answers = C.answers clock.new }; held = K.held sink.new; told = W.told watch.new }))
             × Drives b r.steps self.new.host × (self.new.host.waiting ≡ [])) }
         ensures run { (b : Start) (p : PlanOf) → Begins b p self.old
             → Runs result b p turns
-            (record { link = record { turns = L.turns link.old; given = L.given link.old; taken = L.taken link.old; answers = C.answers clock.old }; held = K.held sink.old })
-            (record { link = record { turns = L.turns link.new; given = L.given link.new; taken = L.taken link.new; answers = C.answers clock.new }; held = K.held sink.new }) }
+            (record { link = record { turns = L.turns link.old; given = L.given link.old; taken = L.taken link.old; answers = C.answers clock.old }; held = K.held sink.old; told = W.told watch.old })
+            (record { link = record { turns = L.turns link.new; given = L.given link.new; taken = L.taken link.new; answers = C.answers clock.new }; held = K.held sink.new; told = W.told watch.new }) }
         ensures source { result ≢ Err CopyRefusal.SourceFault }
         ensures count { L.faults link.old ≤ L.faults link.new }
         ensures link { Blamed (result ≡ Err (CopyRefusal.Tool ToolRefusal.LinkFault))

@@ -1,14 +1,22 @@
 //! Who is told how far a copy has come.
 
-/// Whoever is told how far a copy has come. No clause rests on it.
+ghost use Rattle.std.specs.Prelude.{◌≡◌, ◌∷◌, ℕ, List, Option, None};
+ghost use Rattle.std.specs.Option.{option_map};
+
+/// Whoever is told how far a copy has come.
 pub trait Watch {
+    // The numbers of sectors that were reached, the latest first, where they are kept.
+    ghost told: { Self → Option (List ℕ) };
+
     /// The copy is of so many sectors. A copy into a device doesn't say it: the length of its input
     /// isn't known.
-    fn planned(&mut self, sectors: u64);
+    fn planned(&mut self, sectors: u64)
+        ensures { told self.new ≡ told self.old };
 
     /// So many sectors from the first one on are written, by a copy out of a device to the sink, by
     /// one into it as far as the device acknowledged.
-    fn reached(&mut self, sectors: u64);
+    fn reached(&mut self, sectors: u64)
+        ensures { told self.new ≡ option_map (λ numbers. sectors ∷ numbers) (told self.old) };
 }
 
 /// Nobody is told.
@@ -16,6 +24,8 @@ pub trait Watch {
 pub(crate) struct Unwatched;
 
 impl Watch for Unwatched {
+    ghost told = { λ _. None };
+
     fn planned(&mut self, sectors: u64) {}
 
     fn reached(&mut self, sectors: u64) {}
@@ -29,6 +39,8 @@ pub(crate) struct Onward<'a, W: Watch> {
 }
 
 impl<'a, W: Watch> Watch for Onward<'a, W> {
+    ghost told = { λ _. None };
+
     fn planned(&mut self, sectors: u64) {}
 
     fn reached(&mut self, sectors: u64) {

@@ -143,7 +143,6 @@ impl Window {
 
     /// The sectors of the first command, where they came. It leaves the window.
     fn take(&mut self) -> Option<Blob>
-        requires { self.old.given + length self.old.slots.items < 2 ^ 64 }
         ensures some { IfSome result (λ bytes. IsTaken bytes self.old self.new) }
         ensures none { IfNone result (self.new ≡ self.old) }
         ensures empty { IfNone result (is_ready self.old.slots.items ≡ false) }
@@ -151,12 +150,11 @@ impl Window {
         if !self.is_ready() {
             return None;
         }
-        let front = self.slots.remove(0);
-        self.given += 1;
-        front
+        self.slots.remove(0)
     }
 
-    /// Gives the sectors to a sink, as long as those of the first command came.
+    /// Gives the sectors to a sink, as long as those of the first command came. A command counts once
+    /// the sink took all of its sectors.
     pub(crate) fn give<K: Sink>(&mut self, sink: &mut K) -> Result<(), Failed>
         requires { self.old.given + length self.old.slots.items < 2 ^ 64 }
         ensures gives { (outs : List Ended)
@@ -171,7 +169,7 @@ impl Window {
     {
         'ready: while let Some(bytes) = self.take() {
             match give_all(sink, bytes.bytes()) {
-                Ok(()) => {}
+                Ok(()) => self.given += 1,
                 Err(Failed) => return Err(Failed),
             }
         }

@@ -1,4 +1,7 @@
 use Rattle.std.proofs.Common.{arith, inl, inr, refl}
+use Rattle.aoe_tools.specs.declared.end.Refusal.TheVariants as refusal
+use Rattle.aoe_tools.specs.declared.end.ToolRefusal.TheVariants as tool
+use Rattle.aoe_copy.proofs.TellLemmas.{idle-tells}
 use Rattle.aoe_copy.proofs.copy.get.Goals as goal
 
 pub returns-in-Err-clause-run : goal.returns-in-Err-clause-run
@@ -44,3 +47,12 @@ returns-then-device-eq0-clause-run g c = record {
   finds = c.in-Ok.ensures.finds;
   copies = inl (inl c.if-device-eq0.true, refl, refl);
 }
+
+pub returns-in-Err-clause-told : goal.returns-in-Err-clause-told
+returns-in-Err-clause-told g c = idle-tells _ _ _
+
+pub returns-in-None-clause-told : goal.returns-in-None-clause-told
+returns-in-None-clause-told g c = idle-tells (tool.Refused refusal.Range) _ _
+
+pub returns-then-device-eq0-clause-told : goal.returns-then-device-eq0-clause-told
+returns-then-device-eq0-clause-told g c = idle-tells (tool.Refused refusal.Range) _ _

@@ -5,7 +5,7 @@ use Rattle.aoe_copy.proofs.copying.Copying.run.Goals as goal
 pub turns-init : goal.turns-init
 turns-init g c = record {
   fit = c.requires.fit;
-  so = λ b p begins. begun begins c.requires.waiting;
+  so = λ b p begins. rw c.planned.ensures (begun begins c.requires.waiting);
   within = omega arith;
   faults = refl;
   sink_faults = refl;

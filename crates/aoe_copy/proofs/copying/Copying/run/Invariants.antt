@@ -16,10 +16,11 @@ invariant-turns g l = record {
         plan = p;
         turns = l.turns;
         before = seen_by (g.L.Link.turns l.fn.link) (g.L.Link.given l.fn.link) (g.L.Link.taken l.fn.link) (g.C.Clock.answers l.fn.clock)
-            (g.K.Sink.held l.fn.sink);
+            (g.K.Sink.held l.fn.sink) (g.W.Watch.told l.fn.watch);
       })
       l.quiet
-      (seen_by (g.L.Link.turns l.link) (g.L.Link.given l.link) (g.L.Link.taken l.link) (g.C.Clock.answers l.clock) (g.K.Sink.held l.sink))
+      (seen_by (g.L.Link.turns l.link) (g.L.Link.given l.link) (g.L.Link.taken l.link) (g.C.Clock.answers l.clock) (g.K.Sink.held l.sink)
+      (g.W.Watch.told l.watch))
       l.self;
   within : l.quiet ≤ l.turns;
   faults : g.L.Link.faults l.link ≡ g.L.Link.faults l.fn.link;

@@ -11,7 +11,7 @@ pub returns-in-Ok-false-clause-turn : goal.returns-in-Ok-false-clause-turn
 returns-in-Ok-false-clause-turn g c = λ s answers later steps told stands keeps order may.
     let first = c.in-Ok-false.ensures.collects s _ later steps told stands keeps order may in
     turns-after _ c.exchange.new.self first.0 c.exchange.result
-    (c.exchange.ensures.exchanges s later _ first.0.steps' first.0.stands first.0.keeps first.0.goes_on first.0.ticked first.0.given_out)
+    (c.exchange.ensures.exchanges s later _ _ first.0.steps' first.0.stands first.0.keeps first.0.goes_on first.0.ticked first.0.given_out)
 
 pub returns-in-Err-clause-turn : goal.returns-in-Err-clause-turn
 returns-in-Err-clause-turn g c = λ s answers later steps told stands keeps order may. c.in-Err.ensures.collects s _ later steps told stands keeps order may

@@ -11,8 +11,9 @@ returns-in-Err-clause-gives g c = λ outs there.
 
 pub ready-preserved : goal.ready-preserved
 ready-preserved g c = record {
-  gives = λ outs there. gives-more (c.ready.invariant.gives outs there) c.in-Some.ensures.some (rw c.bytes-in-Some.ensures at c.in-Ok.ensures.all);
-  sum = taken-sum c.in-Some.ensures.some ∙ c.ready.invariant.sum;
+  gives = λ outs there.
+      gives-more (c.ready.invariant.gives outs there) c.in-Some.ensures.some _ refl refl (rw c.bytes-in-Some.ensures at c.in-Ok.ensures.all);
+  sum = omega (arith, taken-sum c.in-Some.ensures.some, c.ready.invariant.sum);
   fewer = omega (arith, taken-fewer c.in-Some.ensures.some, c.ready.invariant.fewer);
   faults = c.in-Ok.ensures.no_fault ∙ c.ready.invariant.faults;
 }
